@@ -1,0 +1,3 @@
+pub mod Cuts
+pub mod Starts
+pub mod Blanks

@@ -1,0 +1,6 @@
+pub mod Ascii
+pub mod Lines
+pub mod Kinds
+pub mod Marks
+pub mod Meters
+pub mod Views

@@ -1,0 +1,25 @@
+-- Delimiters and close lines of a boundary (RFC 2046, 5.1.1; that a whole line must match is our own).
+use Rattle.std.specs.Prelude.{if◌then◌else◌, ℕ, List, [], ◌∷◌, ◌++◌}
+use Rattle.std.specs.Str.{bytes_eq}
+use Rattle.mk_line.specs.declared.marks.Mark.{Mark}
+use Rattle.mk_line.specs.declared.marks.Mark.TheVariants.{No, Part, Close}
+use Rattle.mk_line.specs.Ascii.{is_blank, hyphen}
+
+abbrev pub trimmed_before : ℕ → List ℕ → List ℕ
+trimmed_before byte [] = if is_blank byte then [] else byte ∷ []
+trimmed_before byte (next ∷ bytes) = byte ∷ next ∷ bytes
+
+-- bytes without the blanks at their end
+abbrev pub trimmed : List ℕ → List ℕ
+trimmed [] = []
+trimmed (byte ∷ bytes) = trimmed_before byte (trimmed bytes)
+
+-- two hyphens and the boundary
+abbrev pub dashed : List ℕ → List ℕ
+dashed boundary = hyphen ∷ hyphen ∷ boundary
+
+-- what a content is to a boundary: its delimiter, its close line, or neither
+abbrev pub mark : List ℕ → List ℕ → Mark
+mark boundary content =
+    if bytes_eq (trimmed content) (dashed boundary) then Part
+    else (if bytes_eq (trimmed content) (dashed boundary ++ hyphen ∷ hyphen ∷ []) then Close else No)
