@@ -1,0 +1,110 @@
+//! Reading the header that a text begins with.
+ghost use Rattle.std.specs.Prelude.{◌≡◌, ◌+◌, ◌<◌, ◌≤◌, ◌∷◌, [], true, false, length, IfOk, IfNone, IfSome};
+ghost use Rattle.mk_line.specs.Lines.{cut as lines_of, text_of, printed_line};
+ghost use Rattle.std.specs.List.{list_all};
+ghost use Rattle.std.specs.Option.{option_map};
+ghost use Rattle.mk_head.specs.Split.{head_of, fields_from, is_more, rest_from, separator_of};
+ghost use Rattle.mk_head.specs.Fields.{continuations, fields_of, header_view, is_one_field};
+ghost use Rattle.mk_head.specs.Views.{field_view};
+
+use crate::fields::{Field, Header};
+use mk_line::{Lines, cut, is_continuation, name_len};
+use std::alloc::{AllocError, Global};
+
+/// The header that a text begins with: the longest run of fields in front, and the empty line behind it, if one is there.
+pub fn header(alloc: Global, text: &[u8]) -> Result<Header<'_>, AllocError>
+    ensures { IfOk result (λ h. h ≡ header_view (head_of (lines_of text.now))) }
+{
+    let mut fields = Vec::new(alloc);
+    let mut rest = text;
+    'each: while let Some((field, behind)) = first_field(rest) {
+        fields.push(field)?;
+        rest = behind;
+    }
+    let end = text.len() - rest.len();
+    match separator_size(rest) {
+        Some(size) => Ok(Header {
+            fields,
+            separator: Some(end),
+            body: end + size,
+        }),
+        None => Ok(Header {
+            fields,
+            separator: None,
+            body: end,
+        }),
+    }
+}
+
+/// Whether the text is exactly one field and nothing else.
+pub fn one_field(text: &[u8]) -> bool
+    ensures { result ≡ is_one_field (lines_of text.now) }
+{
+    let mut lines = cut(text);
+    match lines.next() {
+        Some(first) => name_len(first.content).is_some() && all_continue(lines),
+        None => false,
+    }
+}
+
+// Whether each line is a continuation.
+fn all_continue(lines: Lines<'_>) -> bool
+    ensures { result ≡ list_all is_more lines.entry }
+{
+    for line in lines {
+        if !is_continuation(line.content) {
+            return false;
+        }
+    }
+    true
+}
+
+// The field in front, and what stands behind it.
+fn first_field(text: &[u8]) -> Option<(Field<'_>, &[u8])>
+    ensures none { IfNone result (fields_from false (lines_of text.now) ≡ []) }
+    ensures field { IfSome result (λ r. fields_of (fields_from false (lines_of text.now)) ≡ field_view r.0 ∷ fields_of (fields_from false (lines_of r.1.now))) }
+    ensures size { IfSome result (λ r. length (text_of (fields_from false (lines_of text.now))) + length r.1.now ≡ length text.now + length (text_of (fields_from false (lines_of r.1.now)))) }
+    ensures rest { IfSome result (λ r. rest_from false (lines_of text.now) ≡ rest_from false (lines_of r.1.now)) }
+    ensures less { IfSome result (λ r. length r.1.now < length text.now) }
+{
+    let first = cut(text).next()?;
+    let name = name_len(first.content)?;
+    let start = first.size();
+    let (_, behind) = text.split_at(start);
+    let (raw, rest) = text.split_at(start + continuations_size(behind));
+    let field = Field {
+        name: &first.content[..name],
+        raw,
+    };
+    Some((field, rest))
+}
+
+// How many bytes the continuations in front take.
+fn continuations_size(text: &[u8]) -> usize
+    ensures { result ≡ length (text_of (continuations (lines_of text.now))) }
+{
+    let mut size = 0;
+    for line in cut(text) {
+        if !is_continuation(line.content) {
+            break;
+        }
+        size += line.size();
+    }
+    size
+}
+
+// How many bytes the empty line in front takes, if there is one.
+fn separator_size(text: &[u8]) -> Option<usize>
+    ensures { result ≡ option_map (λ l. length (printed_line l)) (separator_of (lines_of text.now)) }
+{
+    match cut(text).next() {
+        Some(line) => {
+            if line.content.is_empty() {
+                Some(line.size())
+            } else {
+                None
+            }
+        }
+        None => None,
+    }
+}

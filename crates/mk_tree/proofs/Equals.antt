@@ -1,0 +1,99 @@
+-- The tests of equality tell.
+use Rattle.std.proofs.Common.{◌≡◌, ◌↔◌, ◌&&◌, ℕ, Bool, true, false, Option, None, Some, List, [], ◌∷◌, refl, ap, sym, ◌∙◌}
+use Rattle.std.proofs.lemmas.Slice.Eq.{bytes_eq-Decides}
+use Rattle.std.specs.Str.{bytes_eq}
+use Rattle.mk_line.specs.declared.cutting.Ending.{Ending}
+use Rattle.mk_line.specs.declared.cutting.Ending.TheVariants.{Crlf, Lf, Missing}
+use Rattle.mk_line.specs.Lines.{TextLine}
+use Rattle.mk_head.specs.Split.{Head}
+use Rattle.mk_tree.specs.Tree.{Entity, leaf}
+use Rattle.mk_tree.specs.Documents.{Document, IsStable, tree, printed}
+use Rattle.mk_tree.specs.Equal.{ending_eq, line_eq, lines_eq, option_eq, head_eq, entity_eq, document_eq, is_stable}
+
+both : (a b : Bool) → (a && b) ≡ true → (a ≡ true) × (b ≡ true)
+both true b h = (refl, h)
+both false b h = cc
+
+and_true : (a b : Bool) → a ≡ true → b ≡ true → (a && b) ≡ true
+and_true a b h k = rw (h, k) refl
+
+ending_same : (e f : Ending) → ending_eq e f ≡ true → e ≡ f
+ending_same Crlf Crlf h = refl
+ending_same Crlf Lf h = cc
+ending_same Crlf Missing h = cc
+ending_same Lf Crlf h = cc
+ending_same Lf Lf h = refl
+ending_same Lf Missing h = cc
+ending_same Missing Crlf h = cc
+ending_same Missing Lf h = cc
+ending_same Missing Missing h = refl
+
+ending_self : (e : Ending) → ending_eq e e ≡ true
+ending_self Crlf = refl
+ending_self Lf = refl
+ending_self Missing = refl
+
+line_same : (l m : TextLine) → line_eq l m ≡ true → l ≡ m
+line_same l m h =
+    let p = both (bytes_eq l.content m.content) (ending_eq l.ending m.ending) h in
+    λ i. record { content = (bytes_eq-Decides l.content m.content).0 p.0 i; ending = ending_same l.ending m.ending p.1 i }
+
+line_self : (l : TextLine) → line_eq l l ≡ true
+line_self l = and_true (bytes_eq l.content l.content) (ending_eq l.ending l.ending) ((bytes_eq-Decides l.content l.content).1 refl) (ending_self l.ending)
+
+lines_same : (ls ms : List TextLine) → lines_eq ls ms ≡ true → ls ≡ ms
+lines_same [] [] h = refl
+lines_same [] (m ∷ ms) h = cc
+lines_same (l ∷ ls) [] h = cc
+lines_same (l ∷ ls) (m ∷ ms) h =
+    let p = both (line_eq l m) (lines_eq ls ms) h in
+    λ i. line_same l m p.0 i ∷ lines_same ls ms p.1 i
+
+lines_self : (ls : List TextLine) → lines_eq ls ls ≡ true
+lines_self [] = refl
+lines_self (l ∷ ls) = and_true (line_eq l l) (lines_eq ls ls) (line_self l) (lines_self ls)
+
+option_same : (o p : Option TextLine) → option_eq o p ≡ true → o ≡ p
+option_same None None h = refl
+option_same None (Some m) h = cc
+option_same (Some l) None h = cc
+option_same (Some l) (Some m) h = ap (λ x. Some x) (line_same l m h)
+
+option_self : (o : Option TextLine) → option_eq o o ≡ true
+option_self None = refl
+option_self (Some l) = line_self l
+
+head_same : (h k : Head) → head_eq h k ≡ true → h ≡ k
+head_same h k e =
+    let p = both (lines_eq h.fields k.fields) (option_eq h.separator k.separator) e in
+    λ i. record { fields = lines_same h.fields k.fields p.0 i; separator = option_same h.separator k.separator p.1 i }
+
+head_self : (h : Head) → head_eq h h ≡ true
+head_self h = and_true (lines_eq h.fields h.fields) (option_eq h.separator h.separator) (lines_self h.fields) (option_self h.separator)
+
+entity_same : (d e : Entity) → entity_eq d e ≡ true → d ≡ e
+entity_same (leaf h ls) (leaf k ms) t =
+    let p = both (head_eq h k) (lines_eq ls ms) t in
+    λ i. leaf (head_same h k p.0 i) (lines_same ls ms p.1 i)
+
+entity_self : (e : Entity) → entity_eq e e ≡ true
+entity_self (leaf h ls) = and_true (head_eq h h) (lines_eq ls ls) (head_self h) (lines_self ls)
+
+document_same : (s t : Document) → document_eq s t ≡ true → s ≡ t
+document_same s t h =
+    let p = both (option_eq s.envelope t.envelope) (entity_eq s.root t.root) h in
+    λ i. record { envelope = option_same s.envelope t.envelope p.0 i; root = entity_same s.root t.root p.1 i }
+
+document_self : (t : Document) → document_eq t t ≡ true
+document_self t = and_true (option_eq t.envelope t.envelope) (entity_eq t.root t.root) (option_self t.envelope) (entity_self t.root)
+
+pub test_stable : (t : Document) → is_stable t ≡ true → IsStable t
+unfolding is_stable
+test_stable t h = document_same (tree (printed t)) t h
+
+pub stable_test : (t : Document) → IsStable t → is_stable t ≡ true
+unfolding is_stable
+stable_test t h = ap (λ s. document_eq s t) h ∙ document_self t
+
+pub stable_told : (t : Document) → (is_stable t ≡ true) ↔ IsStable t
+stable_told t = (test_stable t, stable_test t)

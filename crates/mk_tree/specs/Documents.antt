@@ -1,0 +1,36 @@
+-- A document: the line that a mailbox puts before a message, where it is there, and the message (own).
+use Rattle.std.specs.Prelude.{◌≡◌, ◌++◌, if◌then◌else◌, ℕ, Bool, true, false, Option, None, Some, List, [], ◌∷◌}
+use Rattle.mk_line.specs.Lines.{TextLine, cut, text_of}
+use Rattle.mk_line.specs.Kinds.{is_from_line}
+use Rattle.mk_head.specs.Split.{option_line}
+use Rattle.mk_tree.specs.Tree.{Entity, read, print}
+
+pub record Document : Type 0 where
+  pub envelope : Option TextLine
+  pub root : Entity
+
+-- lines whose first is the envelope, or isn't
+abbrev pub enveloped : Bool → TextLine → List TextLine → Document
+enveloped true l ls = record { envelope = Some l; root = read ls }
+enveloped false l ls = record { envelope = None; root = read (l ∷ ls) }
+
+-- the document that lines are read as: a From-line in front is the envelope
+abbrev pub document_of : List TextLine → Document
+document_of [] = record { envelope = None; root = read [] }
+document_of (l ∷ ls) = enveloped (is_from_line l.content) l ls
+
+-- the document that a text is read as
+abbrev pub tree : List ℕ → Document
+tree text = document_of (cut text)
+
+-- all lines of a document, in order
+abbrev pub document_lines : Document → List TextLine
+document_lines t = option_line t.envelope ++ print t.root
+
+-- the text of a document
+abbrev pub printed : Document → List ℕ
+printed t = text_of (document_lines t)
+
+-- a document is stable where its text is read as itself
+abbrev pub IsStable : Document → Type 0
+IsStable t = tree (printed t) ≡ t

@@ -1,0 +1,6 @@
+//! Messages as trees: what the lines of a text are read as.
+//!
+//! A message is an optional envelope line and one entity, a head and a body.
+#![tactic(auto)]
+
+pub mod laws;
