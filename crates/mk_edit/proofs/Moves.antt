@@ -1,0 +1,158 @@
+-- Steps in memory: what a session's fields are when it goes back, forth, or takes one more.
+use Rattle.std.proofs.Common.{◌≡◌, ◌+◌, ◌-◌, ◌≤◌, ◌<◌, ◌++◌, ℕ, suc, zero, Bool, true, false, Result, Ok, Err, List, [], ◌∷◌, refl, ap, sym, ◌∙◌, subst, length, take, drop, map, get_or, arith, length-append}
+use Rattle.std.proofs.lemmas.List.{length-map, take_more, map-append, length-take-le, length-drop, drop-drop, take-append-drop}
+use Rattle.std.proofs.lemmas.Bool.{lt-ltb}
+use Rattle.std.specs.Global.{Vec}
+use Rattle.mk_edit.specs.declared.errors.EditError.{EditError}
+use Rattle.mk_edit.specs.declared.splicing.Splice.{Splice as SpliceIn}
+use Rattle.mk_edit.specs.Changes.{Undo, Redo}
+use Rattle.mk_edit.specs.Splices.{Splice, spliced, Stands, back_one, forth_one, back_step, forth_step, GoesBack, GoesForth}
+use Rattle.mk_edit.specs.Rooms.{olds}
+use Rattle.mk_edit.specs.History.{History}
+use Rattle.mk_edit.specs.Histories.{step, text_now, with_step}
+use Rattle.mk_edit.specs.Fits.{Fit, history_of}
+use Rattle.mk_edit.specs.Views.{splice_of, steps_of}
+use Rattle.mk_edit.proofs.Bytes.{length-spliced}
+use Rattle.mk_edit.proofs.Steps.{Moved, Stepped, undo_can, undo_is, redo_can, redo_is, edit_is, fit_text}
+
+-- the last splice of a step, which is taken back first
+back_last : (ss : List Splice) (s : Splice) (x : List ℕ) → back_step (ss ++ s ∷ []) x ≡ back_step ss (back_one s x)
+back_last [] s x = refl
+back_last (r ∷ ss) s x = ap (back_one r) (back_last ss s x)
+
+goes_last : (ss : List Splice) (s : Splice) (x : List ℕ) → GoesBack (ss ++ s ∷ []) x → GoesBack ss (back_one s x) × Stands s.place s.new x
+goes_last [] s x h = (tt, h.1)
+goes_last (r ∷ ss) s x h =
+    let p = goes_last ss s x h.0 in
+    ((p.0, subst (λ y. Stands r.place r.new y) (back_last ss s x) h.1), p.1)
+
+olds_last : (ss : List Splice) (s : Splice) → olds (ss ++ s ∷ []) ≡ olds ss + length s.old
+olds_last [] s = omega arith
+olds_last (r ∷ ss) s = omega (arith, olds_last ss s)
+
+less_one : (n : ℕ) → 0 < n → n - 1 + 1 ≡ n
+less_one n h = omega arith
+
+taken_last : (ss : List SpliceIn) (left : ℕ) (s : SpliceIn) → 0 < left → left ≤ length ss → s ≡ get_or ss (left - 1) s → map splice_of (take left ss) ≡ map splice_of (take (left - 1) ss) ++ splice_of s ∷ []
+taken_last ss left s o l e =
+    ap (λ n. map splice_of (take n ss)) (sym (less_one left o))
+    ∙ (ap (map splice_of) (take_more ss (left - 1) s (omega arith) ∙ ap (λ r. take (left - 1) ss ++ r ∷ []) (sym e))
+    ∙ map-append splice_of (take (left - 1) ss) (s ∷ []))
+
+-- one turn of taking a step back
+pub record LastBack (ss : List SpliceIn) (left : ℕ) (s : SpliceIn) (x : List ℕ) : Type 0 where
+  pub stands : Stands s.place s.new.items x
+  pub goes : GoesBack (map splice_of (take (left - 1) ss)) (back_one (splice_of s) x)
+  pub made : back_step (map splice_of (take left ss)) x ≡ back_step (map splice_of (take (left - 1) ss)) (back_one (splice_of s) x)
+  pub room : olds (map splice_of (take left ss)) ≡ olds (map splice_of (take (left - 1) ss)) + length s.old.items
+
+pub last_back : (ss : List SpliceIn) (left : ℕ) (s : SpliceIn) (x : List ℕ) → 0 < left → left ≤ length ss → s ≡ get_or ss (left - 1) s → GoesBack (map splice_of (take left ss)) x → LastBack ss left s x
+last_back ss left s x o l e g =
+    let whole = taken_last ss left s o l e in
+    let p = goes_last (map splice_of (take (left - 1) ss)) (splice_of s) x (subst (λ ss. GoesBack ss x) whole g) in
+    record {
+      stands = p.1;
+      goes = p.0;
+      made = ap (λ ss. back_step ss x) whole ∙ back_last (map splice_of (take (left - 1) ss)) (splice_of s) x;
+      room = ap olds whole ∙ olds_last (map splice_of (take (left - 1) ss)) (splice_of s);
+    }
+
+-- the step at a place
+at_place : (vs : List (Vec SpliceIn)) (n : ℕ) (v : Vec SpliceIn) → get_or (steps_of vs) n (map splice_of v.items) ≡ map splice_of (get_or vs n v).items
+at_place [] n v = refl
+at_place (w ∷ vs) zero v = refl
+at_place (w ∷ vs) (suc n) v = at_place vs n v
+
+step_at : (vs : List (Vec SpliceIn)) (n : ℕ) (v : Vec SpliceIn) (s : List SpliceIn) → v ≡ get_or vs n v → s ≡ v.items → map splice_of s ≡ get_or (steps_of vs) n (map splice_of s)
+step_at vs n v s e q =
+    let own : map splice_of s ≡ map splice_of v.items = ap (map splice_of) q in
+    own ∙ (ap (λ w. map splice_of w.items) e ∙ (sym (at_place vs n v) ∙ ap (get_or (steps_of vs) n) (sym own)))
+
+some_less : (n : ℕ) → (n ≡ 0 → ⊥) → n ≡ n - 1 + 1
+some_less n h = omega (arith, h)
+
+pub undo_ready : (x : List ℕ) (vs : List (Vec SpliceIn)) (n : ℕ) (v : Vec SpliceIn) (s : List SpliceIn) → Fit x (steps_of vs) n → (n ≡ 0 → ⊥) → v ≡ get_or vs (n - 1) v → s ≡ v.items → GoesBack (map splice_of s) x
+undo_ready x vs n v s f h e q = undo_can x (steps_of vs) n (n - 1) (map splice_of s) f (some_less n h) (step_at vs (n - 1) v s e q)
+
+pub undo_moves : (x : List ℕ) (vs : List (Vec SpliceIn)) (n : ℕ) (v : Vec SpliceIn) (s : List SpliceIn) (y : List ℕ) → Fit x (steps_of vs) n → (n ≡ 0 → ⊥) → v ≡ get_or vs (n - 1) v → s ≡ v.items → y ≡ back_step (map splice_of s) x → Moved x (steps_of vs) n (n - 1) y
+undo_moves x vs n v s y f h e q p = undo_is x (steps_of vs) n (n - 1) (map splice_of s) y f (some_less n h) (step_at vs (n - 1) v s e q) p
+
+pub undo_steps : (h : History) (x y : List ℕ) (ss : List (List Splice)) (n : ℕ) → history_of x ss n ≡ h → (n ≡ 0 → ⊥) → Moved x ss n (n - 1) y → step Undo h ≡ Ok (history_of y ss (n - 1))
+undo_steps h x y ss n e o m = ap (step Undo) (sym e) ∙ (rw (lt-ltb 0 n (omega (arith, o))) (ap (λ g. Ok g) (sym m.history)))
+
+below : (n m : ℕ) → n ≤ m → (n ≡ m → ⊥) → n < m
+below n m h o = omega (arith, h, o)
+
+size_of : (vs : List (Vec SpliceIn)) → length (steps_of vs) ≡ length vs
+size_of vs = length-map vs (λ v. map splice_of v.items)
+
+pub redo_less : (x : List ℕ) (vs : List (Vec SpliceIn)) (n size : ℕ) → Fit x (steps_of vs) n → size ≡ length vs → (n ≡ size → ⊥) → n < length (steps_of vs)
+redo_less x vs n size f e o = omega (arith, f.within, size_of vs, below n size (omega (arith, f.within, size_of vs, e)) o, e)
+
+pub redo_ready : (x : List ℕ) (vs : List (Vec SpliceIn)) (n : ℕ) (v : Vec SpliceIn) (s : List SpliceIn) → Fit x (steps_of vs) n → n < length (steps_of vs) → v ≡ get_or vs n v → s ≡ v.items → GoesForth (map splice_of s) x
+redo_ready x vs n v s f h e q = redo_can x (steps_of vs) n (map splice_of s) f h (step_at vs n v s e q)
+
+pub redo_moves : (x : List ℕ) (vs : List (Vec SpliceIn)) (n : ℕ) (v : Vec SpliceIn) (s : List SpliceIn) (y : List ℕ) → Fit x (steps_of vs) n → n < length (steps_of vs) → v ≡ get_or vs n v → s ≡ v.items → y ≡ forth_step (map splice_of s) x → Moved x (steps_of vs) n (n + 1) y
+redo_moves x vs n v s y f h e q p = redo_is x (steps_of vs) n (map splice_of s) y f h (step_at vs n v s e q) p
+
+pub redo_steps : (h : History) (x y : List ℕ) (ss : List (List Splice)) (n : ℕ) → history_of x ss n ≡ h → n < length ss → Moved x ss n (n + 1) y → step Redo h ≡ Ok (history_of y ss (n + 1))
+redo_steps h x y ss n e o m = ap (step Redo) (sym e) ∙ (rw (lt-ltb n (length ss) o) (ap (λ g. Ok g) (sym m.history)))
+
+-- the steps with one more in the place of what was undone
+taken_steps : (vs : List (Vec SpliceIn)) (n : ℕ) → steps_of (take n vs) ≡ take n (steps_of vs)
+taken_steps [] zero = refl
+taken_steps [] (suc n) = refl
+taken_steps (v ∷ vs) zero = refl
+taken_steps (v ∷ vs) (suc n) = ap (λ ss. map splice_of v.items ∷ ss) (taken_steps vs n)
+
+more_steps : (vs ws : List (Vec SpliceIn)) (v : Vec SpliceIn) (n : ℕ) → ws ≡ take n vs ++ v ∷ [] → steps_of ws ≡ take n (steps_of vs) ++ map splice_of v.items ∷ []
+more_steps vs ws v n e =
+    ap steps_of e ∙ (map-append (λ w. map splice_of w.items) (take n vs) (v ∷ []) ∙ ap (λ ss. ss ++ map splice_of v.items ∷ []) (taken_steps vs n))
+
+-- bytes copied at a place stand there
+copied_stands : (place count : ℕ) (x old : List ℕ) → place + count ≤ length x → old ≡ take count (drop place x) → Stands place old x × (length old ≡ count)
+copied_stands place count x old h e =
+    let size : length old ≡ count = ap length e ∙ length-take-le count (drop place x) (omega (arith, h, length-drop place x)) in
+    (record {
+      within = omega (arith, h, size);
+      same =
+        ap (λ k. take place x ++ (old ++ drop (place + k) x)) size
+        ∙ (ap (λ xs. take place x ++ (xs ++ drop (place + count) x)) e
+        ∙ (ap (λ xs. take place x ++ (take count (drop place x) ++ xs)) (sym (drop-drop count place x))
+        ∙ (ap (λ xs. take place x ++ xs) (take-append-drop count (drop place x)) ∙ take-append-drop place x)));
+    }, size)
+
+pub put_moves : (x : List ℕ) (vs ws : List (Vec SpliceIn)) (n place count : ℕ) (v : Vec SpliceIn) (s : SpliceIn) (y new : List ℕ) → Fit x (steps_of vs) n → place + count ≤ length x
+    → ws ≡ take n vs ++ v ∷ [] → v.items ≡ s ∷ [] → s.place ≡ place → s.old.items ≡ take count (drop place x) → s.new.items ≡ new → y ≡ spliced place count new x
+    → Stepped x (steps_of vs) n (record { place = place; old = take count (drop place x); new = new } ∷ []) y (steps_of ws)
+put_moves x vs ws n place count v s y new f h w i p o e q =
+    let old : List ℕ = take count (drop place x) in
+    let at : Stands place old x × (length old ≡ count) = copied_stands place count x old h refl in
+    let made : map splice_of v.items ≡ record { place = place; old = old; new = new } ∷ [] = ap (map splice_of) i ∙ (λ j. record { place = p j; old = o j; new = e j } ∷ []) in
+    edit_is x (steps_of vs) n (record { place = place; old = old; new = new } ∷ []) y (steps_of ws) f (at.0, tt)
+    (q ∙ ap (λ k. spliced place k new x) (sym at.1))
+    (more_steps vs ws v n w ∙ ap (λ ss. take n (steps_of vs) ++ ss ∷ []) made)
+
+-- the text after that turn, and the room that is left
+pub back_so : (s : SpliceIn) (x y old : List ℕ) (count : ℕ) → y ≡ spliced s.place count old x → count ≡ length s.new.items → old ≡ s.old.items → y ≡ back_one (splice_of s) x
+back_so s x y old count e n o = e ∙ (ap (λ k. spliced s.place k old x) n ∙ ap (λ b. spliced s.place (length s.new.items) b x) o)
+
+pub room_so : (ss : List SpliceIn) (left : ℕ) (s : SpliceIn) (x y : List ℕ) (size new cap more : ℕ) → LastBack ss left s x → y ≡ back_one (splice_of s) x → size ≡ length x → new ≡ length y → size + olds (map splice_of (take left ss)) ≤ cap → cap ≤ more → new + olds (map splice_of (take (left - 1) ss)) ≤ more
+room_so ss left s x y size new cap more b e n m r c =
+    omega (arith, b.room, r, c, n, m, ap length e, length-spliced s.place (length s.new.items) s.old.items x b.stands.within)
+
+-- what a session sees of the text, and of one step more
+pub put_text : (h : History) (x : List ℕ) (ss : List (List Splice)) (n : ℕ) → Fit x ss n → history_of x ss n ≡ h → x ≡ text_now h
+put_text h x ss n f e = sym (fit_text x ss n f) ∙ ap text_now e
+
+pub put_within : (h : History) (x : List ℕ) (ss : List (List Splice)) (n m : ℕ) → Fit x ss n → history_of x ss n ≡ h → m ≤ length (text_now h) → m ≤ length x
+put_within h x ss n m f e l = omega (arith, l, ap length (put_text h x ss n f e))
+
+pub put_steps : (h : History) (x y new : List ℕ) (ss rs : List (List Splice)) (n place count : ℕ) → Fit x ss n → history_of x ss n ≡ h → y ≡ spliced place count new x
+    → Stepped x ss n (record { place = place; old = take count (drop place x); new = new } ∷ []) y rs
+    → history_of y rs (n + 1) ≡ with_step h (spliced place count new (text_now h)) (record { place = place; old = take count (drop place (text_now h)); new = new } ∷ [])
+put_steps h x y new ss rs n place count f e q m =
+    m.history
+    ∙ (ap (λ z. with_step (history_of x ss n) z (record { place = place; old = take count (drop place x); new = new } ∷ [])) q
+    ∙ (ap (λ g. with_step g (spliced place count new x) (record { place = place; old = take count (drop place x); new = new } ∷ [])) e
+    ∙ ap (λ z. with_step h (spliced place count new z) (record { place = place; old = take count (drop place z); new = new } ∷ [])) (put_text h x ss n f e)))

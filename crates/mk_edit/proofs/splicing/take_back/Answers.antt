@@ -1,0 +1,27 @@
+use Rattle.std.proofs.Common.{◌≡◌, ◌+◌, ◌-◌, ◌≤◌, ◌<◌, ◌∙◌, ap, sym, arith, subst, List, ℕ, length, map, take, vec_len, vec_capacity}
+use Rattle.mk_edit.specs.Splices.{spliced, back_step, GoesBack}
+use Rattle.mk_edit.specs.Rooms.{olds}
+use Rattle.mk_edit.specs.Views.{splice_of}
+use Rattle.mk_edit.proofs.Moves.{LastBack, last_back, back_so, room_so}
+use Rattle.mk_edit.proofs.splicing.take_back.Goals as goal
+
+pub replace_within-requires-clause-inside : goal.replace_within-requires-clause-inside
+replace_within-requires-clause-inside c =
+    let b = last_back c.args.step.now c.loop-left.left c.index-step-left.result c.loop-left.text.items c.loop-left-test.true c.loop-left.invariant.within c.index-step-left.is c.loop-left.invariant.goes in
+    omega (arith, b.stands.within, c.len.ensures, c.index-step-left.result.new.ok.0, c.loop-left.text.ok.0)
+
+pub replace_within-requires-clause-room : goal.replace_within-requires-clause-room
+replace_within-requires-clause-room c =
+    let b = last_back c.args.step.now c.loop-left.left c.index-step-left.result c.loop-left.text.items c.loop-left-test.true c.loop-left.invariant.within c.index-step-left.is c.loop-left.invariant.goes in
+    omega (arith, b.room, c.loop-left.invariant.room, ap length c.deref.ensures.value)
+
+pub loop-left-preserved : goal.loop-left-preserved
+loop-left-preserved c =
+    let b = last_back c.args.step.now c.loop-left.left c.index-step-left.result c.loop-left.text.items c.loop-left-test.true c.loop-left.invariant.within c.index-step-left.is c.loop-left.invariant.goes in
+    let text = back_so c.index-step-left.result c.loop-left.text.items c.replace_within.new.items.items c.deref.result.now c.len.result c.replace_within.ensures.items (c.len.ensures ∙ c.index-step-left.result.new.ok.0) c.deref.ensures.value in
+    record {
+      within = omega (arith, c.loop-left.invariant.within);
+      made = ap (back_step (map splice_of (take (c.loop-left.left - 1) c.args.step.now))) text ∙ (sym b.made ∙ c.loop-left.invariant.made);
+      goes = subst (GoesBack (map splice_of (take (c.loop-left.left - 1) c.args.step.now))) (sym text) b.goes;
+      room = room_so c.args.step.now c.loop-left.left c.index-step-left.result c.loop-left.text.items c.replace_within.new.items.items (vec_len c.loop-left.text) (vec_len c.replace_within.new.items) (vec_capacity c.loop-left.text) (vec_capacity c.replace_within.new.items) b text c.loop-left.text.ok.0 c.replace_within.new.items.ok.0 c.loop-left.invariant.room c.replace_within.ensures.capacity;
+    }

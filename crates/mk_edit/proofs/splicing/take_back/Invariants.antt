@@ -1,0 +1,16 @@
+use Rattle.std.proofs.Common.{◌≡◌, ◌+◌, ◌≤◌, length, map, take, vec_len, vec_capacity}
+use Rattle.mk_edit.specs.Splices.{back_step, GoesBack}
+use Rattle.mk_edit.specs.Rooms.{olds}
+use Rattle.mk_edit.specs.Views.{splice_of}
+use Rattle.mk_edit.proofs.splicing.take_back.Given as goal
+
+abbrev pub invariant-loop-left : goal.invariant-loop-left
+invariant-loop-left l = record {
+  within : l.left ≤ length l.step;
+  made : back_step (map splice_of (take l.left l.step)) l.text.items ≡ back_step (map splice_of l.step) l.fn.text.items;
+  goes : GoesBack (map splice_of (take l.left l.step)) l.text.items;
+  room : vec_len l.text + olds (map splice_of (take l.left l.step)) ≤ vec_capacity l.text;
+}
+
+abbrev pub decreases-loop-left : goal.decreases-loop-left
+decreases-loop-left l = l.left

@@ -1,0 +1,78 @@
+-- What edits, undoing and redoing make of a history (own).
+use Rattle.std.specs.Prelude.{◌≡◌, ◌+◌, ◌-◌, ◌≤◌, ◌++◌, if◌then◌else◌, ℕ, Option, None, Some, Result, Ok, Err, List, [], ◌∷◌, length, take, slice_index_or, nat_lt, suc, zero}
+use Rattle.mk_tree.specs.Documents.{Document, tree, printed}
+use Rattle.mk_edit.specs.declared.errors.EditError.{EditError}
+use Rattle.mk_edit.specs.declared.errors.EditError.TheVariants.{NothingToUndo, NothingToRedo}
+use Rattle.mk_edit.specs.Changes.{Change, Order, Do, Undo, Redo}
+use Rattle.mk_edit.specs.Reasons.{outcome, splices_of}
+use Rattle.mk_edit.specs.Splices.{Splice, forth_step, back_step}
+use Rattle.mk_edit.specs.History.{History}
+
+-- each text is the one before it with a step made, and that one is it with the step taken back
+abbrev pub AreLinked : List ℕ → List (List ℕ) → List (List Splice) → Type 0
+AreLinked x [] [] = Unit {0}
+AreLinked x [] (s ∷ ss) = ⊥
+AreLinked x (y ∷ ys) [] = ⊥
+AreLinked x (y ∷ ys) (s ∷ ss) = (y ≡ forth_step s x) × (x ≡ back_step s y) × AreLinked y ys ss
+
+-- texts that are linked by the steps, and a place among them
+pub record IsHistory (h : History) : Type 0 where
+  pub first : List ℕ
+  pub others : List (List ℕ)
+  pub texts : h.texts ≡ first ∷ others
+  pub linked : AreLinked first others h.steps
+  pub within : h.place ≤ length h.steps
+
+-- the text that stands now
+abbrev pub text_now : History → List ℕ
+text_now h = slice_index_or h.texts h.place []
+
+-- the history of a session just begun
+abbrev pub started : List ℕ → History
+started text = record { texts = text ∷ []; steps = []; place = 0 }
+
+-- one step more, in the place of what was undone
+abbrev pub with_step : History → List ℕ → List Splice → History
+with_step h text step = record { texts = take (h.place + 1) h.texts ++ text ∷ []; steps = take h.place h.steps ++ step ∷ []; place = h.place + 1 }
+
+-- what an accepted or refused edit makes of a history
+abbrev pub edited_by : History → List Splice → Result Document EditError → Result History EditError
+edited_by h step (Ok t) = Ok (with_step h (printed t) step)
+edited_by h step (Err e) = Err e
+
+-- what an order makes of a history, or the reason why it is refused
+abbrev pub step : Order → History → Result History EditError
+step (Do c) h = edited_by h (splices_of c (tree (text_now h))) (outcome c (tree (text_now h)))
+step Undo h = if nat_lt 0 h.place then Ok (record h { place = h.place - 1 }) else Err NothingToUndo
+step Redo h = if nat_lt h.place (length h.steps) then Ok (record h { place = h.place + 1 }) else Err NothingToRedo
+
+-- a refused order changes nothing
+abbrev pub left_by : History → Result History EditError → History
+left_by h (Ok g) = g
+left_by h (Err e) = h
+
+abbrev pub after : Order → History → History
+after o h = left_by h (step o h)
+
+-- the reason, where there is one
+abbrev pub refusal : Result History EditError → Option EditError
+refusal (Ok h) = None
+refusal (Err e) = Some e
+
+-- what is answered to orders, one after another, and what they leave
+abbrev pub replies : List Order → History → List (Option EditError)
+replies [] h = []
+replies (o ∷ os) h = refusal (step o h) ∷ replies os (after o h)
+
+abbrev pub after_all : List Order → History → History
+after_all [] h = h
+after_all (o ∷ os) h = after_all os (after o h)
+
+-- an order given so often, where it is never refused
+abbrev pub next_by : (History → Option History) → Result History EditError → Option History
+next_by f (Ok h) = f h
+next_by f (Err e) = None
+
+abbrev pub repeated : ℕ → Order → History → Option History
+repeated zero o h = Some h
+repeated (suc n) o h = next_by (repeated n o) (step o h)

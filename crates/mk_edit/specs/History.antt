@@ -1,0 +1,8 @@
+-- A history: whole texts, the step between each two neighbours, and the place of the text that stands now.
+use Rattle.std.specs.Prelude.{ℕ, List}
+use Rattle.mk_edit.specs.Splices.{Splice}
+
+pub record History : Type 0 where
+  pub texts : List (List ℕ)
+  pub steps : List (List Splice)
+  pub place : ℕ

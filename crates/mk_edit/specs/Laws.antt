@@ -1,0 +1,31 @@
+-- The laws of edits and histories.
+use Rattle.std.specs.Prelude.{◌≡◌, ℕ, Option, Some, Ok, List}
+use Rattle.mk_tree.specs.Documents.{Document, tree, printed}
+use Rattle.mk_edit.specs.Changes.{Change, Order, Undo, Redo}
+use Rattle.mk_edit.specs.Reasons.{outcome, splices_of}
+use Rattle.mk_edit.specs.Splices.{forth_step, back_step}
+use Rattle.mk_edit.specs.History.{History}
+use Rattle.mk_edit.specs.Histories.{IsHistory, text_now, started, after_all, repeated}
+
+-- undoing all that is done gives the first text, and redoing as often gives the history from which the undoing began
+pub record Restores (text : List ℕ) (h : History) : Type 0 where
+  pub first : History
+  pub undone : repeated h.place Undo h ≡ Some first
+  pub is_first : text_now first ≡ text
+  pub redone : repeated h.place Redo first ≡ Some h
+
+abbrev pub UndoingRestores : Type 0
+UndoingRestores = (text : List ℕ) (orders : List Order) → Restores text (after_all orders (started text))
+
+-- the splices of an accepted edit lead from the text before to the text after, and back
+abbrev pub SplicesLead : Type 0
+SplicesLead = (c : Change) (text : List ℕ) (t : Document) → outcome c (tree text) ≡ Ok t →
+    (forth_step (splices_of c (tree text)) text ≡ printed t) × (back_step (splices_of c (tree text)) (printed t) ≡ text)
+
+-- an accepted edit gives a document that is read as itself
+abbrev pub EditsReadBack : Type 0
+EditsReadBack = (c : Change) (text : List ℕ) (t : Document) → outcome c (tree text) ≡ Ok t → tree (printed t) ≡ t
+
+-- what orders leave is a history
+abbrev pub HistoriesStay : Type 0
+HistoriesStay = (text : List ℕ) (orders : List Order) → IsHistory (after_all orders (started text))

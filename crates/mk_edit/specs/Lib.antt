@@ -1,0 +1,12 @@
+pub mod Changes
+pub mod Reasons
+pub mod Answers
+pub mod Splices
+pub mod History
+pub mod Histories
+pub mod Fits
+pub mod Seams
+pub mod Rooms
+pub mod Accepted
+pub mod Views
+pub mod Laws

@@ -1,0 +1,123 @@
+//! Replacing bytes of a text in place, and steps of such replacements, forth and back.
+ghost use Rattle.std.specs.Prelude.{◌≡◌, ◌+◌, ◌≤◌, IfOk, OnOk, OnErr, IsOk, IfSome, length, map, take, drop, vec_len, vec_capacity};
+ghost use Rattle.mk_edit.specs.Splices.{spliced, back_step, forth_step, GoesBack, GoesForth};
+ghost use Rattle.mk_edit.specs.Rooms.{olds, news};
+ghost use Rattle.mk_edit.specs.Views.{splice_of};
+
+use std::alloc::{AllocError, Global};
+
+/// A place in a text, the bytes that stood there and those that took their place.
+#[derive(Debug, Drop)]
+pub struct Splice {
+    pub place: usize,
+    pub old: Vec<u8>,
+    pub new: Vec<u8>,
+}
+
+/// A copy of `count` bytes at `place`.
+pub fn copied(alloc: Global, text: &[u8], place: usize, count: usize) -> Result<Vec<u8>, AllocError>
+    requires { place + count ≤ length text.now }
+    ensures { IfOk result (λ v. v.items ≡ take count (drop place text.now)) }
+{
+    Vec::from_slice(alloc, &text[place..place + count])
+}
+
+/// Puts `text` in the place of `count` bytes at `place`. Where there is no memory, nothing changes.
+pub fn replace(items: &mut Vec<u8>, place: usize, count: usize, text: &[u8]) -> Result<(), AllocError>
+    requires { place + count ≤ vec_len items.old }
+    ensures ok { OnOk result (items.new.items ≡ spliced place count text.now items.old.items) }
+    ensures err { OnErr result (items.new.items ≡ items.old.items) }
+    ensures succeeds { vec_len items.old + length text.now ≤ vec_capacity items.old + count → IsOk result }
+    ensures capacity { vec_capacity items.old ≤ vec_capacity items.new }
+{
+    let size = items.len();
+    if count < text.len() {
+        items.extend_from_slice(&text[count..])?;
+        items.copy_within(place + count..size, place + text.len());
+    } else {
+        items.copy_within(place + count..size, place + text.len());
+        items.truncate(size - (count - text.len()));
+    }
+    overwrite(items, place, text);
+    Ok(())
+}
+
+// Writes `text` over as many bytes at `place`.
+fn overwrite(items: &mut Vec<u8>, place: usize, text: &[u8])
+    requires { place + length text.now ≤ vec_len items.old }
+    ensures items { items.new.items ≡ spliced place (length text.now) text.now items.old.items }
+    ensures capacity { vec_capacity items.new ≡ vec_capacity items.old }
+{
+    items[place..place + text.len()].copy_from_slice(text);
+}
+
+// The same as `replace`, where there is room.
+fn replace_within(items: &mut Vec<u8>, place: usize, count: usize, text: &[u8])
+    requires inside { place + count ≤ vec_len items.old }
+    requires room { vec_len items.old + length text.now ≤ vec_capacity items.old + count }
+    ensures items { items.new.items ≡ spliced place count text.now items.old.items }
+    ensures capacity { vec_capacity items.old ≤ vec_capacity items.new }
+{
+    let _room = replace(items, place, count, text);
+}
+
+/// Takes a step back, its last splice first. Where there is no memory, nothing changes.
+pub fn take_back(text: &mut Vec<u8>, step: &[Splice]) -> Result<(), AllocError>
+    requires { GoesBack (map splice_of step.now) text.old.items }
+    ensures ok { OnOk result (text.new.items ≡ back_step (map splice_of step.now) text.old.items) }
+    ensures err { OnErr result (text.new.items ≡ text.old.items) }
+{
+    match room_back(step) {
+        None => Err(AllocError),
+        Some(room) => {
+            text.reserve(room)?;
+            let mut left = step.len();
+            while 0 < left {
+                left -= 1;
+                let splice = &step[left];
+                replace_within(text, splice.place, splice.new.len(), &splice.old);
+            }
+            Ok(())
+        }
+    }
+}
+
+/// Makes a step again, its first splice first. Where there is no memory, nothing changes.
+pub fn make_again(text: &mut Vec<u8>, step: &[Splice]) -> Result<(), AllocError>
+    requires { GoesForth (map splice_of step.now) text.old.items }
+    ensures ok { OnOk result (text.new.items ≡ forth_step (map splice_of step.now) text.old.items) }
+    ensures err { OnErr result (text.new.items ≡ text.old.items) }
+{
+    match room_forth(step) {
+        None => Err(AllocError),
+        Some(room) => {
+            text.reserve(room)?;
+            for splice in step {
+                replace_within(text, splice.place, splice.old.len(), &splice.new);
+            }
+            Ok(())
+        }
+    }
+}
+
+// How many bytes taking a step back puts in, where a number of 64 bits holds them.
+fn room_back(step: &[Splice]) -> Option<usize>
+    ensures { IfSome result (λ room. room ≡ olds (map splice_of step.now)) }
+{
+    let mut room: usize = 0;
+    for splice in step {
+        room = room.checked_add(splice.old.len())?;
+    }
+    Some(room)
+}
+
+// How many bytes making a step again puts in, where a number of 64 bits holds them.
+fn room_forth(step: &[Splice]) -> Option<usize>
+    ensures { IfSome result (λ room. room ≡ news (map splice_of step.now)) }
+{
+    let mut room: usize = 0;
+    for splice in step {
+        room = room.checked_add(splice.new.len())?;
+    }
+    Some(room)
+}
