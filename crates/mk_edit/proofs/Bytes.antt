@@ -1,5 +1,5 @@
 -- A splice made and taken back gives the text again, and the same for whole steps.
-use Rattle.std.proofs.Common.{◌≡◌, ◌+◌, ◌-◌, ◌≤◌, ◌++◌, ℕ, List, [], ◌∷◌, refl, ap, sym, ◌∙◌, subst, length, take, drop, arith, append_assoc, length-append, length-drop}
+use Rattle.std.proofs.Common.{◌≡◌, ◌+◌, ◌≤◌, ◌++◌, ℕ, List, [], ◌∷◌, refl, ap, sym, ◌∙◌, subst, length, take, drop, arith, append_assoc, length-append, length-drop}
 use Rattle.std.proofs.lemmas.List.{take_at, drop_at, length-take-le}
 use Rattle.mk_edit.specs.Splices.{Splice, spliced, Stands, forth_one, back_one, forth_step, back_step, GoesForth, GoesBack}
 
@@ -32,23 +32,25 @@ put_stands place old new x h =
     record {
       within = omega (arith, h.within, length-spliced place (length old) new x h.within);
       same =
-        ap (λ xs. xs ++ (new ++ drop (place + length new) (spliced place (length old) new x))) (before_spliced place (length old) new x within)
-        ∙ ap (λ xs. take place x ++ (new ++ xs)) (behind_spliced place (length old) new x within);
+          ap (λ xs. xs ++ (new ++ drop (place + length new) (spliced place (length old) new x))) (before_spliced place (length old) new x within)
+          ∙ ap (λ xs. take place x ++ (new ++ xs)) (behind_spliced place (length old) new x within);
     }
 
 -- a step made can be taken back, and gives what was before
 pub back_forth : (s : List Splice) (x : List ℕ) → GoesForth s x → GoesBack s (forth_step s x) × (back_step s (forth_step s x) ≡ x)
 back_forth [] x h = (tt, refl)
 back_forth (c ∷ cs) x h =
-    let p = back_forth cs (forth_one c x) h.1 in
-    ((p.0, subst (λ y. Stands c.place c.new y) (sym p.1) (put_stands c.place c.old c.new x h.0)),
-     ap (back_one c) p.1 ∙ put_again c.place c.old c.new x h.0)
+    let p = back_forth cs (forth_one c x) h.1 in (
+      (p.0, subst (λ y. Stands c.place c.new y) (sym p.1) (put_stands c.place c.old c.new x h.0)),
+      ap (back_one c) p.1 ∙ put_again c.place c.old c.new x h.0,
+    )
 
 -- and the other way round
 pub forth_back : (s : List Splice) (y : List ℕ) → GoesBack s y → GoesForth s (back_step s y) × (forth_step s (back_step s y) ≡ y)
 forth_back [] y h = (tt, refl)
 forth_back (c ∷ cs) y h =
     let p = forth_back cs y h.0 in
-    let again : forth_one c (back_one c (back_step cs y)) ≡ back_step cs y = put_again c.place c.new c.old (back_step cs y) h.1 in
-    ((put_stands c.place c.new c.old (back_step cs y) h.1, subst (λ z. GoesForth cs z) (sym again) p.0),
-     ap (forth_step cs) again ∙ p.1)
+    let again : forth_one c (back_one c (back_step cs y)) ≡ back_step cs y = put_again c.place c.new c.old (back_step cs y) h.1 in (
+      (put_stands c.place c.new c.old (back_step cs y) h.1, subst (λ z. GoesForth cs z) (sym again) p.0),
+      ap (forth_step cs) again ∙ p.1,
+    )

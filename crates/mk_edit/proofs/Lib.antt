@@ -1,3 +1,9 @@
 pub mod Bytes
 pub mod Steps
 pub mod Moves
+pub mod Openings
+pub mod Adding
+pub mod Judging
+pub mod Walking
+pub mod Undoing
+pub mod Leading

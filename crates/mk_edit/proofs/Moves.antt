@@ -1,15 +1,19 @@
 -- Steps in memory: what a session's fields are when it goes back, forth, or takes one more.
-use Rattle.std.proofs.Common.{◌≡◌, ◌+◌, ◌-◌, ◌≤◌, ◌<◌, ◌++◌, ℕ, suc, zero, Bool, true, false, Result, Ok, Err, List, [], ◌∷◌, refl, ap, sym, ◌∙◌, subst, length, take, drop, map, get_or, arith, length-append}
+use Rattle.std.proofs.Common.{◌≡◌, ◌+◌, ◌-◌, ◌≤◌, ◌<◌, ◌++◌, ℕ, suc, zero, Result, Ok, Err, List, [], ◌∷◌, refl, ap, sym, ◌∙◌, subst, length, take, drop, map, get_or, arith}
 use Rattle.std.proofs.lemmas.List.{length-map, take_more, map-append, length-take-le, length-drop, drop-drop, take-append-drop}
 use Rattle.std.proofs.lemmas.Bool.{lt-ltb}
 use Rattle.std.specs.Global.{Vec}
 use Rattle.mk_edit.specs.declared.errors.EditError.{EditError}
 use Rattle.mk_edit.specs.declared.splicing.Splice.{Splice as SpliceIn}
-use Rattle.mk_edit.specs.Changes.{Undo, Redo}
-use Rattle.mk_edit.specs.Splices.{Splice, spliced, Stands, back_one, forth_one, back_step, forth_step, GoesBack, GoesForth}
+use Rattle.mk_tree.specs.Documents.{Document, tree, printed}
+use Rattle.mk_edit.specs.Accepted.{IsAccepted}
+use Rattle.mk_edit.specs.Answers.{Answers}
+use Rattle.mk_edit.specs.Reasons.{outcome, splices_of, given_text}
+use Rattle.mk_edit.specs.Changes.{Change, Do, Undo, Redo}
+use Rattle.mk_edit.specs.Splices.{Splice, spliced, Stands, back_one, back_step, forth_step, GoesBack, GoesForth}
 use Rattle.mk_edit.specs.Rooms.{olds}
 use Rattle.mk_edit.specs.History.{History}
-use Rattle.mk_edit.specs.Histories.{step, text_now, with_step}
+use Rattle.mk_edit.specs.Histories.{step, edited_by, text_now, with_step}
 use Rattle.mk_edit.specs.Fits.{Fit, history_of}
 use Rattle.mk_edit.specs.Views.{splice_of, steps_of}
 use Rattle.mk_edit.proofs.Bytes.{length-spliced}
@@ -112,15 +116,17 @@ more_steps vs ws v n e =
 -- bytes copied at a place stand there
 copied_stands : (place count : ℕ) (x old : List ℕ) → place + count ≤ length x → old ≡ take count (drop place x) → Stands place old x × (length old ≡ count)
 copied_stands place count x old h e =
-    let size : length old ≡ count = ap length e ∙ length-take-le count (drop place x) (omega (arith, h, length-drop place x)) in
-    (record {
-      within = omega (arith, h, size);
-      same =
-        ap (λ k. take place x ++ (old ++ drop (place + k) x)) size
-        ∙ (ap (λ xs. take place x ++ (xs ++ drop (place + count) x)) e
-        ∙ (ap (λ xs. take place x ++ (take count (drop place x) ++ xs)) (sym (drop-drop count place x))
-        ∙ (ap (λ xs. take place x ++ xs) (take-append-drop count (drop place x)) ∙ take-append-drop place x)));
-    }, size)
+    let size : length old ≡ count = ap length e ∙ length-take-le count (drop place x) (omega (arith, h, length-drop place x)) in (
+      record {
+        within = omega (arith, h, size);
+        same =
+            ap (λ k. take place x ++ (old ++ drop (place + k) x)) size
+            ∙ (ap (λ xs. take place x ++ (xs ++ drop (place + count) x)) e
+            ∙ (ap (λ xs. take place x ++ (take count (drop place x) ++ xs)) (sym (drop-drop count place x))
+            ∙ (ap (λ xs. take place x ++ xs) (take-append-drop count (drop place x)) ∙ take-append-drop place x)));
+      },
+      size,
+    )
 
 pub put_moves : (x : List ℕ) (vs ws : List (Vec SpliceIn)) (n place count : ℕ) (v : Vec SpliceIn) (s : SpliceIn) (y new : List ℕ) → Fit x (steps_of vs) n → place + count ≤ length x
     → ws ≡ take n vs ++ v ∷ [] → v.items ≡ s ∷ [] → s.place ≡ place → s.old.items ≡ take count (drop place x) → s.new.items ≡ new → y ≡ spliced place count new x
@@ -156,3 +162,30 @@ put_steps h x y new ss rs n place count f e q m =
     ∙ (ap (λ z. with_step (history_of x ss n) z (record { place = place; old = take count (drop place x); new = new } ∷ [])) q
     ∙ (ap (λ g. with_step g (spliced place count new x) (record { place = place; old = take count (drop place x); new = new } ∷ [])) e
     ∙ ap (λ z. with_step h (spliced place count new z) (record { place = place; old = take count (drop place z); new = new } ∷ [])) (put_text h x ss n f e)))
+
+ok_err : (t : Document) (e : EditError) → ◌≡◌ {A = Result Document EditError} (Ok t) (Err e) → ⊥
+ok_err t e h = cc
+
+err_same : (f e : EditError) → ◌≡◌ {A = Result Document EditError} (Err f) (Err e) → e ≡ f
+err_same f e h = cc
+
+-- what a decision says of the answer
+pub answers_err : (r : Result Document EditError) (e : EditError) → r ≡ Err e → Answers {X = Unit {0}} (Err e) r
+answers_err (Ok t) e h = absurd (ok_err t e h)
+answers_err (Err f) e h = err_same f e h
+
+pub answers_ok : (r : Result Document EditError) (t : Document) → r ≡ Ok t → Answers {X = Unit {0}} (Ok tt) r
+answers_ok (Ok s) t h = tt
+answers_ok (Err f) t h = absurd (ok_err t f (sym h))
+
+pub step_err : (c : Change) (h : History) (x : List ℕ) (e : EditError) → x ≡ text_now h → outcome c (tree x) ≡ Err e → step (Do c) h ≡ Err e
+step_err c h x e q o = ap (edited_by h (splices_of c (tree (text_now h)))) (sym (ap (λ y. outcome c (tree y)) q) ∙ o)
+
+pub step_ok : (c : Change) (h g : History) (x new : List ℕ) (place : ℕ) → x ≡ text_now h → IsAccepted c x place → new ≡ given_text c
+    → g ≡ with_step h (spliced place 0 new (text_now h)) (record { place = place; old = take 0 (drop place (text_now h)); new = new } ∷ []) → step (Do c) h ≡ Ok g
+step_ok c h g x new place q a n m =
+    ap (λ y. edited_by h (splices_of c (tree y)) (outcome c (tree y))) (sym q)
+    ∙ (ap (edited_by h (splices_of c (tree x))) a.accepted
+    ∙ (ap (λ s. Ok (with_step h (printed a.document) s)) a.splices
+    ∙ (ap (λ y. Ok (with_step h y (record { place = place; old = []; new = given_text c } ∷ []))) (a.printed_so ∙ ap (spliced place 0 (given_text c)) q)
+    ∙ (ap (λ b. Ok (with_step h (spliced place 0 b (text_now h)) (record { place = place; old = []; new = b } ∷ []))) (sym n) ∙ ap (λ k. Ok k) (sym m)))))

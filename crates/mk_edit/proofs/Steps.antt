@@ -1,8 +1,7 @@
 -- A text and its steps as a history.
-use Rattle.std.proofs.Common.{◌≡◌, ◌+◌, ◌-◌, ◌≤◌, ◌<◌, ◌++◌, ℕ, suc, zero, List, [], ◌∷◌, refl, ap, sym, ◌∙◌, subst, length, take, drop, get_or, arith, append_assoc, length-append, length-drop, add-one}
+use Rattle.std.proofs.Common.{◌≡◌, ◌+◌, ◌≤◌, ◌<◌, ◌++◌, ℕ, suc, zero, List, [], ◌∷◌, refl, ap, sym, ◌∙◌, subst, length, take, drop, get_or, arith, length-append, add-one}
 use Rattle.std.proofs.lemmas.List.{take_at, drop_at, length-take-le, take-append-drop, drop_more, take_more}
 use Rattle.mk_edit.specs.Splices.{Splice, forth_step, back_step, GoesForth, GoesBack}
-use Rattle.mk_edit.specs.History.{History}
 use Rattle.mk_edit.specs.Histories.{AreLinked, IsHistory, text_now, with_step}
 use Rattle.mk_edit.specs.Fits.{back_all, forth_all, texts_behind, texts_from, AllBack, AllForth, history_of, Fit}
 use Rattle.mk_edit.proofs.Bytes.{back_forth, forth_back}
@@ -96,7 +95,7 @@ undo_is x ss n m s y f e g q =
         within = omega arith;
         back = subst (AllBack (take m ss)) (sym q) p.0;
         forth = subst (λ rs. AllForth rs y) (sym (next_step ss m s less g))
-          (subst (GoesForth s) (sym q) r.0, subst (AllForth (drop (m + 1) ss)) (sym (ap (forth_step s) q ∙ r.1)) (subst (λ k. AllForth (drop k ss) x) e f.forth));
+            (subst (GoesForth s) (sym q) r.0, subst (AllForth (drop (m + 1) ss)) (sym (ap (forth_step s) q ∙ r.1)) (subst (λ k. AllForth (drop k ss) x) e f.forth));
       };
       history = λ i. record {
         texts = texts_from ((ap (back_all (take m ss)) q ∙ (sym (back_append (take m ss) s x) ∙ ap (λ rs. back_all rs x) (sym front))) i) ss;
@@ -158,8 +157,8 @@ edit_is x ss n s y rs f g q e =
       };
       history = λ i. record {
         texts = (ap (λ z. texts_from z rs) t ∙ (ap (texts_from (back_all (take n ss) x)) e ∙ (texts_more n (back_all (take n ss) x) ss s f.within
-          ∙ (ap (λ k. take k (texts_from (back_all (take n ss) x) ss) ++ forth_step s (forth_all (take n ss) (back_all (take n ss) x)) ∷ []) (sym (add-one n))
-          ∙ ap (λ z. take (n + 1) (texts_from (back_all (take n ss) x) ss) ++ z ∷ []) (sym text))))) i;
+            ∙ (ap (λ k. take k (texts_from (back_all (take n ss) x) ss) ++ forth_step s (forth_all (take n ss) (back_all (take n ss) x)) ∷ []) (sym (add-one n))
+            ∙ ap (λ z. take (n + 1) (texts_from (back_all (take n ss) x) ss) ++ z ∷ []) (sym text))))) i;
         steps = e i;
         place = n + 1;
       };

@@ -3,7 +3,7 @@ use Rattle.std.specs.Prelude.{◌≡◌, ◌≤◌, ℕ, Ok, List, [], ◌∷◌
 use Rattle.mk_tree.specs.Documents.{Document, tree, printed}
 use Rattle.mk_edit.specs.Changes.{Change}
 use Rattle.mk_edit.specs.Reasons.{outcome, splices_of, given_text}
-use Rattle.mk_edit.specs.Splices.{Splice, spliced}
+use Rattle.mk_edit.specs.Splices.{spliced}
 
 -- the edit is accepted, and puts its bytes at the place
 pub record IsAccepted (c : Change) (text : List ℕ) (place : ℕ) : Type 0 where

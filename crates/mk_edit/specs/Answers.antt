@@ -1,5 +1,5 @@
 -- What a call answers, beside what is defined.
-use Rattle.std.specs.Prelude.{◌≡◌, Bool, true, false, Option, None, Some, Result, Ok, Err}
+use Rattle.std.specs.Prelude.{◌≡◌, Bool, true, false, Result, Ok, Err}
 use Rattle.mk_edit.specs.declared.errors.EditError.{EditError}
 use Rattle.mk_edit.specs.declared.errors.EditError.TheVariants.{NoSuchSection, BadField, OpenLine, Recut, NothingToUndo, NothingToRedo, Memory}
 use Rattle.mk_edit.specs.History.{History}

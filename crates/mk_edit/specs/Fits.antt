@@ -1,5 +1,5 @@
 -- A history kept as the text that stands now, the steps, and how many of them are done.
-use Rattle.std.specs.Prelude.{◌≡◌, ◌≤◌, ℕ, List, [], ◌∷◌, length, take, drop}
+use Rattle.std.specs.Prelude.{◌≤◌, ℕ, List, [], ◌∷◌, length, take, drop}
 use Rattle.mk_edit.specs.Splices.{Splice, forth_step, back_step, GoesForth, GoesBack}
 use Rattle.mk_edit.specs.History.{History}
 

@@ -3,7 +3,7 @@ use Rattle.std.specs.Prelude.{◌≡◌, ◌+◌, ◌-◌, ◌≤◌, ◌++◌, 
 use Rattle.mk_tree.specs.Documents.{Document, tree, printed}
 use Rattle.mk_edit.specs.declared.errors.EditError.{EditError}
 use Rattle.mk_edit.specs.declared.errors.EditError.TheVariants.{NothingToUndo, NothingToRedo}
-use Rattle.mk_edit.specs.Changes.{Change, Order, Do, Undo, Redo}
+use Rattle.mk_edit.specs.Changes.{Order, Do, Undo, Redo}
 use Rattle.mk_edit.specs.Reasons.{outcome, splices_of}
 use Rattle.mk_edit.specs.Splices.{Splice, forth_step, back_step}
 use Rattle.mk_edit.specs.History.{History}

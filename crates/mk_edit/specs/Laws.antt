@@ -1,5 +1,5 @@
 -- The laws of edits and histories.
-use Rattle.std.specs.Prelude.{◌≡◌, ℕ, Option, Some, Ok, List}
+use Rattle.std.specs.Prelude.{◌≡◌, ℕ, Some, Ok, List}
 use Rattle.mk_tree.specs.Documents.{Document, tree, printed}
 use Rattle.mk_edit.specs.Changes.{Change, Order, Undo, Redo}
 use Rattle.mk_edit.specs.Reasons.{outcome, splices_of}

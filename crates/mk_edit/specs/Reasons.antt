@@ -1,7 +1,7 @@
 -- What an edit gives: the edited document, or the first reason against it (own).
-use Rattle.std.specs.Prelude.{◌==◌, ◌||◌, ◌++◌, if◌then◌else◌, ℕ, Bool, true, false, not, Option, None, Some, Result, Ok, Err, List, [], ◌∷◌, length}
+use Rattle.std.specs.Prelude.{◌==◌, ◌||◌, ◌++◌, if◌then◌else◌, ℕ, Bool, true, false, not, Result, Ok, Err, List, [], ◌∷◌, length}
 use Rattle.mk_line.specs.Lines.{TextLine, cut, text_of, is_open}
-use Rattle.mk_head.specs.Split.{Head, option_line}
+use Rattle.mk_head.specs.Split.{option_line}
 use Rattle.mk_head.specs.Fields.{is_one_field}
 use Rattle.mk_tree.specs.Tree.{Entity, field_lines, with_fields}
 use Rattle.mk_tree.specs.Documents.{Document, document_lines}

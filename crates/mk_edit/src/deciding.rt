@@ -1,6 +1,7 @@
 //! Whether an edit is accepted, by the lines around its place alone.
 ghost use Rattle.std.specs.Prelude.{◌≡◌, ◌+◌, ◌<◌, ◌≤◌, ◌&&◌, ◌||◌, [], Err, true, false, nat_lt, length, drop, take, IfOk, IfErr, IfNone, IfSome};
 ghost use Rattle.mk_line.specs.Lines.{cut as lines_of, text_of};
+ghost use Rattle.mk_line.specs.Kinds.{is_field_start, is_continuation as continues};
 ghost use Rattle.mk_line.specs.Views.{BeginsLine};
 ghost use Rattle.mk_head.specs.Split.{fields_from, option_line};
 ghost use Rattle.mk_tree.specs.Documents.{tree};
@@ -16,6 +17,7 @@ use mk_head::one_field;
 use mk_line::{Meter, is_continuation, is_from_line, line_at, name_len};
 
 const LINE_FEED: u8 = b'\n';
+
 const ROOT: u32 = 1;
 
 /// Where an edit puts its bytes, or the first reason against it.
@@ -33,7 +35,13 @@ pub fn decide(text: &[u8], edit: &Edit, meter: &mut Meter) -> Result<usize, Edit
 }
 
 // The same for a field that is added.
-fn decide_field(text: &[u8], path: &[u32], top: bool, field: &[u8], meter: &mut Meter) -> Result<usize, EditError>
+fn decide_field(
+    text: &[u8],
+    path: &[u32],
+    top: bool,
+    field: &[u8],
+    meter: &mut Meter,
+) -> Result<usize, EditError>
     ensures ok { IfOk result (λ place. IsAccepted (AddField path.now top field.now) text.now place) }
     ensures err { IfErr result (λ e. outcome (AddField path.now top field.now) (tree text.now) ≡ Err e) }
 {
@@ -116,7 +124,7 @@ fn field_line_size(text: &[u8], place: usize, inside: bool, meter: &mut Meter) -
 {
     match line_at(text, place, meter) {
         Some(line) => {
-            if name_len(line.content).is_some() || inside && is_continuation(line.content) {
+            if belongs(line.content, inside) {
                 Some(line.size())
             } else {
                 None
@@ -124,6 +132,13 @@ fn field_line_size(text: &[u8], place: usize, inside: bool, meter: &mut Meter) -
         }
         None => None,
     }
+}
+
+// Whether a content belongs to a field; `inside`, where a field stands before it.
+fn belongs(content: &[u8], inside: bool) -> bool
+    ensures { result ≡ (is_field_start content.now || (inside && continues content.now)) }
+{
+    name_len(content).is_some() || inside && is_continuation(content)
 }
 
 // Whether a line without an ending would stand before another, with the field at the place.

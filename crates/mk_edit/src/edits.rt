@@ -13,6 +13,21 @@ pub enum Edit {
     },
 }
 
+impl Edit {
+    ghost use Rattle.std.specs.Prelude.{◌≡◌};
+    ghost use Rattle.mk_edit.specs.Reasons.{given_text};
+    ghost use Rattle.mk_edit.specs.Views.{change_of};
+
+    /// The bytes that the edit puts in.
+    pub(crate) fn given(&self) -> &[u8]
+        ensures { result.now ≡ given_text (change_of self.now) }
+    {
+        match self {
+            Edit::AddField { text, .. } => text,
+        }
+    }
+}
+
 /// What may be asked of a session.
 #[derive(Debug, Drop)]
 pub enum Command {

@@ -5,24 +5,20 @@ ghost use Rattle.mk_edit.specs.Laws.{EditsReadBack, HistoriesStay, SplicesLead, 
 /// began; the same for every text and every list of edits, undos and redos.
 pub fn undoing_restores()
     ensures { UndoingRestores }
-{
-}
+{}
 
 /// Replacing the old bytes of an accepted edit's splice by the new ones in the text before gives the text after, and
 /// the other way round.
 pub fn splices_lead()
     ensures { SplicesLead }
-{
-}
+{}
 
 /// An accepted edit gives a text that is read as the edited document.
 pub fn edits_read_back()
     ensures { EditsReadBack }
-{
-}
+{}
 
 /// What edits, undos and redos leave is a history: each text is the one before it with a step made.
 pub fn histories_stay()
     ensures { HistoriesStay }
-{
-}
+{}

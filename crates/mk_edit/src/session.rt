@@ -5,7 +5,7 @@ ghost use Rattle.mk_edit.specs.Changes.{Do, Undo, Redo};
 ghost use Rattle.mk_edit.specs.Reasons.{outcome};
 ghost use Rattle.mk_edit.specs.Answers.{Answers, Does};
 ghost use Rattle.mk_edit.specs.Splices.{spliced};
-ghost use Rattle.mk_edit.specs.Histories.{IsHistory, after_all, replies, started, step, text_now, with_step};
+ghost use Rattle.mk_edit.specs.Histories.{IsHistory, after, after_all, refusal, replies, started, step, text_now, with_step};
 ghost use Rattle.mk_edit.specs.Views.{change_of, order_of};
 
 use crate::deciding::decide;
@@ -27,10 +27,14 @@ pub struct Session {
 impl Model for Session {
     ghost use Rattle.std.specs.Prelude.{map};
     ghost use Rattle.mk_edit.specs.History.{History};
+
     ghost Value = { History };
+
     ghost use Rattle.mk_edit.specs.Fits.{history_of, Fit};
     ghost use Rattle.mk_edit.specs.Views.{steps_of};
+
     ghost view = { λ s. history_of s.text.items (steps_of s.steps.items) s.done };
+
     ghost invariant = { λ s. Fit s.text.items (steps_of s.steps.items) s.done };
 }
 
@@ -77,14 +81,65 @@ impl Session {
         Ok(())
     }
 
+    /// Obeys commands, one after another, and answers to each why it was refused, or nothing where it wasn't. Want of
+    /// memory ends the call; then a front of the commands was obeyed.
+    pub fn obey_all(
+        &mut self,
+        alloc: Global,
+        commands: &[Command],
+        meter: &mut Meter,
+    ) -> Result<Vec<Option<EditError>>, AllocError>
+        ensures replies { IfOk result (λ all. all.items ≡ replies (map order_of commands.now) self.old) }
+        ensures history { OnOk result (self.new ≡ after_all (map order_of commands.now) self.old) }
+        ensures front { OnErr result ((n : ℕ) × (self.new ≡ after_all (take n (map order_of commands.now)) self.old)) }
+    {
+        let mut all = Vec::with_capacity(alloc, commands.len())?;
+        for command in commands {
+            let reply = self.reply(command, meter)?;
+            all.push_reserved(reply);
+        }
+        Ok(all)
+    }
+
+    // Obeys one command, and answers why it was refused, or nothing where it wasn't.
+    fn reply(
+        &mut self,
+        command: &Command,
+        meter: &mut Meter,
+    ) -> Result<Option<EditError>, AllocError>
+        ensures reply { IfOk result (λ r. r ≡ refusal (step (order_of command.now) self.old)) }
+        ensures history { OnOk result (self.new ≡ after (order_of command.now) self.old) }
+        ensures err { OnErr result (self.new ≡ self.old) }
+    {
+        match self.obey(command, meter) {
+            Ok(()) => Ok(None),
+            Err(error) => {
+                if error.is_memory() {
+                    Err(AllocError)
+                } else {
+                    Ok(Some(error))
+                }
+            }
+        }
+    }
+
+    // Obeys one command.
+    fn obey(&mut self, command: &Command, meter: &mut Meter) -> Result<(), EditError>
+        ensures { Does result (step (order_of command.now) self.old) self.old self.new }
+    {
+        match command {
+            Command::Do(edit) => self.edit(edit, meter),
+            Command::Undo => self.undo(),
+            Command::Redo => self.redo(),
+        }
+    }
+
     /// Makes an edit, and drops the steps that were undone. A refused edit changes nothing.
     pub fn edit(&mut self, edit: &Edit, meter: &mut Meter) -> Result<(), EditError>
         ensures { Does result (step (Do (change_of edit.now)) self.old) self.old self.new }
     {
         let place = decide(&self.text, edit, meter)?;
-        match edit {
-            Edit::AddField { text, .. } => self.put(place, 0, text)?,
-        }
+        self.put(place, 0, edit.given())?;
         Ok(())
     }
 

@@ -23,7 +23,12 @@ pub fn copied(alloc: Global, text: &[u8], place: usize, count: usize) -> Result<
 }
 
 /// Puts `text` in the place of `count` bytes at `place`. Where there is no memory, nothing changes.
-pub fn replace(items: &mut Vec<u8>, place: usize, count: usize, text: &[u8]) -> Result<(), AllocError>
+pub fn replace(
+    items: &mut Vec<u8>,
+    place: usize,
+    count: usize,
+    text: &[u8],
+) -> Result<(), AllocError>
     requires { place + count ≤ vec_len items.old }
     ensures ok { OnOk result (items.new.items ≡ spliced place count text.now items.old.items) }
     ensures err { OnErr result (items.new.items ≡ items.old.items) }

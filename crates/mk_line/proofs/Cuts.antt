@@ -99,7 +99,7 @@ cut_open byte (next ∷ bytes) h =
 nil_full : {A : Type 0} → is_nil [] ≡ false → A
 nil_full e = cc
 
-append_nil : (xs : List ℕ) → xs ++ [] ≡ xs
+pub append_nil : (xs : List ℕ) → xs ++ [] ≡ xs
 append_nil [] = refl
 append_nil (x ∷ xs) = ap (λ ys. x ∷ ys) (append_nil xs)
 

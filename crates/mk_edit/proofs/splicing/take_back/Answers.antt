@@ -1,8 +1,7 @@
-use Rattle.std.proofs.Common.{◌≡◌, ◌+◌, ◌-◌, ◌≤◌, ◌<◌, ◌∙◌, ap, sym, arith, subst, List, ℕ, length, map, take, vec_len, vec_capacity}
-use Rattle.mk_edit.specs.Splices.{spliced, back_step, GoesBack}
-use Rattle.mk_edit.specs.Rooms.{olds}
+use Rattle.std.proofs.Common.{◌-◌, ◌∙◌, ap, sym, arith, subst, length, map, take, vec_len, vec_capacity}
+use Rattle.mk_edit.specs.Splices.{back_step, GoesBack}
 use Rattle.mk_edit.specs.Views.{splice_of}
-use Rattle.mk_edit.proofs.Moves.{LastBack, last_back, back_so, room_so}
+use Rattle.mk_edit.proofs.Moves.{last_back, back_so, room_so}
 use Rattle.mk_edit.proofs.splicing.take_back.Goals as goal
 
 pub replace_within-requires-clause-inside : goal.replace_within-requires-clause-inside

@@ -1,0 +1,119 @@
+-- Orders one after another; undoing all and redoing all.
+use Rattle.std.proofs.Common.{◌≡◌, ◌+◌, ◌-◌, ◌≤◌, ◌<◌, ◌++◌, ℕ, suc, zero, Bool, true, false, nat_lt, if◌then◌else◌, Option, Some, Result, Ok, Err, List, [], ◌∷◌, refl, ap, sym, ◌∙◌, length, take, drop, map, get_or, arith, append_assoc, length-append}
+use Rattle.std.proofs.lemmas.Bool.{lt-ltb, ltb-true}
+use Rattle.std.proofs.lemmas.List.{length-take-le, drop_more, take_more, length-map}
+use Rattle.mk_tree.specs.Documents.{Document, tree, printed}
+use Rattle.mk_edit.specs.declared.errors.EditError.{EditError}
+use Rattle.mk_edit.specs.declared.errors.EditError.TheVariants.{NothingToUndo, NothingToRedo}
+use Rattle.mk_edit.specs.Changes.{Order, Do, Undo, Redo}
+use Rattle.mk_edit.specs.Reasons.{outcome, splices_of}
+use Rattle.mk_edit.specs.Splices.{Splice}
+use Rattle.mk_edit.specs.History.{History}
+use Rattle.mk_edit.specs.Histories.{text_now, started, with_step, edited_by, step, left_by, after, after_all, refusal, replies, next_by, repeated}
+use Rattle.mk_edit.specs.Laws.{Restores, UndoingRestores}
+
+-- one order more
+after_more : (xs : List Order) (o : Order) (h : History) → after_all (xs ++ o ∷ []) h ≡ after o (after_all xs h)
+after_more [] o h = refl
+after_more (x ∷ xs) o h = after_more xs o (after x h)
+
+-- one turn of obeying orders from a list by its places
+rest_orders : {X : Type 0} (f : X → Order) (cs : List X) (i : ℕ) (d : X) → i < length cs → map f (drop i cs) ≡ f (get_or cs i d) ∷ map f (drop (i + 1) cs)
+rest_orders f cs i d l = ap (map f) (drop_more cs i d l)
+
+pub told_next : {X : Type 0} (f : X → Order) (cs : List X) (i : ℕ) (d : X) (all more rs : List (Option EditError)) (r : Option EditError) (h g : History) → i < length cs
+    → r ≡ refusal (step (f (get_or cs i d)) h) → g ≡ after (f (get_or cs i d)) h → more ≡ all ++ r ∷ [] → all ++ replies (map f (drop i cs)) h ≡ rs → more ++ replies (map f (drop (i + 1) cs)) g ≡ rs
+told_next f cs i d all more rs r h g l e q m t =
+    ap (λ xs. xs ++ replies (map f (drop (i + 1) cs)) g) m
+    ∙ (append_assoc all (r ∷ []) (replies (map f (drop (i + 1) cs)) g)
+    ∙ (ap (λ x. all ++ x ∷ replies (map f (drop (i + 1) cs)) g) e
+    ∙ (ap (λ k. all ++ refusal (step (f (get_or cs i d)) h) ∷ replies (map f (drop (i + 1) cs)) k) q
+    ∙ (ap (λ os. all ++ replies os h) (sym (rest_orders f cs i d l)) ∙ t))))
+
+pub rest_next : {X : Type 0} (f : X → Order) (cs : List X) (i : ℕ) (d : X) (h g k : History) → i < length cs → g ≡ after (f (get_or cs i d)) h → after_all (map f (drop i cs)) h ≡ k → after_all (map f (drop (i + 1) cs)) g ≡ k
+rest_next f cs i d h g k l q t =
+    ap (after_all (map f (drop (i + 1) cs))) q ∙ (ap (λ os. after_all os h) (sym (rest_orders f cs i d l)) ∙ t)
+
+map_at : {X Y : Type 0} (f : X → Y) (cs : List X) (i : ℕ) (d : X) → get_or (map f cs) i (f d) ≡ f (get_or cs i d)
+map_at f [] i d = refl
+map_at f (c ∷ cs) zero d = refl
+map_at f (c ∷ cs) (suc i) d = map_at f cs i d
+
+pub front_next : {X : Type 0} (f : X → Order) (cs : List X) (i : ℕ) (d : X) (h g k : History) → i < length cs → g ≡ after (f (get_or cs i d)) h → h ≡ after_all (take i (map f cs)) k → g ≡ after_all (take (i + 1) (map f cs)) k
+front_next f cs i d h g k l q t =
+    q ∙ (ap (after (f (get_or cs i d))) t ∙ (sym (after_more (take i (map f cs)) (f (get_or cs i d)) k)
+    ∙ ap (λ os. after_all os k) (sym (take_more (map f cs) i (f d) (omega (arith, l, length-map cs f)) ∙ ap (λ o. take i (map f cs) ++ o ∷ []) (map_at f cs i d)))))
+
+-- a history at another place
+abbrev pub at : List (List ℕ) → List (List Splice) → ℕ → History
+at texts steps place = record { texts = texts; steps = steps; place = place }
+
+less : (n : ℕ) → suc n - 1 ≡ n
+less n = omega arith
+
+undo_one : (texts : List (List ℕ)) (steps : List (List Splice)) (n : ℕ) → step Undo (at texts steps (suc n)) ≡ Ok (at texts steps n)
+undo_one texts steps n = rw (lt-ltb 0 (suc n) (omega arith)) (ap (λ p. Ok (at texts steps p)) (less n))
+
+pub undo_all : (texts : List (List ℕ)) (steps : List (List Splice)) (n : ℕ) → repeated n Undo (at texts steps n) ≡ Some (at texts steps 0)
+undo_all texts steps zero = refl
+undo_all texts steps (suc n) = ap (next_by (repeated n Undo)) (undo_one texts steps n) ∙ undo_all texts steps n
+
+redo_one : (texts : List (List ℕ)) (steps : List (List Splice)) (k : ℕ) → k < length steps → step Redo (at texts steps k) ≡ Ok (at texts steps (k + 1))
+redo_one texts steps k h = rw (lt-ltb k (length steps) h) refl
+
+same_place : (k m : ℕ) → m ≡ 0 + k → k ≡ m
+same_place k m e = omega (arith, e)
+
+pub redo_all : (texts : List (List ℕ)) (steps : List (List Splice)) (n k m : ℕ) → m ≡ n + k → m ≤ length steps → repeated n Redo (at texts steps k) ≡ Some (at texts steps m)
+redo_all texts steps zero k m e h = ap (λ p. Some (at texts steps p)) (same_place k m e)
+redo_all texts steps (suc n) k m e h = ap (next_by (repeated n Redo)) (redo_one texts steps k (omega (arith, e, h))) ∙ redo_all texts steps n (k + 1) m (omega (arith, e)) h
+
+-- what every history keeps that begins with a text
+pub record Begun (text : List ℕ) (h : History) : Type 0 where
+  pub others : List (List ℕ)
+  pub texts : h.texts ≡ text ∷ others
+  pub size : length others ≡ length h.steps
+  pub within : h.place ≤ length h.steps
+
+more_place : (n : ℕ) → n + 1 ≡ suc n
+more_place n = omega arith
+
+begun_step : (text : List ℕ) (h : History) (y : List ℕ) (s : List Splice) → Begun text h → Begun text (with_step h y s)
+begun_step text h y s b = record {
+  others = take h.place b.others ++ y ∷ [];
+  texts = ap (λ ts. take (h.place + 1) ts ++ y ∷ []) b.texts ∙ ap (λ n. take n (text ∷ b.others) ++ y ∷ []) (more_place h.place);
+  size = omega (arith, length-append (take h.place b.others) (y ∷ []), length-append (take h.place h.steps) (s ∷ []), length-take-le h.place b.others (omega (arith, b.size, b.within)), length-take-le h.place h.steps b.within);
+  within = omega (arith, length-append (take h.place h.steps) (s ∷ []), length-take-le h.place h.steps b.within);
+}
+
+begun_edit : (text : List ℕ) (h : History) (s : List Splice) (r : Result Document EditError) → Begun text h → Begun text (left_by h (edited_by h s r))
+begun_edit text h s (Ok t) b = begun_step text h (printed t) s b
+begun_edit text h s (Err e) b = b
+
+begun_undo : (text : List ℕ) (h : History) (t : Bool) → Begun text h → Begun text (left_by h (if t then Ok (record h { place = h.place - 1 }) else Err NothingToUndo))
+begun_undo text h true b = record { others = b.others; texts = b.texts; size = b.size; within = omega (arith, b.within) }
+begun_undo text h false b = b
+
+begun_redo : (text : List ℕ) (h : History) (t : Bool) → nat_lt h.place (length h.steps) ≡ t → Begun text h → Begun text (left_by h (if t then Ok (record h { place = h.place + 1 }) else Err NothingToRedo))
+begun_redo text h true e b = record { others = b.others; texts = b.texts; size = b.size; within = omega (arith, ltb-true h.place (length h.steps) e) }
+begun_redo text h false e b = b
+
+begun_after : (text : List ℕ) (o : Order) (h : History) → Begun text h → Begun text (after o h)
+begun_after text (Do c) h b = begun_edit text h (splices_of c (tree (text_now h))) (outcome c (tree (text_now h))) b
+begun_after text Undo h b = begun_undo text h (nat_lt 0 h.place) b
+begun_after text Redo h b = begun_redo text h (nat_lt h.place (length h.steps)) refl b
+
+begun_all : (text : List ℕ) (orders : List Order) (h : History) → Begun text h → Begun text (after_all orders h)
+begun_all text [] h b = b
+begun_all text (o ∷ orders) h b = begun_all text orders (after o h) (begun_after text o h b)
+
+begun_restores : (text : List ℕ) (h : History) → Begun text h → Restores text h
+begun_restores text h b = record {
+  first = at h.texts h.steps 0;
+  undone = undo_all h.texts h.steps h.place;
+  is_first = ap (λ ts. get_or ts 0 []) b.texts;
+  redone = redo_all h.texts h.steps h.place 0 h.place (omega arith) b.within;
+}
+
+pub undoing_restores_lem : UndoingRestores
+undoing_restores_lem text orders = begun_restores text (after_all orders (started text)) (begun_all text orders (started text) (record { others = []; texts = refl; size = refl; within = omega arith }))

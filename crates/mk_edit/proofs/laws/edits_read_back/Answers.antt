@@ -1,0 +1,5 @@
+use Rattle.mk_edit.proofs.Leading.{edits_read_back_lem}
+use Rattle.mk_edit.proofs.laws.edits_read_back.Goals as goal
+
+pub returns : goal.returns
+returns c = edits_read_back_lem

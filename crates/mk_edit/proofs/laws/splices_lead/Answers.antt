@@ -1,0 +1,5 @@
+use Rattle.mk_edit.proofs.Leading.{splices_lead_lem}
+use Rattle.mk_edit.proofs.laws.splices_lead.Goals as goal
+
+pub returns : goal.returns
+returns c = splices_lead_lem
