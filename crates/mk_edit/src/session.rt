@@ -63,14 +63,14 @@ impl Session {
     pub fn done(&self) -> usize
         ensures { result ≡ self.now.place }
     {
-        self.done
+        self.steps[..self.done].len()
     }
 
     /// How many steps are undone.
     pub fn undone(&self) -> usize
         ensures { self.now.place + result ≡ length self.now.steps }
     {
-        self.steps.len() - self.done
+        self.steps[self.done..].len()
     }
 
     /// What `edit` would answer, short of memory. Nothing changes.

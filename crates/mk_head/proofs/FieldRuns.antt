@@ -75,10 +75,10 @@ continuations_inside (l ∷ ls) =
     elim (cases_Bool (is_more l)) [
       | inl h ↦ rw (h, or_true (is_start l)) (rw h (ap (λ xs. l ∷ xs) (continuations_inside ls)))
       | inr h ↦
-        elim (cases_Bool (is_start l)) [
-          | inl t ↦ rw (h, t) (rw h refl)
-          | inr f ↦ rw (h, f) refl
-        ]
+          elim (cases_Bool (is_start l)) [
+            | inl t ↦ rw (h, t) (rw h refl)
+            | inr f ↦ rw (h, f) refl
+          ]
     ]
 
 text_first : (l : TextLine) (ls : List TextLine) → is_start l ≡ true → fields_of (l ∷ ls) ≡ field_text l (continuations ls) ∷ fields_of ls
@@ -169,8 +169,8 @@ pub front_size : (text : List ℕ) (l : TextLine) (ls : List TextLine) (n : ℕ)
     → length (text_of (fields_from false (cut text))) + length rest ≡ length text + length (text_of (fields_from false (cut rest)))
 front_size text l ls n rest e s h q =
     let all : text_of (fields_from false (cut text)) ≡ take n text ++ text_of (fields_from false (cut rest)) =
-      ap (λ xs. text_of (fields_from false xs)) e ∙ (ap text_of (first_fields l ls s) ∙ (text_append (l ∷ continuations ls) (fields_from false (behind_more ls))
-      ∙ (ap (λ xs. xs ++ text_of (fields_from false (behind_more ls))) (sym h.raw) ∙ ap (λ xs. take n text ++ text_of (fields_from false xs)) (sym (ap cut q ∙ h.rest))))) in
+    ap (λ xs. text_of (fields_from false xs)) e ∙ (ap text_of (first_fields l ls s) ∙ (text_append (l ∷ continuations ls) (fields_from false (behind_more ls))
+    ∙ (ap (λ xs. xs ++ text_of (fields_from false (behind_more ls))) (sym h.raw) ∙ ap (λ xs. take n text ++ text_of (fields_from false xs)) (sym (ap cut q ∙ h.rest))))) in
     let size : length (text_of (fields_from false (cut text))) ≡ length (take n text ++ text_of (fields_from false (cut rest))) = ap length all in
     let left : length rest ≡ length (drop n text) = ap length q in
     omega (arith, size, left, length-append (take n text) (text_of (fields_from false (cut rest))), length-take-le n text h.within, length-drop n text, h.within)

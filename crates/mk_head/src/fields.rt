@@ -35,8 +35,11 @@ pub struct Header<'a> {
 impl<'a> Model for Header<'a> {
     ghost use Rattle.std.specs.Prelude.{map};
     ghost use Rattle.mk_head.specs.Fields.{HeaderView};
+
     ghost Value = { HeaderView };
+
     ghost use Rattle.mk_head.specs.Views.{field_view};
+
     ghost view = { λ h. record { fields = map field_view h.fields.items; separator = h.separator; body = h.body } };
 }
 

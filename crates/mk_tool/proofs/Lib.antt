@@ -1,0 +1,7 @@
+mod Fronts
+mod NumberLemmas
+mod PathLemmas
+mod PieceLemmas
+mod RunLemmas
+mod Slices
+mod WrittenLemmas

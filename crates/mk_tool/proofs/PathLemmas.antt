@@ -1,0 +1,123 @@
+-- Paths: their numbers, and the pieces between dots.
+use Rattle.std.proofs.Common.{◌≡◌, ◌==◌, ◌+◌, ◌*◌, ◌^◌, ◌<◌, ◌≤◌, ℕ, suc, true, false, nat_lt, List, [], ◌∷◌, length, take, drop, get_or, ◌++◌, nat_le, length-append, Option, Some, None, refl, sym, ap, ◌∙◌, inl, inr, arith, add-one}
+use Rattle.std.proofs.Math.Seq.{drop-cons}
+use Rattle.std.proofs.lemmas.Bool.{cases_Bool, le-ltb, lt-ltb, ltb-true, ltb-false, lt-leb}
+use Rattle.std.proofs.lemmas.List.{drop_all}
+use Rattle.std.specs.List.{list_all, position_or_len}
+use Rattle.std.specs.Char.{digit_value, is_digit}
+use Rattle.std.specs.Str.Parse.{digits_value_after}
+use Rattle.mk_tool.specs.Paths.{number_behind, pieces_of, parted, onto_first_piece, dot, max_components, short_path, with_number, number_of, numbers_of, path_of}
+use Rattle.std.specs.Option.{option_and_then}
+
+-- more digits make no smaller number
+digits_value_after-ge : (n : ℕ) (digits : List ℕ) → n ≤ digits_value_after 10 n digits
+digits_value_after-ge n [] = omega arith
+digits_value_after-ge n (d ∷ ds) =
+    let rest : n * 10 + digit_value d ≤ digits_value_after 10 (n * 10 + digit_value d) ds = digits_value_after-ge (n * 10 + digit_value d) ds in
+    omega arith
+
+number_behind-large : (n : ℕ) (digits : List ℕ) → 2 ^ 32 ≤ digits_value_after 10 n digits → number_behind n digits ≡ None
+number_behind-large n digits h =
+    let large : nat_lt (digits_value_after 10 n digits) (2 ^ 32) ≡ false = le-ltb _ _ h in
+    elim (cases_Bool (list_all (λ byte. is_digit byte 10) digits)) [ inl t ↦ rw (t, large) refl | inr f ↦ rw f refl ]
+
+-- a number that no longer fits with the digit at a place
+pub number_behind-overflow : (n : ℕ) (text : List ℕ) (place digit : ℕ) → place < length text → digit ≤ digit_value (get_or text place 0)
+    → 2 ^ 32 ≤ n * 10 + digit → number_behind n (drop place text) ≡ None
+number_behind-overflow n text place digit within least large =
+    let value = digit_value (get_or text place 0) in
+    let rest = drop (suc place) text in
+    let more : n * 10 + value ≤ digits_value_after 10 (n * 10 + value) rest = digits_value_after-ge (n * 10 + value) rest in
+    rw (drop-cons text place 0 within) (number_behind-large n (get_or text place 0 ∷ rest) (omega arith))
+
+-- with no digit left the number is read
+pub number_behind-done : (n : ℕ) (text : List ℕ) (place : ℕ) → n < 2 ^ 32 → length text ≤ place → number_behind n (drop place text) ≡ Some n
+number_behind-done n text place small past =
+    let fits : nat_lt n (2 ^ 32) ≡ true = lt-ltb _ _ small in
+    rw (drop_all place text past, fits) refl
+
+-- ---- the pieces of a text
+
+some_same : {A : Type 0} {a b : A} → Some a ≡ Some b → a ≡ b
+some_same e = cc
+
+none_some : {A : Type 0} {a : A} → None ≡ Some a → ⊥
+none_some e = cc
+
+-- where the first separator stands, or the length
+abbrev place_of : ℕ → List ℕ → ℕ
+place_of separator text = position_or_len (λ byte. byte == separator) text
+
+pieces_of-at : (separator : ℕ) (text : List ℕ) → place_of separator text < length text
+    → pieces_of separator text ≡ take (place_of separator text) text ∷ pieces_of separator (drop (suc (place_of separator text)) text)
+pieces_of-at separator [] h = absurd (omega arith)
+pieces_of-at separator (byte ∷ bytes) h = elim (cases_Bool (byte == separator)) [
+  | inl t ↦ rw t refl
+  | inr f ↦
+      let e : 1 + place_of separator bytes ≡ suc (place_of separator bytes) = omega arith in
+      let within : 1 + place_of separator bytes < suc (length bytes) = rw f at h in
+      let rest = pieces_of-at separator bytes (omega arith) in
+      rw (f, e) (ap (onto_first_piece byte) rest)
+]
+
+pieces_of-alone : (separator : ℕ) (text : List ℕ) → length text ≤ place_of separator text → pieces_of separator text ≡ text ∷ []
+pieces_of-alone separator [] h = refl
+pieces_of-alone separator (byte ∷ bytes) h = elim (cases_Bool (byte == separator)) [
+  | inl t ↦ let past : suc (length bytes) ≤ 0 = rw t at h in absurd (omega arith)
+  | inr f ↦
+      let past : suc (length bytes) ≤ 1 + place_of separator bytes = rw f at h in
+      let rest = pieces_of-alone separator bytes (omega arith) in
+      rw f (ap (onto_first_piece byte) rest)
+]
+
+-- a text with a separator is the piece before it and the pieces behind it
+pub pieces_of-parted : (separator : ℕ) (text : List ℕ) (p : List ℕ × List ℕ) → parted separator text ≡ Some p
+    → pieces_of separator text ≡ p.0 ∷ pieces_of separator p.1
+pieces_of-parted separator text p e =
+    let place = place_of separator text in
+    elim (cases_Bool (nat_lt place (length text))) [
+      | inl t ↦
+          let found = rw t at e in
+          let same : (take place text, drop (place + 1) text) ≡ p = some_same found in
+          let cut : pieces_of separator text ≡ take place text ∷ pieces_of separator (drop (place + 1) text) = rw (add-one place) (pieces_of-at separator text (ltb-true _ _ t)) in
+          cut ∙ ap (λ (q : List ℕ × List ℕ). q.0 ∷ pieces_of separator q.1) same
+      | inr f ↦ absurd (none_some (rw f at e))
+    ]
+
+-- a text without a separator is one piece
+pub pieces_of-whole : (separator : ℕ) (text : List ℕ) → parted separator text ≡ None → pieces_of separator text ≡ text ∷ []
+pieces_of-whole separator text e = elim (cases_Bool (nat_lt (place_of separator text) (length text))) [
+  | inl t ↦ absurd (none_some (sym (rw t at e)))
+  | inr f ↦ pieces_of-alone separator text (ltb-false _ _ f)
+]
+
+-- ---- the numbers of a path
+
+-- numbers that were read, and then those of the rest
+abbrev pub numbers_onto : List ℕ → Option (List ℕ) → Option (List ℕ)
+numbers_onto read None = None
+numbers_onto read (Some numbers) = Some (read ++ numbers)
+
+pieces_of-some : (separator : ℕ) (text : List ℕ) → (piece : List ℕ) × (pieces : List (List ℕ)) × (pieces_of separator text ≡ piece ∷ pieces)
+pieces_of-some separator [] = ([], [], refl)
+pieces_of-some separator (byte ∷ bytes) =
+    let rest = pieces_of-some separator bytes in
+    elim (cases_Bool (byte == separator)) [
+      | inl t ↦ ([], pieces_of separator bytes, rw t refl)
+      | inr f ↦ (byte ∷ rest.0, rest.1, rw (f, rest.2) refl)
+    ]
+
+too_long : (read : List ℕ) (number : Option ℕ) (numbers : Option (List ℕ)) → max_components ≤ length read
+    → option_and_then short_path (numbers_onto read (with_number number numbers)) ≡ None
+too_long read None numbers h = refl
+too_long read (Some n) None h = refl
+too_long read (Some n) (Some ns) h =
+    let long : nat_le (length (read ++ n ∷ ns)) max_components ≡ false = lt-leb _ _ (simp (length-append) (omega arith)) in
+    rw long refl
+
+-- a path is too long where all that may be are read and a dot follows
+pub path_of-long : (read text all : List ℕ) → numbers_onto read (numbers_of (pieces_of dot text)) ≡ numbers_of (pieces_of dot all)
+    → max_components ≤ length read → path_of all ≡ None
+path_of-long read text all e h =
+    let some = pieces_of-some dot text in
+    ap (option_and_then short_path) (sym e ∙ ap (λ pieces. numbers_onto read (numbers_of pieces)) some.2) ∙ too_long read (number_of some.0) (numbers_of some.1) h

@@ -1,0 +1,24 @@
+use Rattle.std.proofs.Common.{[], refl}
+use Rattle.std.proofs.KnownBytes.{Appends-nil, Consumes-nil, Keeps-refl}
+use Rattle.mk_tool.proofs.RunLemmas.{AppendsFront-none}
+use Rattle.mk_tool.proofs.engine.run_script.Goals as goal
+
+pub returns-in-Ok-report_syntax-clause-leaves : goal.returns-in-Ok-report_syntax-clause-leaves
+returns-in-Ok-report_syntax-clause-leaves g c =
+    let bad = rw c.in-Err-Syntax.field-0-is at c.in-Err-Syntax.ensures.refused in (
+      [],
+      Consumes-nil _,
+      rw bad (record {
+        status_is = refl;
+        written = record { output = Appends-nil _; errors = c.in-Ok-report_syntax.ensures.whole };
+        read = Keeps-refl _;
+      }),
+    )
+
+pub returns-in-Err-clause-leaves : goal.returns-in-Err-clause-leaves
+returns-in-Err-clause-leaves g c =
+    let bad = rw c.in-Err-Syntax.field-0-is at c.in-Err-Syntax.ensures.refused in
+    ([], Consumes-nil _, rw bad (record { output = AppendsFront-none _ _; errors = c.in-Err.ensures.front; silent = λ _. Keeps-refl _ }))
+
+pub returns-in-Err-Memory-clause-leaves : goal.returns-in-Err-Memory-clause-leaves
+returns-in-Err-Memory-clause-leaves g c = ([], Consumes-nil _, record { output = AppendsFront-none _ _; errors = AppendsFront-none _ _; silent = λ _. Keeps-refl _ })

@@ -1,0 +1,7 @@
+pub mod Paths
+pub mod RunClauses
+pub mod Runs
+pub mod Script
+pub mod ScriptViews
+pub mod Statuses
+pub mod Written

@@ -1,0 +1,91 @@
+//! The devices over the real system.
+
+ghost use Rattle.std.specs.Prelude.{◌≡◌, ◌<◌};
+
+use mk_mail::{Fault, Sink, Source};
+use std::io::{Read, Write};
+
+/// A reader as a source.
+#[derive(Drop)]
+pub struct Input<R: Read> {
+    reader: R,
+    faults: u64,
+    reads: u64,
+}
+
+impl<R: Read + Drop> Input<R> {
+    /// A source over this reader, of which nothing is read yet.
+    pub fn new(reader: R) -> Self {
+        Input {
+            reader,
+            faults: 0,
+            reads: 0,
+        }
+    }
+}
+
+impl<R: Read + Drop> Source for Input<R> {
+    ghost remaining = { λ s. R.remaining s.reader };
+
+    ghost failures = { λ s. s.faults };
+
+    ghost read_count = { λ s. s.reads };
+
+    fn read(&mut self, piece: &mut [u8]) -> Result<usize, Fault> {
+        self.reads = self.reads.saturating_add(1);
+        match self.reader.read(piece) {
+            Ok(count) => Ok(count),
+            Err(_) => {
+                self.faults = self.faults.saturating_add(1);
+                Err(Fault)
+            }
+        }
+    }
+
+    fn faults(&self) -> u64 {
+        self.faults
+    }
+
+    fn reads(&self) -> u64 {
+        self.reads
+    }
+}
+
+/// A writer as a sink.
+#[derive(Drop)]
+pub struct Output<W: Write> {
+    writer: W,
+    faults: u64,
+}
+
+impl<W: Write + Drop> Output<W> {
+    /// A sink over this writer, to which nothing is written yet.
+    pub fn new(writer: W) -> Self {
+        Output { writer, faults: 0 }
+    }
+}
+
+impl<W: Write + Drop> Sink for Output<W> {
+    ghost contents = { λ s. W.contents s.writer };
+
+    ghost failures = { λ s. s.faults };
+
+    fn write(&mut self, piece: &[u8]) -> Result<usize, Fault> {
+        match self.writer.write(piece) {
+            Ok(count) => {
+                if count == 0 && !piece.is_empty() {
+                    self.faults = self.faults.saturating_add(1);
+                }
+                Ok(count)
+            }
+            Err(_) => {
+                self.faults = self.faults.saturating_add(1);
+                Err(Fault)
+            }
+        }
+    }
+
+    fn faults(&self) -> u64 {
+        self.faults
+    }
+}

@@ -1,0 +1,28 @@
+//! `mimetool`: an editor for Internet messages with exact undo.
+#![tactic(auto)]
+
+mod device;
+mod engine;
+pub mod laws;
+mod options;
+mod path;
+mod program;
+mod report;
+mod script;
+mod status;
+mod steps;
+mod transfer;
+
+use device::{Input, Output};
+use std::process::ExitCode;
+
+fn main(rt: HostRuntime) -> ExitCode {
+    let mut input = Input::new(rt.stdin());
+    let mut out = Output::new(rt.stdout());
+    let mut err = Output::new(rt.stderr());
+    let status = program::run(&rt, &mut input, &mut out, &mut err);
+    ExitCode::from(status.code())
+}
+
+#[cfg(test)]
+mod tests;

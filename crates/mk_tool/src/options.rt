@@ -1,0 +1,42 @@
+//! The command line.
+
+use clap::{Arg, ArgAction, Command};
+use std::alloc::{AllocError, Global};
+
+/// What `--version` prints behind the program's name.
+const VERSION: &str = "0.1.0";
+
+/// The subcommand that edits a message by a script.
+pub const EDIT: &str = "edit";
+
+pub const SCRIPT: &str = "SCRIPT";
+
+pub const PIECE: &str = "PIECE";
+
+/// The command line of the program.
+pub fn command<'a>(alloc: Global) -> Result<Command<'a>, AllocError> {
+    Command::new(alloc, "mimetool")
+        .version(VERSION)
+        .about(
+            "Edits an Internet message exactly: the message comes from standard input, the result goes to standard output.",
+        )
+        .subcommand_required(true)
+        .subcommand(edit_command(alloc)?)
+}
+
+// mimetool edit SCRIPT [PIECE..]
+fn edit_command<'a>(alloc: Global) -> Result<Command<'a>, AllocError> {
+    let script = Arg::new(alloc, SCRIPT)
+        .help(
+            "The file with the script: one word a line, as `add 1 Subject: hello`, `undo` or `redo`",
+        )
+        .required(true)
+        .action(ArgAction::Set);
+    let pieces = Arg::new(alloc, PIECE)
+        .help("Files that the script names by their place, from 1 on")
+        .action(ArgAction::Append);
+    Command::new(alloc, EDIT)
+        .about("Edits the message by the words of a script, and prints it")
+        .arg(script)?
+        .arg(pieces)
+}

@@ -1,0 +1,78 @@
+//! The paths of sections, as scripts write them.
+
+ghost use Rattle.std.specs.Prelude.{◌≡◌, ◌==◌, ◌∷◌, option_copied, IfOk};
+ghost use Rattle.std.specs.List.{position};
+ghost use Rattle.std.specs.Option.{option_map};
+ghost use Rattle.mk_tool.specs.Paths.{dot, parted as parted_at, pieces_of, pieces_behind, number_of, path_of};
+
+use std::alloc::{AllocError, Global};
+
+const DOT: u8 = b'.';
+
+const ZERO_DIGIT: u8 = b'0';
+
+/// The most components of a path: no section lies deeper.
+pub const MAX_COMPONENTS: usize = 101;
+
+/// What stands before the first separator and what stands behind it, where there is one.
+pub fn parted(text: &[u8], separator: u8) -> Option<(&[u8], &[u8])>
+    ensures { option_map (λ p. (p.0.now, p.1.now)) result ≡ parted_at separator text.now }
+{
+    match place_of(text, separator) {
+        Some(end) => Some((&text[..end], &text[end + 1..])),
+        None => None,
+    }
+}
+
+// Where the byte first stands.
+fn place_of(text: &[u8], wanted: u8) -> Option<usize>
+    ensures { result ≡ position (λ byte. byte == wanted) text.now }
+{
+    text.iter().position(|byte| *byte == wanted)
+}
+
+/// The path that a text writes: numbers from 1 without leading zeros, joined by dots. `None` where
+/// it writes none.
+pub fn path(alloc: Global, text: &[u8]) -> Result<Option<Vec<u32>>, AllocError>
+    ensures { IfOk result (λ path. option_map (λ numbers. numbers.items) path ≡ path_of text.now) }
+{
+    let mut numbers = Vec::new(alloc);
+    let mut rest = text;
+    for _ in 0..MAX_COMPONENTS {
+        let (piece, more) = first_piece(rest);
+        let Some(number) = number(piece) else {
+            return Ok(None);
+        };
+        numbers.push(number)?;
+        let Some(behind) = more else {
+            return Ok(Some(numbers));
+        };
+        rest = behind;
+    }
+    Ok(None)
+}
+
+// The text before the first dot, and the text behind that dot.
+fn first_piece(text: &[u8]) -> (&[u8], Option<&[u8]>)
+    ensures { pieces_of dot text.now ≡ result.0.now ∷ pieces_behind dot (option_copied result.1) }
+{
+    match parted(text, DOT) {
+        Some((piece, behind)) => (piece, Some(behind)),
+        None => (text, None),
+    }
+}
+
+// The number that a text writes, from 1 on and without leading zeros, where it fits 32 bits.
+fn number(text: &[u8]) -> Option<u32>
+    ensures { result ≡ number_of text.now }
+{
+    if *text.first()? == ZERO_DIGIT {
+        return None;
+    }
+    let mut number = 0u32;
+    for byte in text {
+        let digit = char::from(*byte).to_digit(10)?;
+        number = number.checked_mul(10)?.checked_add(digit)?;
+    }
+    Some(number)
+}

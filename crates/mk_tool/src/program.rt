@@ -1,0 +1,119 @@
+//! The program: from its command line to its exit status.
+
+use crate::device::Input;
+use crate::engine::{give_up, run_edit};
+use crate::options::{EDIT, PIECE, SCRIPT, command};
+use crate::status::{Cause, Status};
+use crate::transfer::{Stop, read_all, write_all};
+use clap::ArgMatches;
+use clap::error::ErrorKind;
+use mk_mail::{Sink, Source};
+use std::rt::{Env, Files};
+use std::{env, fs, io};
+
+const USAGE: &[u8] = b"mimetool: usage\n";
+
+/// Does what the command line says and answers the exit status.
+pub fn run<R: Env + Files + Print + Eprint + AllocGlobal, S: Source, O: Sink, E: Sink>(
+    rt: &R,
+    input: &mut S,
+    out: &mut O,
+    err: &mut E,
+) -> Status {
+    match words(rt) {
+        Ok(words) => match command(rt.alloc()) {
+            Ok(command) => match command.try_get_matches_from(words.as_slice()) {
+                Ok(matches) => run_matches(rt, &matches, input, out, err),
+                Err(error) => refuse(rt, &error, err),
+            },
+            Err(_) => give_up(err, Cause::Memory),
+        },
+        Err(error) => match error.kind() {
+            io::ErrorKind::OutOfMemory => give_up(err, Cause::Memory),
+            _ => usage(err),
+        },
+    }
+}
+
+// The words of the command line. Those that are not text as a whole are an error.
+fn words<R: Env + AllocGlobal>(rt: &R) -> io::Result<Vec<String>> {
+    let words = env::args(rt)?.collect(rt.alloc())?;
+    Ok(words)
+}
+
+// Prints what clap says: help or the version, or why it refuses the command line.
+fn refuse<R: Print + Eprint, E: Sink>(rt: &R, error: &clap::Error, err: &mut E) -> Status {
+    if error.kind() == ErrorKind::OutOfMemory {
+        return give_up(err, Cause::Memory);
+    }
+    let printed = error.print(rt);
+    if error.use_stderr() {
+        Status::Usage
+    } else if printed.is_ok() {
+        Status::Well
+    } else {
+        give_up(err, Cause::Write)
+    }
+}
+
+// Says that the command line is no use. Where that fails too, nothing more is tried.
+fn usage<E: Sink>(err: &mut E) -> Status {
+    let _ = write_all(err, USAGE);
+    Status::Usage
+}
+
+// Runs the subcommand that was given.
+fn run_matches<R: Files + AllocGlobal, S: Source, O: Sink, E: Sink>(
+    rt: &R,
+    matches: &ArgMatches<'_>,
+    input: &mut S,
+    out: &mut O,
+    err: &mut E,
+) -> Status {
+    let Some(matches) = matches.subcommand_matches(EDIT) else {
+        return usage(err);
+    };
+    let Some(script) = matches.get_str(SCRIPT) else {
+        return usage(err);
+    };
+    let pieces = matches.get_strs(PIECE).unwrap_or(&[]);
+    match files(rt, script, pieces) {
+        Ok((script, pieces)) => {
+            run_edit(
+                rt.alloc(),
+                input,
+                out,
+                err,
+                script.as_slice(),
+                pieces.as_slice(),
+            )
+        }
+        Err(Stop::Fault) => give_up(err, Cause::Read),
+        Err(Stop::Memory) => give_up(err, Cause::Memory),
+    }
+}
+
+// The script and the pieces, read whole in the order of the command line.
+fn files<R: Files + AllocGlobal>(
+    rt: &R,
+    script: &str,
+    pieces: &[&str],
+) -> Result<(Vec<u8>, Vec<Vec<u8>>), Stop> {
+    let script = file(rt, script)?;
+    let mut texts = Vec::new(rt.alloc());
+    for piece in pieces {
+        texts.push(file(rt, piece)?)?;
+    }
+    Ok((script, texts))
+}
+
+// A file, read whole.
+fn file<R: Files + AllocGlobal>(rt: &R, path: &str) -> Result<Vec<u8>, Stop> {
+    match fs::open(rt, path) {
+        Ok(file) => read_all(rt.alloc(), &mut Input::new(file)),
+        Err(error) => match error.kind() {
+            io::ErrorKind::OutOfMemory => Err(Stop::Memory),
+            _ => Err(Stop::Fault),
+        },
+    }
+}
