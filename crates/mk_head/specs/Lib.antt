@@ -1,3 +1,13 @@
 pub mod Split
 pub mod Fields
 pub mod Views
+pub mod Values
+pub mod Encodings
+pub mod Boundaries
+pub mod Unfolding
+pub mod ValueViews
+pub mod Depths
+pub mod Matching
+pub mod Types
+pub mod Splits
+pub mod Laws

@@ -47,7 +47,8 @@ pub fn is_from_line(content: &[u8]) -> bool
     content.starts_with(b"From ") && name_len(content).is_none()
 }
 
-pub(crate) fn is_blank(byte: u8) -> bool
+/// Whether the byte is a blank, a space or a tab.
+pub fn is_blank(byte: u8) -> bool
     ensures { result ≡ blank byte }
 {
     byte == SPACE || byte == TAB

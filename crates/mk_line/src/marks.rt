@@ -56,8 +56,8 @@ fn before_dashes(line: &[u8]) -> Option<&[u8]>
     line.strip_suffix(DASHES)
 }
 
-// The content without the blanks at its end.
-fn trimmed(content: &[u8]) -> &[u8]
+/// The content without the blanks at its end.
+pub fn trimmed(content: &[u8]) -> &[u8]
     ensures { result.now ≡ without_blanks content.now }
 {
     let mut size = content.len();

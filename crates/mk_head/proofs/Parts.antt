@@ -1,0 +1,156 @@
+-- Pieces of values, and what stands before and behind a byte.
+use Rattle.std.proofs.Common.{◌≡◌, ◌==◌, ◌&&◌, ◌+◌, ◌-◌, ◌<◌, ℕ, suc, zero, true, false, Option, None, Some, Result, List, [], ◌∷◌, ◌++◌, refl, ap, sym, ◌∙◌, inl, inr, length, take, drop, slice_index, arith, add-one, append_assoc}
+use Rattle.std.proofs.lemmas.Bool.{cases_Bool, false_from_ne_true}
+use Rattle.std.proofs.lemmas.Bool.Decides.{eqb_tells}
+use Rattle.std.proofs.lemmas.List.{take_rest}
+use Rattle.std.specs.List.{prefix_len}
+use Rattle.std.specs.Option.{option_map}
+use Rattle.std.specs.Result.{IfOk}
+use Rattle.std.proofs.lemmas.Result.{IfOk-weaker}
+use Rattle.std.specs.Global.{Vec}
+use Rattle.memchr.specs.Find.{IsFirstByte, is_byte}
+use Rattle.mk_line.specs.Ascii.{is_blank}
+use Rattle.mk_line.specs.Lines.{TextLine, text_line, is_nil, cut, onto_first, with_byte}
+use Rattle.mk_line.specs.declared.cutting.Ending.{Ending}
+use Rattle.mk_line.specs.declared.cutting.Ending.TheVariants.{Crlf, Lf, Missing}
+use Rattle.mk_line.proofs.Cuts.{cut_other}
+use Rattle.mk_line.specs.Marks.{trimmed}
+use Rattle.mk_head.specs.Values.{Scan, Plain, scan, is_plain, semicolon, slash, equals, pieces, push_first, before, behind, behind as stands_behind, unled, stripped, parameters, parameter_before, typed_as, type_of_pieces}
+use Rattle.mk_head.specs.Depths.{first_piece, other_pieces, pieces_behind}
+use Rattle.mk_head.specs.Unfolding.{contents, or_nothing, value_in}
+use Rattle.mk_head.specs.Boundaries.{ends_in_space}
+
+-- the pieces are the first and the others
+pub pieces_parts : (s : Scan) (bytes : List ℕ) → pieces s bytes ≡ first_piece s bytes ∷ other_pieces s bytes
+pieces_parts s [] = refl
+pieces_parts s (b ∷ bytes) =
+    elim (cases_Bool (is_plain s && b == semicolon)) [
+      | inl h ↦ rw h refl
+      | inr h ↦ rw h (ap (push_first b) (pieces_parts (scan s b) bytes))
+    ]
+
+-- before and behind the first byte of a kind
+before_none : (mark : ℕ) (text : List ℕ) → ((k : ℕ) → k < length text → (slice_index text k == mark) ≡ false) → behind mark text ≡ None
+before_none mark [] h = refl
+before_none mark (b ∷ text) h = rw (h 0 (omega arith)) (before_none mark text (λ k l. h (suc k) (omega arith)))
+
+before_at : (mark n : ℕ) (text : List ℕ) → n < length text → ((k : ℕ) → k < n → (slice_index text k == mark) ≡ false) → (slice_index text n == mark) ≡ true → (take n text ≡ before mark text) × (behind mark text ≡ Some (drop (suc n) text))
+before_at mark n [] l h e = let none : n < 0 = l in absurd (omega arith)
+before_at mark zero (b ∷ text) l h e = (rw e refl, rw e refl)
+before_at mark (suc n) (b ∷ text) l h e =
+    let p = before_at mark n text (omega (arith, l)) (λ k q. h (suc k) (omega arith)) e in
+    (rw (h 0 (omega arith)) (ap (λ xs. b ∷ xs) p.0), rw (h 0 (omega arith)) p.1)
+
+pub unfound : (mark : ℕ) (text : List ℕ) → IsFirstByte (is_byte mark) text None → behind mark text ≡ None
+unfound mark text h = before_none mark text (λ k l. false_from_ne_true (slice_index text k == mark) (h k (omega arith) l))
+
+pub found : (mark end : ℕ) (text : List ℕ) → IsFirstByte (is_byte mark) text (Some end) → (take end text ≡ before mark text) × (behind mark text ≡ Some (take (length text - (end + 1)) (drop (end + 1) text)))
+found mark end text h =
+    let p = before_at mark end text h.0.high (λ k l. false_from_ne_true (slice_index text k == mark) (h.0.before k (omega arith) l)) h.1 in
+    (p.0, p.1 ∙ ap (λ xs. Some xs) (ap (λ n. drop n text) (sym (add-one end)) ∙ sym (take_rest text (end + 1))))
+
+one_more : (n : ℕ) → 1 + n ≡ suc n
+one_more n = omega arith
+
+-- without the blanks in front
+pub unled_at : (text : List ℕ) → unled text ≡ drop (prefix_len is_blank text) text
+unled_at [] = refl
+unled_at (b ∷ text) =
+    elim (cases_Bool (is_blank b)) [
+      | inl h ↦ rw (h, one_more (prefix_len is_blank text)) (unled_at text)
+      | inr h ↦ rw h refl
+    ]
+
+pub stripped_at : (text : List ℕ) (n : ℕ) → n ≡ prefix_len is_blank text → trimmed (take (length text - n) (drop n text)) ≡ stripped text
+stripped_at text n e = ap trimmed (take_rest text n ∙ (ap (λ k. drop k text) e ∙ sym (unled_at text)))
+
+-- the last byte tells whether a text ends in a space
+last_at : (b : ℕ) (bytes : List ℕ) (n : ℕ) → length bytes ≡ n → (slice_index (b ∷ bytes) n == 32) ≡ ends_in_space (b ∷ bytes)
+last_at b [] zero e = refl
+last_at b [] (suc n) e = absurd (omega (arith, e))
+last_at b (c ∷ bytes) zero e = absurd (omega (arith, e))
+last_at b (c ∷ bytes) (suc n) e = last_at c bytes n (omega (arith, e))
+
+pub last_space : (bytes : List ℕ) → (slice_index bytes (length bytes - 1) == 32) ≡ ends_in_space bytes
+last_space [] = refl
+last_space (b ∷ bytes) = last_at b bytes (length (b ∷ bytes) - 1) (omega arith)
+
+-- behind the colon of a field's lines
+with_contents : (b : ℕ) (content : List ℕ) (e : Ending) (ls : List TextLine) → (b == 58) ≡ false → behind 58 (contents (with_byte b (text_line content e) ∷ ls)) ≡ behind 58 (contents (text_line content e ∷ ls))
+with_contents b content Crlf ls h = rw h refl
+with_contents b [] Lf ls h =
+    elim (cases_Bool (b == 13)) [
+      | inl r ↦ rw r refl
+      | inr r ↦ rw r (rw h refl)
+    ]
+with_contents b (c ∷ content) Lf ls h = rw h refl
+with_contents b content Missing ls h = rw h refl
+
+onto_contents : (b : ℕ) (ls : List TextLine) → (b == 58) ≡ false → behind 58 (contents (onto_first b ls)) ≡ behind 58 (contents ls)
+onto_contents b [] h = rw h refl
+onto_contents b (l ∷ ls) h = with_contents b l.content l.ending ls h
+
+colon_line : (content : List ℕ) (e : Ending) (ls : List TextLine) → behind 58 (contents (with_byte 58 (text_line content e) ∷ ls)) ≡ Some (contents (text_line content e ∷ ls))
+colon_line content Crlf ls = refl
+colon_line [] Lf ls = refl
+colon_line (c ∷ content) Lf ls = refl
+colon_line content Missing ls = refl
+
+colon_contents : (ls : List TextLine) → behind 58 (contents (onto_first 58 ls)) ≡ Some (contents ls)
+colon_contents [] = refl
+colon_contents (l ∷ ls) = colon_line l.content l.ending ls
+
+pub behind_contents : (text : List ℕ) → behind 58 (contents (cut text)) ≡ option_map (λ rest. contents (cut rest)) (behind 58 text)
+behind_contents [] = refl
+behind_contents (b ∷ text) =
+    elim (eqb_tells b 58) [
+      | inl h ↦ rw h.1 (colon_contents (cut text))
+      | inr h ↦
+          elim (cases_Bool (b == 10)) [
+            | inl f ↦ rw (f, h.0) (behind_contents text)
+            | inr f ↦ rw (cut_other b text f, h.0) (onto_contents b (cut text) h.0 ∙ behind_contents text)
+          ]
+    ]
+
+pub value_some : (raw rest : List ℕ) → behind 58 raw ≡ Some rest → contents (cut rest) ≡ value_in (cut raw)
+value_some raw rest e = sym (ap or_nothing (behind_contents raw ∙ ap (option_map (λ r. contents (cut r))) e))
+
+pub unfolded_none : (raw : List ℕ) → behind 58 raw ≡ None → [] ≡ value_in (cut raw)
+unfolded_none raw e = sym (ap or_nothing (behind_contents raw ∙ ap (option_map (λ r. contents (cut r))) e))
+
+pub unfolded_some : {V : Type 0} (raw rest : List ℕ) (r : Result (Vec ℕ) V) → behind 58 raw ≡ Some rest → IfOk r (λ v. v.items ≡ contents (cut rest)) → IfOk r (λ v. v.items ≡ value_in (cut raw))
+unfolded_some raw rest r e h = IfOk-weaker r (λ v. v.items ≡ contents (cut rest)) (λ v. v.items ≡ value_in (cut raw)) (λ v p. p ∙ value_some raw rest e) h
+
+-- a list with no element, and one with some
+pub some_token : (text : List ℕ) → (length text == 0) ≡ false → is_nil text ≡ false
+some_token [] h = cc
+some_token (b ∷ text) h = refl
+
+-- the pieces behind a semicolon
+pub behind_parts : (rest behind others : List ℕ) (end : ℕ) (b : ℕ) → rest ≡ b ∷ behind → other_pieces Plain behind ≡ pieces_behind (drop end behind) → others ≡ drop end behind → pieces_behind rest ≡ first_piece Plain behind ∷ pieces_behind others
+behind_parts rest behind others end b e o q = ap pieces_behind e ∙ (pieces_parts Plain behind ∙ ap (λ ps. first_piece Plain behind ∷ ps) (o ∙ ap pieces_behind (sym q)))
+
+parameter_append : (name : List ℕ) (value : Option (List ℕ)) (others : List (List ℕ × List ℕ)) → parameter_before name value others ≡ parameter_before name value [] ++ others
+parameter_append name None others = refl
+parameter_append name (Some value) others = refl
+
+-- one parameter more
+pub parameters_next : (params more all : List (List ℕ × List ℕ)) (rest behind others piece : List ℕ) (end b : ℕ) → rest ≡ b ∷ behind → other_pieces Plain behind ≡ pieces_behind (drop end behind) → others ≡ drop end behind
+    → first_piece Plain behind ≡ take end behind → piece ≡ take end behind → more ≡ params ++ parameter_before (before equals piece) (stands_behind equals piece) []
+    → params ++ parameters (pieces_behind rest) ≡ all → more ++ parameters (pieces_behind others) ≡ all
+parameters_next params more all rest behind others piece end b e o q f p m t =
+    let named : piece ≡ first_piece Plain behind = p ∙ sym f in
+    ap (λ xs. xs ++ parameters (pieces_behind others)) m
+    ∙ (append_assoc params (parameter_before (before equals piece) (stands_behind equals piece) []) (parameters (pieces_behind others))
+    ∙ (ap (λ xs. params ++ xs) (sym (parameter_append (before equals piece) (stands_behind equals piece) (parameters (pieces_behind others))))
+    ∙ (ap (λ x. params ++ parameter_before (before equals x) (stands_behind equals x) (parameters (pieces_behind others))) named
+    ∙ (ap (λ ps. params ++ parameters ps) (sym (behind_parts rest behind others end b e o q)) ∙ t))))
+
+-- the content type of its pieces
+pub typed_parts : (text first others : List ℕ) (end : ℕ) → first_piece Plain text ≡ take end text → other_pieces Plain text ≡ pieces_behind (drop end text) → first ≡ take end text → others ≡ drop end text
+    → typed_as (before slash (stripped first)) (stands_behind slash (stripped first)) (parameters (pieces_behind others)) ≡ type_of_pieces (pieces Plain text)
+typed_parts text first others end f o p q =
+    let named : first ≡ first_piece Plain text = p ∙ sym f in
+    ap (λ x. typed_as (before slash (stripped x)) (stands_behind slash (stripped x)) (parameters (pieces_behind others))) named
+    ∙ (ap (λ ps. typed_as (before slash (stripped (first_piece Plain text))) (stands_behind slash (stripped (first_piece Plain text))) (parameters ps)) (ap pieces_behind q ∙ sym o)
+    ∙ ap type_of_pieces (sym (pieces_parts Plain text)))

@@ -1,0 +1,45 @@
+-- What fields say of a body: its content type and its encoding (RFC 2045, 5.1, 5.2 and 6; RFC 2046, 5.1.5 for digests).
+use Rattle.std.specs.Prelude.{◌&&◌, if◌then◌else◌, ℕ, Bool, true, false, Option, None, Some, List, [], ◌∷◌, codes}
+use Rattle.mk_line.specs.Lines.{TextLine}
+use Rattle.mk_line.specs.Marks.{trimmed}
+use Rattle.mk_head.specs.declared.encodings.Encoding.{Encoding}
+use Rattle.mk_head.specs.declared.encodings.Encoding.TheVariants.{Identity}
+use Rattle.mk_head.specs.Split.{is_start}
+use Rattle.mk_head.specs.Fields.{continuations, field_text, is_named}
+use Rattle.mk_head.specs.Unfolding.{value_in}
+use Rattle.mk_head.specs.Values.{MediaType, media_type, content_type_of, param_of}
+use Rattle.mk_head.specs.Encodings.{encoding_of}
+
+-- the value of the first field of a name among the lines of a header
+abbrev pub field_value : List ℕ → List TextLine → Option (List ℕ)
+field_value name [] = None
+field_value name (l ∷ ls) = if is_start l && is_named name (field_text l []) then Some (value_in (l ∷ continuations ls)) else field_value name ls
+
+-- without a Content-Type field the type is the default: text/plain, and message/rfc822 for the parts of a digest
+abbrev pub default_type : Bool → MediaType
+default_type true = media_type (codes "message") (codes "rfc822") []
+default_type false = media_type (codes "text") (codes "plain") []
+
+abbrev pub type_by : Bool → Option (List ℕ) → MediaType
+type_by digest None = default_type digest
+type_by digest (Some value) = content_type_of value
+
+-- the content type of a header
+abbrev pub header_type : Bool → List TextLine → MediaType
+header_type digest fields = type_by digest (field_value (codes "Content-Type") fields)
+
+abbrev pub encoding_by : Option (List ℕ) → Encoding
+encoding_by None = Identity
+encoding_by (Some value) = encoding_of value
+
+-- the transfer encoding of a header
+abbrev pub header_encoding : List TextLine → Encoding
+header_encoding fields = encoding_by (field_value (codes "Content-Transfer-Encoding") fields)
+
+abbrev pub trimmed_boundary : Option (List ℕ) → List ℕ
+trimmed_boundary None = []
+trimmed_boundary (Some boundary) = trimmed boundary
+
+-- the boundary of a content type: the parameter without the blanks at its end; an empty one is none (own)
+abbrev pub boundary_of : MediaType → List ℕ
+boundary_of t = trimmed_boundary (param_of (codes "boundary") t.params)

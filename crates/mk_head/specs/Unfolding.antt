@@ -1,0 +1,18 @@
+-- The value of a field (RFC 5322, 2.2.3).
+use Rattle.std.specs.Prelude.{◌++◌, ℕ, Option, None, Some, List, [], ◌∷◌}
+use Rattle.mk_line.specs.Ascii.{colon}
+use Rattle.mk_line.specs.Lines.{TextLine}
+use Rattle.mk_head.specs.Values.{behind}
+
+-- the contents of lines, joined
+abbrev pub contents : List TextLine → List ℕ
+contents [] = []
+contents (l ∷ ls) = l.content ++ contents ls
+
+abbrev pub or_nothing : Option (List ℕ) → List ℕ
+or_nothing None = []
+or_nothing (Some bytes) = bytes
+
+-- what stands behind the first colon
+abbrev pub value_in : List TextLine → List ℕ
+value_in ls = or_nothing (behind colon (contents ls))

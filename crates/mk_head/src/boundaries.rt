@@ -1,0 +1,41 @@
+//! Boundaries that may be made (RFC 2046, 5.1.1).
+ghost use Rattle.std.specs.Prelude.{◌≡◌};
+ghost use Rattle.std.specs.List.{list_all};
+ghost use Rattle.mk_head.specs.Boundaries.{is_boundary as boundary, is_boundary_byte as boundary_byte, ends_in_space as spaced};
+
+const SPACE: u8 = b' ';
+
+const LONGEST: usize = 70;
+
+const OTHERS: &[u8; 13] = b"'()+_,-./:=? ";
+
+/// Whether the text is 1 to 70 of the digits, the letters, `' ( ) + _ , - . / : = ?` and space, the last not a space.
+pub fn is_boundary(text: &[u8]) -> bool
+    ensures { result ≡ boundary text.now }
+{
+    !text.is_empty() && text.len() <= LONGEST && are_boundary_bytes(text) && !ends_in_space(text)
+}
+
+fn are_boundary_bytes(text: &[u8]) -> bool
+    ensures { result ≡ list_all boundary_byte text.now }
+{
+    text.iter().all(|byte| is_boundary_byte(*byte))
+}
+
+fn is_boundary_byte(byte: u8) -> bool
+    ensures { result ≡ boundary_byte byte }
+{
+    byte >= b'0' && byte <= b'9'
+        || byte >= b'A' && byte <= b'Z'
+        || byte >= b'a' && byte <= b'z'
+        || OTHERS.contains(&byte)
+}
+
+fn ends_in_space(text: &[u8]) -> bool
+    ensures { result ≡ spaced text.now }
+{
+    match text {
+        [.., last] => *last == SPACE,
+        [] => false,
+    }
+}
