@@ -15,7 +15,11 @@ pub struct Input<R: Read> {
 
 impl<R: Read + Drop> Input<R> {
     /// A source over this reader, of which nothing is read yet.
-    pub fn new(reader: R) -> Self {
+    pub fn new(reader: R) -> Self
+        ensures same { ⟦<Input<R> as Source>⟧.remaining result ≡ R.remaining reader }
+        ensures well { ⟦<Input<R> as Source>⟧.failures result ≡ 0 }
+        ensures unread { ⟦<Input<R> as Source>⟧.read_count result ≡ 0 }
+    {
         Input {
             reader,
             faults: 0,
@@ -60,7 +64,10 @@ pub struct Output<W: Write> {
 
 impl<W: Write + Drop> Output<W> {
     /// A sink over this writer, to which nothing is written yet.
-    pub fn new(writer: W) -> Self {
+    pub fn new(writer: W) -> Self
+        ensures same { ⟦<Output<W> as Sink>⟧.contents result ≡ W.contents writer }
+        ensures well { ⟦<Output<W> as Sink>⟧.failures result ≡ 0 }
+    {
         Output { writer, faults: 0 }
     }
 }

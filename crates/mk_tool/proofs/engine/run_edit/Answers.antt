@@ -9,5 +9,8 @@ returns-in-Err-clause-leaves g c =
     let run = run_of left.0 c.args.script.now in
     let before = held (g.S.Source.remaining c.args.input.now) (g.O.Sink.contents c.args.out.now) (g.E.Sink.contents c.args.err.now) in
     let after = held (g.S.Source.remaining c.run_script.new.input) (g.O.Sink.contents c.run_script.new.out) (g.E.Sink.contents c.give_up.new.err) in
-    rw c.give_up.ensures.status (left.0, left.1
-    , Leaves-given_up c.in-Err.cause run before after (g.E.Sink.contents c.run_script.new.err) left.2.output left.2.errors c.give_up.ensures.line left.2.silent)
+    rw c.give_up.ensures.status (
+      left.0,
+      left.1,
+      Leaves-given_up c.in-Err.cause run before after (g.E.Sink.contents c.run_script.new.err) left.2.output left.2.errors c.give_up.ensures.line left.2.silent,
+    )

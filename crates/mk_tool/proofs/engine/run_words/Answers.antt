@@ -9,13 +9,15 @@ use Rattle.mk_tool.proofs.engine.run_words.Goals.{then-refused, else-refused}
 pub returns-in-Ok-send-clause-leaves : goal.returns-in-Ok-send-clause-leaves
 returns-in-Ok-send-clause-leaves g c =
     let status_is : c.if-refused.result ≡ (if c.in-Ok-do_words.refused then Refused else Well) = elim c.if-refused.branch [
-        | then-refused w ↦ rw w.if-refused.true w.result-is
-        | else-refused w ↦ rw w.if-refused.false w.result-is
-      ] in
+      | then-refused w ↦ rw w.if-refused.true w.result-is
+      | else-refused w ↦ rw w.if-refused.false w.result-is
+    ] in
     let done = c.in-Ok-do_words.ensures in
     let words = map numbered c.args.words.items in
     let before = held (g.S.Source.remaining c.args.input.now) (g.O.Sink.contents c.args.out.now) (g.E.Sink.contents c.args.err.now) in
-    let after = held (g.S.Source.remaining c.read_all.new.input) (g.O.Sink.contents c.send.new.out) (g.E.Sink.contents c.do_words.new.err) in
-    (c.in-Ok.message.items, c.in-Ok.ensures.all
-    , Leaves-done words c.in-Ok.message.items c.text.result.now c.in-Ok-start.session c.do_words.new.session c.in-Ok-do_words.refused c.if-refused.result before after
-        c.in-Ok-start.ensures.ok done.done c.text.ensures.now done.refused status_is c.in-Ok.ensures.ended c.in-Ok-send.ensures.whole done.sends.whole)
+    let after = held (g.S.Source.remaining c.read_all.new.input) (g.O.Sink.contents c.send.new.out) (g.E.Sink.contents c.do_words.new.err) in (
+      c.in-Ok.message.items,
+      c.in-Ok.ensures.all,
+      Leaves-done words c.in-Ok.message.items c.text.result.now c.in-Ok-start.session c.do_words.new.session c.in-Ok-do_words.refused c.if-refused.result before after
+          c.in-Ok-start.ensures.ok done.done c.text.ensures.now done.refused status_is c.in-Ok.ensures.ended c.in-Ok-send.ensures.whole done.sends.whole,
+    )
