@@ -11,7 +11,7 @@ use Rattle.mk_head.specs.Fields.{is_one_field}
 use Rattle.mk_head.proofs.Splits.{fields_rest, separator_body}
 use Rattle.mk_head.proofs.FieldRuns.{more_start}
 use Rattle.mk_tree.specs.Tree.{leaf, read, field_lines, with_fields}
-use Rattle.mk_tree.specs.Documents.{Document, enveloped, document_of, document_lines}
+use Rattle.mk_tree.specs.Documents.{levels, Document, enveloped, document_of, document_lines}
 use Rattle.mk_tree.specs.Equal.{is_stable}
 use Rattle.mk_tree.proofs.Equals.{test_stable, stable_test}
 use Rattle.mk_edit.specs.Reasons.{added, with_root, lines_before, is_open_early}
@@ -24,7 +24,7 @@ EnvelopeIs None = Unit {0}
 EnvelopeIs (Some l) = is_from_line l.content ≡ true
 
 abbrev pub document : Option TextLine → List TextLine → Document
-document envelope ls = record { envelope = envelope; root = read ls }
+document envelope ls = record { envelope = envelope; root = read levels false ls }
 
 -- lines as an envelope and the lines of the root
 pub record Opened (ls : List TextLine) : Type 0 where
@@ -117,7 +117,7 @@ around_is false envelope ls = append_assoc (option_line envelope) (fields_from f
 
 -- the edited document
 abbrev pub planned : Bool → List TextLine → Option TextLine → List TextLine → Document
-planned top g envelope ls = with_root (document envelope ls) (with_fields (added top g (fields_from false ls)) (read ls))
+planned top g envelope ls = with_root (document envelope ls) (with_fields (added top g (fields_from false ls)) (read levels false ls))
 
 rest_lines : (ls : List TextLine) → option_line (separator_of (rest_from false ls)) ++ behind_head ls ≡ rest_from false ls
 rest_lines ls = separator_body (rest_from false ls)
@@ -168,7 +168,7 @@ fields_other false g ls h o e =
 rest_same : (fs rest : List TextLine) → fields_from false (fs ++ rest) ≡ fs → rest_from false (fs ++ rest) ≡ rest
 rest_same fs rest e = append_cancel_left fs (rest_from false (fs ++ rest)) rest (ap (λ xs. xs ++ rest_from false (fs ++ rest)) (sym e) ∙ fields_rest false (fs ++ rest))
 
-read_same : (fs ls : List TextLine) → fields_from false (fs ++ rest_from false ls) ≡ fs → read (fs ++ rest_from false ls) ≡ with_fields fs (read ls)
+read_same : (fs ls : List TextLine) → fields_from false (fs ++ rest_from false ls) ≡ fs → read levels false (fs ++ rest_from false ls) ≡ with_fields fs (read levels false ls)
 read_same fs ls e =
     let r = rest_same fs (rest_from false ls) e in
     λ i. leaf (record { fields = e i; separator = separator_of (r i) }) (body_of (r i))

@@ -3,11 +3,11 @@
 //! local tests.
 use super::*;
 use mk_line::{Ending, Meter, cut, is_continuation, is_from_line, name_len};
-use std::alloc::Global;
+use std::alloc::{AllocError, Global};
 use std::process::Abort;
 use std::test::Fail;
 
-fn added(alloc: Global, top: bool, text: &[u8]) -> Result<Edit, Fail> {
+fn added(alloc: Global, top: bool, text: &[u8]) -> Result<Edit, AllocError> {
     let path = Vec::from_slice(alloc, &[1])?;
     let text = Vec::from_slice(alloc, text)?;
     Ok(Edit::AddField { path, top, text })
@@ -215,6 +215,54 @@ fn a_new_step_takes_the_place_of_what_was_undone(rt: HostRuntime) -> Result<(), 
     assert_eq!(rt; session.text(), text.as_slice());
     assert_eq!(rt; session.undone(), 1);
     Ok(())
+}
+
+// Makes a call that may want memory. Where it does, all must be as before, and a second call must go through: only one
+// growth is refused in a run.
+fn insist(rt: &impl Abort, session: &mut Session, command: &Command) {
+    let (size, done, undone) = (session.text().len(), session.done(), session.undone());
+    let answer = once(session, command);
+    if answer == Err(EditError::Memory) {
+        assert_eq!(rt; session.text().len(), size);
+        assert_eq!(rt; session.done(), done);
+        assert_eq!(rt; session.undone(), undone);
+        assert_eq!(rt; once(session, command), Ok(()));
+    } else {
+        assert_eq!(rt; answer, Ok(()));
+    }
+}
+
+fn once(session: &mut Session, command: &Command) -> Result<(), EditError> {
+    match command {
+        Command::Do(edit) => session.edit(edit, &mut Meter::new()),
+        Command::Undo => session.undo(),
+        Command::Redo => session.redo(),
+    }
+}
+
+fn parts(alloc: Global) -> Result<(Session, Command, Command), AllocError> {
+    let first = Command::Do(added(alloc, false, b"C: d\n")?);
+    let second = Command::Do(added(alloc, true, b"E: f\n")?);
+    let text = Vec::from_slice(alloc, b"A: b\n\nx\n")?;
+    match Session::start(alloc, text) {
+        Ok(session) => Ok((session, first, second)),
+        Err((_, error)) => Err(error),
+    }
+}
+
+#[test]
+fn memory_that_is_refused_once_leaves_all_as_before(rt: HostRuntime) {
+    let made = parts(rt.alloc());
+    if let Ok((mut session, first, second)) = made {
+        insist(&rt, &mut session, &first);
+        insist(&rt, &mut session, &second);
+        assert_eq!(rt; session.text(), b"E: f\nA: b\nC: d\n\nx\n".as_slice());
+        insist(&rt, &mut session, &Command::Undo);
+        insist(&rt, &mut session, &Command::Undo);
+        assert_eq!(rt; session.text(), b"A: b\n\nx\n".as_slice());
+        insist(&rt, &mut session, &Command::Redo);
+        assert_eq!(rt; session.text(), b"A: b\nC: d\n\nx\n".as_slice());
+    }
 }
 
 // What a text is read as: whether it has an envelope, how many lines its header has, and how many it has.

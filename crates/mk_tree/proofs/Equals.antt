@@ -1,14 +1,14 @@
 -- The tests of equality tell.
-use Rattle.std.proofs.Common.{◌≡◌, ◌↔◌, ◌&&◌, ℕ, Bool, true, false, Option, None, Some, List, [], ◌∷◌, refl, ap, sym, ◌∙◌}
+use Rattle.std.proofs.Common.{◌≡◌, ◌↔◌, ◌&&◌, Bool, true, false, Option, None, Some, List, [], ◌∷◌, refl, ap, ◌∙◌}
 use Rattle.std.proofs.lemmas.Slice.Eq.{bytes_eq-Decides}
 use Rattle.std.specs.Str.{bytes_eq}
 use Rattle.mk_line.specs.declared.cutting.Ending.{Ending}
 use Rattle.mk_line.specs.declared.cutting.Ending.TheVariants.{Crlf, Lf, Missing}
 use Rattle.mk_line.specs.Lines.{TextLine}
 use Rattle.mk_head.specs.Split.{Head}
-use Rattle.mk_tree.specs.Tree.{Entity, leaf}
+use Rattle.mk_tree.specs.Tree.{Entity, leaf, message, multi, Parts, no_parts, part}
 use Rattle.mk_tree.specs.Documents.{Document, IsStable, tree, printed}
-use Rattle.mk_tree.specs.Equal.{ending_eq, line_eq, lines_eq, option_eq, head_eq, entity_eq, document_eq, is_stable}
+use Rattle.mk_tree.specs.Equal.{ending_eq, line_eq, lines_eq, option_eq, head_eq, tail_eq, entity_eq, parts_eq, document_eq, is_stable}
 
 both : (a b : Bool) → (a && b) ≡ true → (a ≡ true) × (b ≡ true)
 both true b h = (refl, h)
@@ -71,13 +71,61 @@ head_same h k e =
 head_self : (h : Head) → head_eq h h ≡ true
 head_self h = and_true (lines_eq h.fields h.fields) (option_eq h.separator h.separator) (lines_self h.fields) (option_self h.separator)
 
-entity_same : (d e : Entity) → entity_eq d e ≡ true → d ≡ e
-entity_same (leaf h ls) (leaf k ms) t =
-    let p = both (head_eq h k) (lines_eq ls ms) t in
-    λ i. leaf (head_same h k p.0 i) (lines_same ls ms p.1 i)
+tail_same : (t u : Option (TextLine × List TextLine)) → tail_eq t u ≡ true → t ≡ u
+tail_same None None h = refl
+tail_same None (Some q) h = cc
+tail_same (Some p) None h = cc
+tail_same (Some p) (Some q) h =
+    let w = both (line_eq p.0 q.0) (lines_eq p.1 q.1) h in
+    λ i. Some (line_same p.0 q.0 w.0 i, lines_same p.1 q.1 w.1 i)
 
-entity_self : (e : Entity) → entity_eq e e ≡ true
-entity_self (leaf h ls) = and_true (head_eq h h) (lines_eq ls ls) (head_self h) (lines_self ls)
+tail_self : (t : Option (TextLine × List TextLine)) → tail_eq t t ≡ true
+tail_self None = refl
+tail_self (Some p) = and_true (line_eq p.0 p.0) (lines_eq p.1 p.1) (line_self p.0) (lines_self p.1)
+
+mutual
+  entity_same : (d e : Entity) → entity_eq d e ≡ true → d ≡ e
+  entity_same (leaf h ls) (leaf k ms) t =
+      let p = both (head_eq h k) (lines_eq ls ms) t in
+      λ i. leaf (head_same h k p.0 i) (lines_same ls ms p.1 i)
+  entity_same (leaf h ls) (message k f) t = cc
+  entity_same (leaf h ls) (multi k c qre qs u) t = cc
+  entity_same (message h e) (leaf k ms) t = cc
+  entity_same (message h e) (message k f) t =
+      let p = both (head_eq h k) (entity_eq e f) t in
+      λ i. message (head_same h k p.0 i) (entity_same e f p.1 i)
+  entity_same (message h e) (multi k c qre qs u) t = cc
+  entity_same (multi h b pre ps t) (leaf k ms) e = cc
+  entity_same (multi h b pre ps t) (message k f) e = cc
+  entity_same (multi h b pre ps t) (multi k c qre qs u) e =
+      let p = both (head_eq h k) (bytes_eq b c && (lines_eq pre qre && (parts_eq ps qs && tail_eq t u))) e in
+      let q = both (bytes_eq b c) (lines_eq pre qre && (parts_eq ps qs && tail_eq t u)) p.1 in
+      let r = both (lines_eq pre qre) (parts_eq ps qs && tail_eq t u) q.1 in
+      let s = both (parts_eq ps qs) (tail_eq t u) r.1 in
+      λ i. multi (head_same h k p.0 i) ((bytes_eq-Decides b c).0 q.0 i) (lines_same pre qre r.0 i) (parts_same ps qs s.0 i) (tail_same t u s.1 i)
+
+  parts_same : (ps qs : Parts) → parts_eq ps qs ≡ true → ps ≡ qs
+  parts_same no_parts no_parts t = refl
+  parts_same no_parts (part m f qs) t = cc
+  parts_same (part l e ps) no_parts t = cc
+  parts_same (part l e ps) (part m f qs) t =
+      let p = both (line_eq l m) (entity_eq e f && parts_eq ps qs) t in
+      let q = both (entity_eq e f) (parts_eq ps qs) p.1 in
+      λ i. part (line_same l m p.0 i) (entity_same e f q.0 i) (parts_same ps qs q.1 i)
+
+mutual
+  entity_self : (e : Entity) → entity_eq e e ≡ true
+  entity_self (leaf h ls) = and_true (head_eq h h) (lines_eq ls ls) (head_self h) (lines_self ls)
+  entity_self (message h e) = and_true (head_eq h h) (entity_eq e e) (head_self h) (entity_self e)
+  entity_self (multi h b pre ps t) =
+      and_true (head_eq h h) (bytes_eq b b && (lines_eq pre pre && (parts_eq ps ps && tail_eq t t))) (head_self h)
+      (and_true (bytes_eq b b) (lines_eq pre pre && (parts_eq ps ps && tail_eq t t)) ((bytes_eq-Decides b b).1 refl)
+      (and_true (lines_eq pre pre) (parts_eq ps ps && tail_eq t t) (lines_self pre)
+      (and_true (parts_eq ps ps) (tail_eq t t) (parts_self ps) (tail_self t))))
+
+  parts_self : (ps : Parts) → parts_eq ps ps ≡ true
+  parts_self no_parts = refl
+  parts_self (part l e ps) = and_true (line_eq l l) (entity_eq e e && parts_eq ps ps) (line_self l) (and_true (entity_eq e e) (parts_eq ps ps) (entity_self e) (parts_self ps))
 
 document_same : (s t : Document) → document_eq s t ≡ true → s ≡ t
 document_same s t h =

@@ -1,18 +1,32 @@
 -- A document's lines are the lines that it was read from.
-use Rattle.std.proofs.Common.{◌≡◌, ◌++◌, ℕ, Bool, true, false, List, [], ◌∷◌, refl, ap, sym, ◌∙◌, append_assoc}
+use Rattle.std.proofs.Common.{◌≡◌, ◌++◌, ℕ, zero, suc, Bool, true, false, List, [], ◌∷◌, refl, ap, ◌∙◌}
 use Rattle.mk_line.specs.Lines.{TextLine, cut, text_of}
 use Rattle.mk_line.specs.Kinds.{is_from_line}
 use Rattle.mk_line.proofs.Cuts.{text_cut}
 use Rattle.mk_head.proofs.Splits.{head_body}
-use Rattle.mk_tree.specs.Tree.{read, print}
-use Rattle.mk_tree.specs.Documents.{Document, enveloped, document_of, tree, document_lines, printed}
+use Rattle.mk_head.specs.Split.{Head, head_of, head_lines, behind_head}
+use Rattle.mk_tree.specs.Kinds.{Kind, Leaf, Message, Multi, kind}
+use Rattle.mk_tree.specs.Cutting.{cut_by, parts_lines}
+use Rattle.mk_tree.specs.Tree.{Entity, parts_by, entity_by, read, print, print_parts}
+use Rattle.mk_tree.proofs.OneCut.{cut_is}
+use Rattle.mk_tree.specs.Documents.{levels, enveloped, document_of, tree, document_lines, printed}
 
-pub print_read : (ls : List TextLine) → print (read ls) ≡ ls
-print_read ls = head_body ls
+pub print_parts_by : (f : List TextLine → Entity) → ((ls : List TextLine) → print (f ls) ≡ ls) → (ps : List (TextLine × List TextLine)) → print_parts (parts_by f ps) ≡ parts_lines ps
+print_parts_by f h [] = refl
+print_parts_by f h (p ∷ ps) = rw (h p.1, print_parts_by f h ps) refl
+
+print_by : (f : Bool → List TextLine → Entity) → ((d : Bool) (ls : List TextLine) → print (f d ls) ≡ ls) → (k : Kind) (h : Head) (ls : List TextLine) → print (entity_by f k h ls) ≡ head_lines h ++ ls
+print_by f e Leaf h ls = refl
+print_by f e Message h ls = ap (λ xs. head_lines h ++ xs) (e false ls)
+print_by f e (Multi b digest) h ls = rw (print_parts_by (f digest) (e digest) (cut_by b ls).parts, (cut_is b ls).joined) refl
+
+pub print_read : (n : ℕ) (d : Bool) (ls : List TextLine) → print (read n d ls) ≡ ls
+print_read zero d ls = head_body ls
+print_read (suc n) d ls = print_by (read n) (print_read n) (kind (head_of ls).fields d) (head_of ls) (behind_head ls) ∙ head_body ls
 
 enveloped_kept : (t : Bool) (l : TextLine) (ls : List TextLine) → document_lines (enveloped t l ls) ≡ l ∷ ls
-enveloped_kept true l ls = ap (λ xs. l ∷ xs) (print_read ls)
-enveloped_kept false l ls = print_read (l ∷ ls)
+enveloped_kept true l ls = ap (λ xs. l ∷ xs) (print_read levels false ls)
+enveloped_kept false l ls = print_read levels false (l ∷ ls)
 
 pub document_kept : (ls : List TextLine) → document_lines (document_of ls) ≡ ls
 document_kept [] = refl

@@ -1,2 +1,4 @@
 pub mod Kept
 pub mod Equals
+pub mod OneCut
+pub mod Rows

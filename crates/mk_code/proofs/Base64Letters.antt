@@ -1,0 +1,42 @@
+-- The letters of a base64 text, taken run by run.
+use Rattle.std.proofs.Common.{◌≡◌, ◌==◌, ◌<◌, ◌-◌, ℕ, suc, false, not, List, [], ◌∷◌, ◌++◌, refl, ap, sym, ◌∙◌, length, take, drop, arith, inl, inr, add-one}
+use Rattle.std.proofs.Math.Numerals.{one-add}
+use Rattle.std.proofs.lemmas.Bool.{cases_Bool, or_parts}
+use Rattle.std.proofs.lemmas.List.{take_rest, drop-drop, nil_from_length}
+use Rattle.std.proofs.lemmas.List.Sums.{take_while-cons}
+use Rattle.std.specs.List.{filter, prefix_len, take_while}
+use Rattle.mk_code.specs.Ascii.{has_byte, is_letter, equals_sign}
+
+-- what comes before the first `=`
+pub before_found : (front behind : List ℕ) → has_byte 61 front ≡ false → front ≡ take_while (λ byte. not (byte == equals_sign)) (front ++ 61 ∷ behind)
+before_found [] behind h = sym (take_while-cons (λ byte. not (byte == equals_sign)) 61 behind)
+before_found (x ∷ xs) behind h =
+    let parts = or_parts (x == 61) (has_byte 61 xs) h in
+    rw (take_while-cons (λ byte. not (byte == equals_sign)) x (xs ++ 61 ∷ behind), parts.0) (ap (λ ys. x ∷ ys) (before_found xs behind parts.1))
+
+pub before_unfound : (text : List ℕ) → has_byte 61 text ≡ false → text ≡ take_while (λ byte. not (byte == equals_sign)) text
+before_unfound [] h = refl
+before_unfound (x ∷ xs) h =
+    let parts = or_parts (x == 61) (has_byte 61 xs) h in
+    rw (take_while-cons (λ byte. not (byte == equals_sign)) x xs, parts.0) (ap (λ ys. x ∷ ys) (before_unfound xs parts.1))
+
+-- the letters in front, and the letters behind the byte that ends them
+pub letters_apart : (text : List ℕ) → filter is_letter text ≡ take (prefix_len is_letter text) text ++ filter is_letter (drop (suc (prefix_len is_letter text)) text)
+letters_apart [] = refl
+letters_apart (x ∷ xs) =
+    elim (cases_Bool (is_letter x)) [
+      | inl h ↦ rw (h, one-add (prefix_len is_letter xs)) (ap (λ ys. x ∷ ys) (letters_apart xs))
+      | inr h ↦ rw h refl
+    ]
+
+pub letters_parted : (text run rest : List ℕ) (n : ℕ) → n ≡ prefix_len is_letter text → run ≡ take n text → rest ≡ drop n text → filter is_letter text ≡ run ++ filter is_letter (take (length rest - 1) (drop 1 rest))
+letters_parted text run rest n e f g =
+    letters_apart text
+    ∙ (ap (λ k. take k text ++ filter is_letter (drop (suc k) text)) (sym e)
+    ∙ (ap (λ xs. xs ++ filter is_letter (drop (suc n) text)) (sym f)
+    ∙ ap (λ xs. run ++ filter is_letter xs) (ap (λ k. drop k text) (sym (add-one n)) ∙ (sym (drop-drop 1 n text) ∙ (ap (drop 1) (sym g) ∙ sym (take_rest rest 1))))))
+
+pub letters_alone : (text run rest : List ℕ) (n : ℕ) → n ≡ prefix_len is_letter text → run ≡ take n text → rest ≡ drop n text → length rest < 1 → filter is_letter text ≡ run ++ filter is_letter rest
+letters_alone text run rest n e f g none =
+    let empty : rest ≡ [] = nil_from_length rest (omega arith) in
+    letters_parted text run rest n e f g ∙ rw empty refl

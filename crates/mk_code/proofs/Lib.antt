@@ -1,0 +1,21 @@
+pub mod Splits
+pub mod Base64Letters
+pub mod Base64Lines
+pub mod Unquoting
+pub mod Pairs
+pub mod LogicalLines
+pub mod Packing
+pub mod OutputCuts
+pub mod Base64Laws
+pub mod SafeLines
+pub mod Base64Safe
+pub mod QpBack
+pub mod QpSafe
+pub mod Contents
+pub mod WordParts
+pub mod Runs
+pub mod Pieces
+pub mod WordsKept
+pub mod WordsBack
+pub mod Characters
+mod Vectors

@@ -1,0 +1,11 @@
+use Rattle.std.proofs.Common.{◌≡◌, ◌++◌, length}
+use Rattle.std.specs.List.{filter}
+use Rattle.mk_code.specs.Ascii.{is_letter}
+use Rattle.mk_code.specs.Base64Text.{letters}
+use Rattle.mk_code.proofs.base64_text.letters.Given as goal
+
+abbrev pub invariant-loop-rest : goal.invariant-loop-rest
+invariant-loop-rest l = l.out.items ++ filter is_letter l.rest ≡ letters l.text
+
+abbrev pub decreases-loop-rest : goal.decreases-loop-rest
+decreases-loop-rest l = length l.rest

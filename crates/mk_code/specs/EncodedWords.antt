@@ -1,0 +1,189 @@
+-- Encoded words in the value of a field (RFC 2047; that a word of any length and an empty text are decoded is our own).
+use Rattle.std.specs.Prelude.{◌==◌, ◌≤◌, ◌&&◌, ◌||◌, ◌+◌, ◌/◌, ◌%◌, if◌then◌else◌, ℕ, Bool, false, nat_le, nat_lt, not, List, [], ◌∷◌, ◌++◌, length, drop, codes, Option, Some, None, is_some, unwrap_or, option_and_then, take_while}
+use Rattle.std.specs.Option.{option_map}
+use Rattle.std.specs.List.{flat_map, join_by, list_all, onto_first}
+use Rattle.std.specs.Str.{bytes_eq, str_to_ascii_lowercase}
+use Rattle.base64.specs.GeneralPurpose.{encode_of, decoded_of}
+use Rattle.base64.specs.Engines.{standard, standard_no_pad}
+use Rattle.mk_line.specs.declared.cutting.Ending.{Ending}
+use Rattle.mk_line.specs.Ascii.{is_blank, space}
+use Rattle.mk_line.specs.Lines.{cut, ending_bytes}
+use Rattle.mk_code.specs.Ascii.{equals_sign, question_mark, underscore, is_letter, has_pair}
+use Rattle.mk_code.specs.QuotedPrintable.{is_hex_digit, pair_value}
+
+-- a value without its line endings (RFC 5322, 2.2.3)
+abbrev pub unfolded : List ℕ → List ℕ
+unfolded value = flat_map (λ l. l.content) (cut value)
+
+-- a run of blanks, or a word: a run of other bytes
+pub data Run : Type 0 where
+  Gap : (bytes : List ℕ) → Run
+  Word : (bytes : List ℕ) → Run
+
+-- runs with a byte put before them
+abbrev pub run_before : ℕ → List Run → List Run
+run_before byte [] = if is_blank byte then Gap (byte ∷ []) ∷ [] else Word (byte ∷ []) ∷ []
+run_before byte (Gap gap ∷ runs) = if is_blank byte then Gap (byte ∷ gap) ∷ runs else Word (byte ∷ []) ∷ Gap gap ∷ runs
+run_before byte (Word word ∷ runs) = if is_blank byte then Gap (byte ∷ []) ∷ Word word ∷ runs else Word (byte ∷ word) ∷ runs
+
+-- words and runs of blanks in turn
+abbrev pub runs : List ℕ → List Run
+runs [] = []
+runs (byte ∷ bytes) = run_before byte (runs bytes)
+
+-- what stands between question marks
+abbrev pub parts : List ℕ → List (List ℕ)
+parts [] = [] ∷ []
+parts (byte ∷ bytes) = if byte == question_mark then [] ∷ parts bytes else onto_first byte (parts bytes)
+
+-- nothing but `=`, twice at most
+abbrev pub is_padding : List ℕ → Bool
+is_padding bytes = nat_le (length bytes) 2 && list_all (λ byte. byte == equals_sign) bytes
+
+-- the bytes of base64's letters (RFC 2047, 4.1), with padding or none behind them (own)
+abbrev pub b_text : List ℕ → Option (List ℕ)
+b_text text =
+    let front = take_while is_letter text in
+    if is_padding (drop (length front) text) then decoded_of standard_no_pad front else None
+
+-- a byte before the bytes of what follows it, if these are known
+abbrev pub put_before : ℕ → Option (List ℕ) → Option (List ℕ)
+put_before byte rest = option_map (λ bytes. byte ∷ bytes) rest
+
+-- `_` is a space, `=` alone is nothing, and other printable bytes stand for themselves (RFC 2047, 4.2)
+abbrev pub q_byte : ℕ → Option (List ℕ) → Option (List ℕ)
+q_byte byte rest =
+    if byte == underscore then put_before space rest
+    else (if byte == equals_sign then None
+    else (if nat_le 33 byte && nat_le byte 126 then put_before byte rest else None))
+
+-- the bytes of the encoding Q: `=` and two digits are a byte (RFC 2047, 4.2)
+abbrev pub q_text : List ℕ → Option (List ℕ)
+q_text [] = Some []
+q_text (byte ∷ []) = q_byte byte (Some [])
+q_text (byte ∷ next ∷ []) = q_byte byte (q_text (next ∷ []))
+q_text (byte ∷ high ∷ low ∷ bytes) =
+    if byte == equals_sign && (is_hex_digit high && is_hex_digit low) then put_before (pair_value high low) (q_text bytes)
+    else q_byte byte (q_text (high ∷ low ∷ bytes))
+
+-- the bytes of a text by the name of its encoding in lower case
+abbrev pub text_bytes : List ℕ → List ℕ → Option (List ℕ)
+text_bytes name text =
+    if bytes_eq name (codes "b") then b_text text else (if bytes_eq name (codes "q") then q_text text else None)
+
+-- a byte of iso-8859-1 in UTF-8
+abbrev pub latin_character : ℕ → List ℕ
+latin_character byte = if nat_lt byte 128 then byte ∷ [] else (192 + byte / 64) ∷ (128 + byte % 64) ∷ []
+
+-- bytes of a charset, named in lower case, in UTF-8: these three charsets are known (own)
+abbrev pub in_utf8 : List ℕ → List ℕ → Option (List ℕ)
+in_utf8 charset bytes =
+    if bytes_eq charset (codes "utf-8") then Some bytes
+    else (if bytes_eq charset (codes "us-ascii") then (if list_all (λ byte. nat_lt byte 128) bytes then Some bytes else None)
+    else (if bytes_eq charset (codes "iso-8859-1") then Some (flat_map latin_character bytes) else None))
+
+-- what the parts of an encoded word stand for
+abbrev pub inner_decoded : List ℕ → List ℕ → List ℕ → Option (List ℕ)
+inner_decoded charset name text = option_and_then (in_utf8 (str_to_ascii_lowercase charset)) (text_bytes (str_to_ascii_lowercase name) text)
+
+-- an encoded word has five parts: `=`, a charset, the name of an encoding, a text and `=` (RFC 2047, 2)
+abbrev pub parts_decoded : List (List ℕ) → Option (List ℕ)
+parts_decoded [] = None
+parts_decoded (start ∷ []) = None
+parts_decoded (start ∷ charset ∷ []) = None
+parts_decoded (start ∷ charset ∷ name ∷ []) = None
+parts_decoded (start ∷ charset ∷ name ∷ text ∷ []) = None
+parts_decoded (start ∷ charset ∷ name ∷ text ∷ end ∷ []) =
+    if bytes_eq start (equals_sign ∷ []) && bytes_eq end (equals_sign ∷ []) then inner_decoded charset name text else None
+parts_decoded (start ∷ charset ∷ name ∷ text ∷ end ∷ more ∷ others) = None
+
+-- what an encoded word stands for
+abbrev pub word_decoded : List ℕ → Option (List ℕ)
+word_decoded word = parts_decoded (parts word)
+
+-- the word is decoded
+abbrev pub is_decoded : List ℕ → Bool
+is_decoded word = is_some (word_decoded word)
+
+-- a word decoded, or as it stands
+abbrev pub word_shown : List ℕ → List ℕ
+word_shown word = unwrap_or (word_decoded word) word
+
+-- a gap before a word, behind a decoded word or not: between two decoded words it is dropped (RFC 2047, 6.2)
+abbrev pub gap_shown : Bool → List ℕ → List ℕ → List ℕ
+gap_shown after gap word = if after && is_decoded word then [] else gap
+
+-- the first run is a word that is decoded
+abbrev pub begins_decoded : List Run → Bool
+begins_decoded [] = false
+begins_decoded (Gap gap ∷ others) = false
+begins_decoded (Word word ∷ others) = is_decoded word
+
+-- the runs, each word decoded or as it stands, behind a decoded word or not: a gap between two decoded words is dropped
+abbrev pub shown : Bool → List Run → List ℕ
+shown after [] = []
+shown after (Gap gap ∷ others) = (if after && begins_decoded others then [] else gap) ++ shown false others
+shown after (Word word ∷ others) = word_shown word ++ shown (is_decoded word) others
+
+-- a value with its encoded words decoded
+abbrev pub words_decoded : List ℕ → List ℕ
+words_decoded value = shown false (runs (unfolded value))
+
+-- a byte of a character in UTF-8 behind its first (RFC 3629)
+abbrev pub is_continuation_byte : ℕ → Bool
+is_continuation_byte byte = nat_le 128 byte && nat_le byte 191
+
+-- the bytes begin inside a character
+abbrev pub goes_on : List ℕ → Bool
+goes_on [] = false
+goes_on (byte ∷ bytes) = is_continuation_byte byte
+
+-- the characters of a text in UTF-8, each by its bytes
+abbrev pub characters : List ℕ → List (List ℕ)
+characters [] = []
+characters (byte ∷ bytes) = if goes_on bytes then onto_first byte (characters bytes) else (byte ∷ []) ∷ characters bytes
+
+-- pieces with bytes put before the first
+abbrev pub front_onto : List ℕ → List (List ℕ) → List (List ℕ)
+front_onto front [] = front ∷ []
+front_onto front (piece ∷ others) = (front ++ piece) ∷ others
+
+-- the most bytes of a text in one encoded word (own)
+abbrev pub piece_room : ℕ
+piece_room = 45
+
+-- a character goes into a piece that has so many bytes already: there is room for it, or it is the first
+abbrev pub goes_in : ℕ → List ℕ → Bool
+goes_in used character = used == 0 || nat_le (used + length character) piece_room
+
+-- pieces of as many characters as go in, of which the first has so many bytes already
+abbrev pub pieces : List (List ℕ) → ℕ → List (List ℕ)
+pieces [] used = [] ∷ []
+pieces (character ∷ others) used =
+    if goes_in used character then front_onto character (pieces others (used + length character))
+    else [] ∷ front_onto character (pieces others (length character))
+
+-- the encoded word of a piece
+abbrev pub encoded_word : List ℕ → List ℕ
+encoded_word piece = codes "=?utf-8?B?" ++ (encode_of standard piece ++ codes "?=")
+
+-- the most characters of a made word (own; RFC 2047, 2, has 75)
+abbrev pub word_width : ℕ
+word_width = 72
+
+-- the words of these pieces are that short
+abbrev pub AreShort : List (List ℕ) → Type 0
+AreShort [] = Unit {0}
+AreShort (piece ∷ others) = (length (encoded_word piece) ≤ word_width) × AreShort others
+
+-- printable ASCII and the space
+abbrev pub is_shown : ℕ → Bool
+is_shown byte = nat_le 32 byte && nat_le byte 126
+
+-- the text needs no encoded word: it is short and printable, and nothing in it begins like one (the length is own)
+abbrev pub stays : List ℕ → Bool
+stays text = nat_le (length text) 200 && (list_all is_shown text && not (has_pair equals_sign question_mark text))
+
+-- a text as it is, or as encoded words with an ending and a space between two
+abbrev pub words_encoded : Ending → List ℕ → List ℕ
+words_encoded eol text = if stays text then text else join_by encoded_word (ending_bytes eol ++ space ∷ []) (pieces (characters text) 0)

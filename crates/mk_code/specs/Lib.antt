@@ -1,0 +1,6 @@
+pub mod Ascii
+pub mod OutputLines
+pub mod Base64Text
+pub mod QuotedPrintable
+pub mod EncodedWords
+pub mod Contents

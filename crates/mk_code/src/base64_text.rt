@@ -1,0 +1,115 @@
+//! Base64 as a transfer encoding (RFC 2045, 6.8).
+ghost use Rattle.std.specs.Prelude.{◌≡◌, ◌≢◌, ◌<◌, ◌≤◌, ◌==◌, ◌++◌, length, not, filter, take_while, IfOk, IfErr, OnOk};
+ghost use Rattle.std.specs.List.{prefix_len};
+ghost use Rattle.mk_line.specs.Lines.{ending_bytes};
+ghost use Rattle.mk_code.specs.Ascii.{equals_sign, is_letter as letter};
+ghost use Rattle.mk_code.specs.Base64Text.{IsBase64Of, letters as letters_of, lined, base64_encoded};
+ghost use Rattle.mk_code.specs.Contents.{IsRefused};
+ghost use Rattle.mk_code.specs.declared.encoding.Encoding.TheVariants.{Base64};
+
+use crate::decoding::CodeError;
+use crate::endings::bytes_of;
+use crate::splitting::split_once;
+use base64::DecodeAllocError;
+use base64::engine::general_purpose::{STANDARD, STANDARD_NO_PAD};
+use mk_line::Ending;
+use std::alloc::{AllocError, Global};
+
+const EQUALS: u8 = b'=';
+
+/// The most characters of a line.
+const WIDEST: usize = 76;
+
+/// Padded base64 in lines of 76 characters, with the ending between two lines and none after the last.
+pub fn b64_encode(alloc: Global, bytes: &[u8], eol: Ending) -> Result<Vec<u8>, AllocError>
+    requires { eol ≢ Ending.Missing }
+    ensures { IfOk result (λ text. text.items ≡ base64_encoded eol bytes.now) }
+{
+    let letters = STANDARD.encode(alloc, bytes)?;
+    let size = letters.len();
+    let mut out = Vec::with_capacity(alloc, size.saturating_add(size / WIDEST * 2))?;
+    push_lines(&mut out, letters.as_bytes(), bytes_of(eol))?;
+    Ok(out)
+}
+
+/// The bytes whose encoding the letters before the first `=` are.
+pub(crate) fn decode(alloc: Global, text: &[u8]) -> Result<Vec<u8>, CodeError>
+    ensures content { IfOk result (λ bytes. IsBase64Of text.now bytes.items) }
+    ensures refused { IfErr result (λ error. IsRefused Base64 text.now error) }
+{
+    let found = letters(alloc, text)?;
+    match STANDARD_NO_PAD.decode(alloc, &found) {
+        Ok(bytes) => Ok(bytes),
+        Err(DecodeAllocError::OutOfMemory) => Err(CodeError::Memory),
+        Err(DecodeAllocError::DecodeError(_)) => Err(CodeError::BadBase64),
+    }
+}
+
+// The letters before the first `=`.
+fn letters(alloc: Global, text: &[u8]) -> Result<Vec<u8>, AllocError>
+    ensures { IfOk result (λ found. found.items ≡ letters_of text.now) }
+{
+    let mut rest = before_equals(text);
+    let mut out = Vec::with_capacity(alloc, rest.len())?;
+    while !rest.is_empty() {
+        let (run, behind) = split_letters(rest);
+        out.extend_from_slice(run)?;
+        rest = behind;
+    }
+    Ok(out)
+}
+
+fn before_equals(text: &[u8]) -> &[u8]
+    ensures { result.now ≡ take_while (λ byte. not (byte == equals_sign)) text.now }
+{
+    match split_once(EQUALS, text) {
+        Some((front, _)) => front,
+        None => text,
+    }
+}
+
+// The letters in front, and what stands behind the byte after them.
+fn split_letters(text: &[u8]) -> (&[u8], &[u8])
+    requires { 0 < length text.now }
+    ensures letters { filter letter text.now ≡ result.0.now ++ filter letter result.1.now }
+    ensures less { length result.1.now < length text.now }
+{
+    let (run, rest) = text.split_at(letter_front(text));
+    match rest {
+        [_, behind @ ..] => (run, behind),
+        [] => (run, rest),
+    }
+}
+
+// How many letters stand in front.
+pub(crate) fn letter_front(text: &[u8]) -> usize
+    ensures front { result ≡ prefix_len letter text.now }
+    ensures within { result ≤ length text.now }
+{
+    text.iter().take_while(|byte| is_letter(**byte)).count()
+}
+
+// Without branches, since which letter comes can't be foreseen.
+fn is_letter(byte: u8) -> bool
+    ensures { result ≡ letter byte }
+{
+    let upper_case = byte >= b'A' && byte <= b'Z';
+    let lower_case = byte >= b'a' && byte <= b'z';
+    let digit = byte >= b'0' && byte <= b'9';
+    upper_case | lower_case | digit | (byte == b'+') | (byte == b'/')
+}
+
+// Appends the characters in lines.
+fn push_lines(out: &mut Vec<u8>, text: &[u8], eol: &[u8]) -> Result<(), AllocError>
+    ensures { OnOk result (out.new.items ≡ out.old.items ++ lined eol.now 76 text.now) }
+{
+    let mut rest = text;
+    while rest.len() > WIDEST {
+        let (line, more) = rest.split_at(WIDEST);
+        out.extend_from_slice(line)?;
+        out.extend_from_slice(eol)?;
+        rest = more;
+    }
+    out.extend_from_slice(rest)?;
+    Ok(())
+}

@@ -1,0 +1,60 @@
+//! Laws of the encodings, each a function with an empty body whose clause is the law.
+ghost use Rattle.std.specs.Prelude.{◌≡◌, ◌≢◌, ℕ, List, map, encode_utf8, encode_utf8_all};
+ghost use Rattle.std.specs.Str.{IsUtf8};
+ghost use Rattle.base64.specs.GeneralPurpose.{IsBytes};
+ghost use Rattle.mk_line.specs.declared.cutting.Ending.{Ending as LineEnding};
+ghost use Rattle.mk_line.specs.declared.cutting.Ending.TheVariants.{Missing};
+ghost use Rattle.mk_line.specs.Lines.{cut};
+ghost use Rattle.mk_code.specs.declared.encoding.Encoding.{Encoding as Transfer};
+ghost use Rattle.mk_code.specs.declared.encoding.Encoding.TheVariants.{Qp, Base64};
+ghost use Rattle.mk_code.specs.Base64Text.{base64_encoded};
+ghost use Rattle.mk_code.specs.Contents.{IsContent};
+ghost use Rattle.mk_code.specs.EncodedWords.{AreShort, characters, pieces, words_decoded, words_encoded};
+ghost use Rattle.mk_code.specs.OutputLines.{AreSafe};
+ghost use Rattle.mk_code.specs.QuotedPrintable.{qp_encoded};
+
+/// A text has no more than one content.
+pub fn content_is_unique()
+    ensures { (encoding : Transfer) (text one other : List ℕ) →
+        IsContent encoding text one → IsContent encoding text other → one ≡ other }
+{}
+
+/// Bytes come back from quoted-printable.
+pub fn qp_round_trip()
+    ensures { (eol : LineEnding) (bytes : List ℕ) → eol ≢ Missing → IsBytes bytes →
+        IsContent Qp (qp_encoded eol bytes) bytes }
+{}
+
+/// No line of quoted-printable has more than 76 characters, begins with a hyphen or is a From-line.
+pub fn qp_lines_are_safe()
+    ensures { (eol : LineEnding) (bytes : List ℕ) → eol ≢ Missing → IsBytes bytes →
+        AreSafe (cut (qp_encoded eol bytes)) }
+{}
+
+/// Bytes come back from base64.
+pub fn base64_round_trip()
+    ensures { (eol : LineEnding) (bytes : List ℕ) → eol ≢ Missing → IsBytes bytes →
+        IsContent Base64 (base64_encoded eol bytes) bytes }
+{}
+
+/// No line of base64 has more than 76 characters, begins with a hyphen or is a From-line.
+pub fn base64_lines_are_safe()
+    ensures { (eol : LineEnding) (bytes : List ℕ) → eol ≢ Missing → IsBytes bytes →
+        AreSafe (cut (base64_encoded eol bytes)) }
+{}
+
+/// A text comes back from the encoded words of its value.
+pub fn words_round_trip()
+    ensures { (eol : LineEnding) (text : List ℕ) → IsBytes text →
+        words_decoded (words_encoded eol text) ≡ text }
+{}
+
+/// The characters of a text in UTF-8 are its characters, each by its bytes.
+pub fn characters_are_whole()
+    ensures { (chars : List ℕ) → characters (encode_utf8_all chars) ≡ map encode_utf8 chars }
+{}
+
+/// No encoded word of a text in UTF-8 has more than 72 characters.
+pub fn words_are_short()
+    ensures { (text : List ℕ) → IsUtf8 text → AreShort (pieces (characters text) 0) }
+{}

@@ -1,0 +1,27 @@
+//! Transfer encodings and encoded words of Internet messages (RFC 2045, 6.7 and 6.8; RFC 2047).
+//!
+//! Only `decode` refuses; the other calls fail for want of memory alone.
+#![tactic(auto)]
+
+mod base64_text;
+mod blanks;
+mod decoding;
+mod encoding;
+mod endings;
+pub mod laws;
+mod one_word;
+mod qp_decoding;
+mod qp_encoding;
+mod splitting;
+mod words_decoding;
+mod words_encoding;
+
+pub use base64_text::b64_encode;
+pub use decoding::{CodeError, decode};
+pub use encoding::Encoding;
+pub use qp_encoding::qp_encode;
+pub use words_decoding::words_decode;
+pub use words_encoding::words_encode;
+
+#[cfg(test)]
+mod tests;

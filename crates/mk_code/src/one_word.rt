@@ -1,0 +1,188 @@
+//! Decoding one encoded word (RFC 2047, 2 to 4).
+ghost use Rattle.std.specs.Prelude.{◌≡◌, ◌<◌, nat_lt, None, length, IfOk, IfSome, MatchOption, option_map};
+ghost use Rattle.std.specs.List.{flat_map, list_all};
+ghost use Rattle.std.specs.Str.{bytes_eq, str_to_ascii_lowercase};
+ghost use Rattle.mk_code.specs.EncodedWords.{word_decoded, inner_decoded, text_bytes as bytes_of_text, b_text as b_bytes, q_text as q_bytes, put_before, is_padding as padding, in_utf8 as bytes_in_utf8, latin_character};
+
+use crate::base64_text::letter_front;
+use crate::qp_decoding::pair;
+use crate::splitting::split_once;
+use base64::DecodeAllocError;
+use base64::engine::general_purpose::STANDARD_NO_PAD;
+use std::alloc::{AllocError, Global};
+
+const EQUALS: u8 = b'=';
+
+const QUESTION_MARK: u8 = b'?';
+
+const UNDERSCORE: u8 = b'_';
+
+/// The first and the last part of an encoded word.
+const EDGE: &[u8] = b"=";
+
+/// The digits of a byte behind its `=`.
+const DIGITS: usize = 2;
+
+/// The first byte that isn't ASCII.
+const NON_ASCII: u8 = 128;
+
+/// What the first of two bytes of a character in UTF-8 has beside its bits, and what the second has.
+const LEAD_OF_TWO: u8 = 192;
+
+const CONTINUATION: u8 = 128;
+
+/// The parts of a word that has the form of an encoded word.
+#[derive(Clone, Copy)]
+struct WordParts<'a> {
+    charset: &'a [u8],
+    name: &'a [u8],
+    text: &'a [u8],
+}
+
+/// What a word stands for in UTF-8, where it is an encoded word that can be decoded.
+pub(crate) fn decode_word(alloc: Global, word: &[u8]) -> Result<Option<Vec<u8>>, AllocError>
+    ensures { IfOk result (λ found. option_map (λ bytes. bytes.items) found ≡ word_decoded word.now) }
+{
+    let Some(parts) = split_word(word) else {
+        return Ok(None);
+    };
+    match text_bytes(alloc, parts.name, parts.text)? {
+        Some(bytes) => in_utf8(alloc, parts.charset, bytes),
+        None => Ok(None),
+    }
+}
+
+// The five parts between question marks, of which the first and the last are `=`.
+fn split_word(word: &[u8]) -> Option<WordParts<'_>>
+    ensures { MatchOption result (word_decoded word.now ≡ None)
+        (λ p. word_decoded word.now ≡ inner_decoded p.charset.now p.name.now p.text.now) }
+{
+    let (start, rest) = split_once(QUESTION_MARK, word)?;
+    let (charset, rest) = split_once(QUESTION_MARK, rest)?;
+    let (name, rest) = split_once(QUESTION_MARK, rest)?;
+    let (text, end) = split_once(QUESTION_MARK, rest)?;
+    if start == EDGE && end == EDGE {
+        Some(WordParts {
+            charset,
+            name,
+            text,
+        })
+    } else {
+        None
+    }
+}
+
+// The bytes of a text by the name of its encoding.
+fn text_bytes(alloc: Global, name: &[u8], text: &[u8]) -> Result<Option<Vec<u8>>, AllocError>
+    ensures { IfOk result (λ found. option_map (λ bytes. bytes.items) found
+        ≡ bytes_of_text (str_to_ascii_lowercase name.now) text.now) }
+{
+    if is_named(name, b"b") {
+        b_text(alloc, text)
+    } else if is_named(name, b"q") {
+        q_text(alloc, text)
+    } else {
+        Ok(None)
+    }
+}
+
+// Whether the name is this one, which is in lower case, without regard to ASCII case.
+fn is_named(name: &[u8], wanted: &[u8]) -> bool
+    ensures { result ≡ bytes_eq (str_to_ascii_lowercase name.now) (str_to_ascii_lowercase wanted.now) }
+{
+    name.eq_ignore_ascii_case(wanted)
+}
+
+// The bytes of base64's letters with padding or none behind them.
+fn b_text(alloc: Global, text: &[u8]) -> Result<Option<Vec<u8>>, AllocError>
+    ensures { IfOk result (λ found. option_map (λ bytes. bytes.items) found ≡ b_bytes text.now) }
+{
+    let (front, tail) = text.split_at(letter_front(text));
+    if !is_padding(tail) {
+        return Ok(None);
+    }
+    match STANDARD_NO_PAD.decode(alloc, front) {
+        Ok(bytes) => Ok(Some(bytes)),
+        Err(DecodeAllocError::OutOfMemory) => Err(AllocError),
+        Err(DecodeAllocError::DecodeError(_)) => Ok(None),
+    }
+}
+
+fn is_padding(tail: &[u8]) -> bool
+    ensures { result ≡ padding tail.now }
+{
+    matches!(tail, [] | [EQUALS] | [EQUALS, EQUALS])
+}
+
+// The bytes of a text in the encoding Q.
+fn q_text(alloc: Global, text: &[u8]) -> Result<Option<Vec<u8>>, AllocError>
+    ensures { IfOk result (λ found. option_map (λ bytes. bytes.items) found ≡ q_bytes text.now) }
+{
+    let mut out = Vec::with_capacity(alloc, text.len())?;
+    let mut rest = text;
+    while !rest.is_empty() {
+        let Some((byte, behind)) = first_byte(rest) else {
+            return Ok(None);
+        };
+        out.push(byte)?;
+        rest = behind;
+    }
+    Ok(Some(out))
+}
+
+// The first byte that a text in the encoding Q stands for, and what stands behind it.
+fn first_byte(text: &[u8]) -> Option<(u8, &[u8])>
+    requires { 0 < length text.now }
+    ensures value { MatchOption result (q_bytes text.now ≡ None)
+        (λ p. q_bytes text.now ≡ put_before p.0 (q_bytes p.1.now)) }
+    ensures less { IfSome result (λ p. length p.1.now < length text.now) }
+{
+    match text {
+        [EQUALS, behind @ ..] => Some((pair(behind)?, &behind[DIGITS..])),
+        [UNDERSCORE, behind @ ..] => Some((b' ', behind)),
+        [byte @ b'!'..=b'~', behind @ ..] => Some((*byte, behind)),
+        _ => None,
+    }
+}
+
+// The bytes in UTF-8, where the charset is known and has them.
+fn in_utf8(alloc: Global, charset: &[u8], bytes: Vec<u8>) -> Result<Option<Vec<u8>>, AllocError>
+    ensures { IfOk result (λ found. option_map (λ bytes. bytes.items) found
+        ≡ bytes_in_utf8 (str_to_ascii_lowercase charset.now) bytes.items) }
+{
+    if is_named(charset, b"utf-8") {
+        return Ok(Some(bytes));
+    }
+    if is_named(charset, b"us-ascii") {
+        return if is_ascii(&bytes) {
+            Ok(Some(bytes))
+        } else {
+            Ok(None)
+        };
+    }
+    if is_named(charset, b"iso-8859-1") {
+        return Ok(Some(from_latin(alloc, &bytes)?));
+    }
+    Ok(None)
+}
+
+fn is_ascii(bytes: &[u8]) -> bool
+    ensures { result ≡ list_all (λ byte. nat_lt byte 128) bytes.now }
+{
+    bytes.iter().all(|byte| *byte < NON_ASCII)
+}
+
+// The characters of iso-8859-1 in UTF-8.
+fn from_latin(alloc: Global, bytes: &[u8]) -> Result<Vec<u8>, AllocError>
+    ensures { IfOk result (λ text. text.items ≡ flat_map latin_character bytes.now) }
+{
+    let mut out = Vec::with_capacity(alloc, bytes.len())?;
+    for byte in bytes {
+        if *byte < NON_ASCII {
+            out.push(*byte)?;
+        } else {
+            out.extend_from_slice(&[LEAD_OF_TWO + *byte / 64, CONTINUATION + *byte % 64])?;
+        }
+    }
+    Ok(out)
+}

@@ -1,0 +1,87 @@
+//! Decoding quoted-printable (RFC 2045, 6.7).
+ghost use Rattle.std.specs.Prelude.{◌≡◌, ◌<◌, ◌++◌, ◌≤◌, true, length, IfOk, OnOk, IsSome};
+ghost use Rattle.mk_line.specs.Marks.{trimmed};
+ghost use Rattle.mk_code.specs.QuotedPrintable.{qp_decoded, unquoted, pair_at, is_hex_digit as hex_digit, digit_value as value_of};
+
+use crate::blanks::without_blanks;
+use crate::endings::bytes_of;
+use crate::splitting::split_once;
+use mk_line::cut;
+use std::alloc::{AllocError, Global};
+
+const EQUALS: u8 = b'=';
+
+/// The digits of a byte behind its `=`.
+const DIGITS: usize = 2;
+
+/// What the text stands for.
+pub(crate) fn decode(alloc: Global, text: &[u8]) -> Result<Vec<u8>, AllocError>
+    ensures { IfOk result (λ bytes. bytes.items ≡ qp_decoded text.now) }
+{
+    let mut out = Vec::with_capacity(alloc, text.len())?;
+    for line in cut(text) {
+        push_line(&mut out, line.content, bytes_of(line.ending))?;
+    }
+    Ok(out)
+}
+
+// Appends what a line stands for.
+fn push_line(out: &mut Vec<u8>, content: &[u8], ending: &[u8]) -> Result<(), AllocError>
+    ensures { OnOk result (out.new.items ≡ out.old.items ++ unquoted ending.now (trimmed content.now)) }
+{
+    let mut rest = without_blanks(content);
+    while let Some((front, behind)) = split_once(EQUALS, rest) {
+        out.extend_from_slice(front)?;
+        if behind.is_empty() {
+            return Ok(());
+        }
+        match pair(behind) {
+            Some(byte) => {
+                out.push(byte)?;
+                rest = &behind[DIGITS..];
+            }
+            None => {
+                out.push(EQUALS)?;
+                rest = behind;
+            }
+        }
+    }
+    out.extend_from_slice(rest)?;
+    out.extend_from_slice(ending)?;
+    Ok(())
+}
+
+// The byte that two digits in front stand for.
+pub(crate) fn pair(digits: &[u8]) -> Option<u8>
+    ensures value { result ≡ pair_at digits.now }
+    ensures room { IsSome result → 2 ≤ length digits.now }
+{
+    match digits {
+        [high, low, ..] => {
+            if is_hex_digit(*high) && is_hex_digit(*low) {
+                Some(digit_value(*high) * 16 + digit_value(*low))
+            } else {
+                None
+            }
+        }
+        _ => None,
+    }
+}
+
+fn is_hex_digit(byte: u8) -> bool
+    ensures { result ≡ hex_digit byte }
+{
+    let digit = byte >= b'0' && byte <= b'9';
+    let upper_case = byte >= b'A' && byte <= b'F';
+    let lower_case = byte >= b'a' && byte <= b'f';
+    digit | upper_case | lower_case
+}
+
+// The low four bits of a decimal digit are its number, and those of a letter count from 1; letters have the seventh bit.
+fn digit_value(byte: u8) -> u8
+    requires { hex_digit byte ≡ true }
+    ensures value { result ≡ value_of byte }
+    ensures small { result < 16 }
+{
+    byte % 16 + byte / 64 * 9
+}

@@ -1,0 +1,211 @@
+//! Encoding as quoted-printable (RFC 2045, 6.7).
+ghost use Rattle.std.specs.Prelude.{◌≡◌, ◌≢◌, ◌<◌, ◌≤◌, ◌+◌, ◌-◌, ◌==◌, ◌++◌, ◌∷◌, [], ℕ, List, length, take, drop, IfOk, OnOk, IfSome, MatchOption};
+ghost use Rattle.std.specs.List.{prefix_len};
+ghost use Rattle.mk_line.specs.Ascii.{is_blank as blank};
+ghost use Rattle.mk_line.specs.Lines.{is_nil};
+ghost use Rattle.mk_code.specs.OutputLines.{widest};
+ghost use Rattle.mk_code.specs.QuotedPrintable.{qp_encoded, packed, form, limit as line_limit, is_plain, is_quiet as quiet, is_guarded as guarded, escaped, hex_digit as digit_of, logical_lines};
+ghost use Rattle.mk_line.specs.declared.cutting.Ending.TheVariants.{Crlf};
+
+use crate::blanks::is_blank;
+use crate::endings::bytes_of;
+use crate::splitting::split_once;
+use memchr::memmem;
+use mk_line::Ending;
+use std::alloc::{AllocError, Global};
+
+const EQUALS: u8 = b'=';
+
+const LINE_FEED: u8 = b'\n';
+
+const CRLF: &[u8; 2] = b"\r\n";
+
+/// The most characters of a line.
+const WIDEST: usize = 76;
+
+/// The characters of an escaped byte.
+const ESCAPE_WIDTH: usize = 3;
+
+/// Quoted-printable, with the ending wherever the bytes have it and nothing behind the last line. `-`, `.`
+/// and `F` are escaped at the front of a line, so that no line is a delimiter, ends a message in SMTP or is
+/// a From-line.
+pub fn qp_encode(alloc: Global, bytes: &[u8], eol: Ending) -> Result<Vec<u8>, AllocError>
+    requires { eol ≢ Ending.Missing }
+    ensures { IfOk result (λ text. text.items ≡ qp_encoded eol bytes.now) }
+{
+    let mut out = Vec::with_capacity(alloc, bytes.len())?;
+    let ending = bytes_of(eol);
+    let mut rest = bytes;
+    while let Some((line, behind)) = split_line(rest, eol) {
+        push_packed(&mut out, line, ending)?;
+        out.extend_from_slice(ending)?;
+        rest = behind;
+    }
+    push_packed(&mut out, rest, ending)?;
+    Ok(out)
+}
+
+// The first logical line, and what stands behind its ending.
+fn split_line(bytes: &[u8], eol: Ending) -> Option<(&[u8], &[u8])>
+    ensures lines { MatchOption result (logical_lines eol bytes.now ≡ bytes.now ∷ [])
+        (λ p. logical_lines eol bytes.now ≡ p.0.now ∷ logical_lines eol p.1.now) }
+    ensures less { IfSome result (λ p. length p.1.now < length bytes.now) }
+{
+    match eol {
+        Ending::Crlf => split_at_crlf(bytes),
+        Ending::Lf => split_once(LINE_FEED, bytes),
+        Ending::Missing => None,
+    }
+}
+
+fn split_at_crlf(bytes: &[u8]) -> Option<(&[u8], &[u8])>
+    ensures lines { MatchOption result (logical_lines Crlf bytes.now ≡ bytes.now ∷ [])
+        (λ p. logical_lines Crlf bytes.now ≡ p.0.now ∷ logical_lines Crlf p.1.now) }
+    ensures less { IfSome result (λ p. length p.1.now < length bytes.now) }
+{
+    let at = memmem::find(bytes, CRLF)?;
+    Some((&bytes[..at], &bytes[at + CRLF.len()..]))
+}
+
+// Appends a logical line, cut into output lines.
+fn push_packed(out: &mut Vec<u8>, line: &[u8], eol: &[u8]) -> Result<(), AllocError>
+    ensures { OnOk result (out.new.items ≡ out.old.items ++ packed eol.now 0 line.now) }
+{
+    let mut rest = line;
+    let mut column = 0;
+    while let Some((byte, more)) = rest.split_first() {
+        column = break_line(out, column, *byte, more, eol)?;
+        column += push_form(out, column, *byte, more)?;
+        let copied = push_quiet(out, column, more)?;
+        column += copied;
+        rest = &more[copied..];
+    }
+    Ok(())
+}
+
+// Ends the output line by a soft break where a byte's form doesn't fit on it, and says at which column the
+// form begins.
+fn break_line(
+    out: &mut Vec<u8>,
+    column: usize,
+    byte: u8,
+    more: &[u8],
+    eol: &[u8],
+) -> Result<usize, AllocError>
+    requires { column ≤ widest }
+    ensures room { IfOk result (λ start. start + length (form start byte more.now) ≤ line_limit more.now) }
+    ensures told { IfOk result (λ start. let begun = form start byte more.now in
+        out.new.items ++ (begun ++ packed eol.now (start + length begun) more.now)
+        ≡ out.old.items ++ packed eol.now column (byte ∷ more.now)) }
+{
+    if column + width(column, byte, more) <= limit(more) {
+        return Ok(column);
+    }
+    out.push(EQUALS)?;
+    out.extend_from_slice(eol)?;
+    Ok(0)
+}
+
+// The greatest length of a line with a byte's form, by what follows the byte.
+fn limit(more: &[u8]) -> usize
+    ensures { result ≡ line_limit more.now }
+{
+    match more {
+        [] => WIDEST,
+        _ => WIDEST - 1,
+    }
+}
+
+// The length of a byte's form.
+fn width(column: usize, byte: u8, more: &[u8]) -> usize
+    ensures value { result ≡ length (form column byte more.now) }
+    ensures some { 0 < result }
+    ensures few { result ≤ 3 }
+{
+    if stands_plain(column, byte, more) {
+        1
+    } else {
+        ESCAPE_WIDTH
+    }
+}
+
+// Appends a byte's form, and gives its length.
+fn push_form(out: &mut Vec<u8>, column: usize, byte: u8, more: &[u8]) -> Result<usize, AllocError>
+    ensures form { OnOk result (out.new.items ≡ out.old.items ++ form column byte more.now) }
+    ensures width { IfOk result (λ width. width ≡ length (form column byte more.now)) }
+    ensures some { IfOk result (λ width. 0 < width) }
+{
+    if stands_plain(column, byte, more) {
+        out.push(byte)?;
+        return Ok(1);
+    }
+    let digits = [EQUALS, hex_digit(byte / 16), hex_digit(byte % 16)];
+    out.extend_from_slice(&digits)?;
+    Ok(ESCAPE_WIDTH)
+}
+
+// Appends the bytes in front that stand for themselves behind the first column, as many as surely fit on
+// the line, and gives their count; the last byte of the logical line is left.
+fn push_quiet(out: &mut Vec<u8>, column: usize, rest: &[u8]) -> Result<usize, AllocError>
+    requires { 0 < column }
+    ensures within { IfOk result (λ size. size ≤ length rest.now) }
+    ensures narrow { IfOk result (λ size. column ≤ widest → column + size ≤ widest) }
+    ensures told { IfOk result (λ size. (eol : List ℕ) →
+        out.new.items ++ packed eol (column + size) (drop size rest.now)
+        ≡ out.old.items ++ packed eol column rest.now) }
+{
+    let room = (WIDEST - 1)
+        .saturating_sub(column)
+        .min(rest.len().saturating_sub(1));
+    let size = quiet_front(&rest[..room]);
+    out.extend_from_slice(&rest[..size])?;
+    Ok(size)
+}
+
+// How many quiet bytes stand in front.
+fn quiet_front(bytes: &[u8]) -> usize
+    ensures front { result ≡ prefix_len quiet bytes.now }
+    ensures within { result ≤ length bytes.now }
+{
+    bytes.iter().take_while(|byte| is_quiet(**byte)).count()
+}
+
+fn stands_plain(column: usize, byte: u8, more: &[u8]) -> bool
+    ensures { result ≡ is_plain (column == 0) (is_nil more.now) byte }
+{
+    is_quiet(byte) && !(column == 0 && is_guarded(byte)) && !(is_end(more) && is_blank(byte))
+}
+
+fn is_end(more: &[u8]) -> bool
+    ensures { result ≡ is_nil more.now }
+{
+    match more {
+        [] => true,
+        _ => false,
+    }
+}
+
+fn is_quiet(byte: u8) -> bool
+    ensures { result ≡ quiet byte }
+{
+    let printable = byte > b' ' && byte <= b'~';
+    printable & (byte != EQUALS) | is_blank(byte)
+}
+
+fn is_guarded(byte: u8) -> bool
+    ensures { result ≡ guarded byte }
+{
+    byte == b'-' || byte == b'.' || byte == b'F'
+}
+
+// An upper case digit.
+fn hex_digit(value: u8) -> u8
+    requires { value < 16 }
+    ensures { result ≡ digit_of value }
+{
+    if value < 10 {
+        b'0' + value
+    } else {
+        b'A' + (value - 10)
+    }
+}

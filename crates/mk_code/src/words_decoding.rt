@@ -1,0 +1,95 @@
+//! Decoding the encoded words of a value (RFC 2047, 6.2).
+ghost use Rattle.std.specs.Prelude.{◌≡◌, ◌<◌, ◌≤◌, ◌++◌, Bool, length, not, IfOk, OnOk};
+ghost use Rattle.std.specs.List.{prefix_len};
+ghost use Rattle.mk_line.specs.Ascii.{is_blank as blank};
+ghost use Rattle.mk_code.specs.EncodedWords.{words_decoded, unfolded, runs, shown, is_decoded, word_shown, gap_shown};
+
+use crate::blanks::is_blank;
+use crate::one_word::decode_word;
+use mk_line::cut;
+use std::alloc::{AllocError, Global};
+
+/// The value with its encoded words decoded, in UTF-8 where the charset is known. Line endings are taken
+/// out, a gap between two decoded words is dropped, and all else stays as it stands.
+pub fn words_decode(alloc: Global, value: &[u8]) -> Result<Vec<u8>, AllocError>
+    ensures { IfOk result (λ text. text.items ≡ words_decoded value.now) }
+{
+    let line = unfold(alloc, value)?;
+    let mut out = Vec::with_capacity(alloc, line.len())?;
+    let mut rest = line.as_slice();
+    let mut after = false;
+    while !rest.is_empty() {
+        let (gap, word, behind) = split_front(rest);
+        after = push_word(alloc, &mut out, after, gap, word)?;
+        rest = behind;
+    }
+    Ok(out)
+}
+
+// The value without its line endings.
+fn unfold(alloc: Global, value: &[u8]) -> Result<Vec<u8>, AllocError>
+    ensures { IfOk result (λ line. line.items ≡ unfolded value.now) }
+{
+    let mut out = Vec::with_capacity(alloc, value.len())?;
+    for line in cut(value) {
+        out.extend_from_slice(line.content)?;
+    }
+    Ok(out)
+}
+
+// The blanks in front, the word behind them, and what stands behind both.
+fn split_front(text: &[u8]) -> (&[u8], &[u8], &[u8])
+    requires { 0 < length text.now }
+    ensures runs { (after : Bool) → shown after (runs text.now)
+        ≡ gap_shown after result.0.now result.1.now
+        ++ (word_shown result.1.now ++ shown (is_decoded result.1.now) (runs result.2.now)) }
+    ensures less { length result.2.now < length text.now }
+{
+    let (gap, rest) = text.split_at(blank_front(text));
+    let (word, behind) = rest.split_at(word_front(rest));
+    (gap, word, behind)
+}
+
+// How many blanks stand in front.
+fn blank_front(text: &[u8]) -> usize
+    ensures front { result ≡ prefix_len blank text.now }
+    ensures within { result ≤ length text.now }
+{
+    text.iter().take_while(|byte| is_blank(**byte)).count()
+}
+
+// How many other bytes stand in front.
+fn word_front(text: &[u8]) -> usize
+    ensures front { result ≡ prefix_len (λ byte. not (blank byte)) text.now }
+    ensures within { result ≤ length text.now }
+{
+    text.iter().take_while(|byte| !is_blank(**byte)).count()
+}
+
+// Appends a gap and the word behind it, decoded where that can be, and says whether it was: a gap between
+// two decoded words is dropped.
+fn push_word(
+    alloc: Global,
+    out: &mut Vec<u8>,
+    after: bool,
+    gap: &[u8],
+    word: &[u8],
+) -> Result<bool, AllocError>
+    ensures text { OnOk result (out.new.items
+        ≡ out.old.items ++ gap_shown after gap.now word.now ++ word_shown word.now) }
+    ensures decoded { IfOk result (λ decoded. decoded ≡ is_decoded word.now) }
+{
+    match decode_word(alloc, word)? {
+        Some(bytes) => {
+            let kept: &[u8] = if after { b"" } else { gap };
+            out.extend_from_slice(kept)?;
+            out.extend_from_slice(&bytes)?;
+            Ok(true)
+        }
+        None => {
+            out.extend_from_slice(gap)?;
+            out.extend_from_slice(word)?;
+            Ok(false)
+        }
+    }
+}
