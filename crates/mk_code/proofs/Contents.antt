@@ -1,7 +1,7 @@
 -- A text has no more than one content.
 use Rattle.std.proofs.Common.{◌≡◌, ℕ, List, sym, ◌∙◌}
-use Rattle.mk_code.specs.declared.encoding.Encoding.{Encoding}
-use Rattle.mk_code.specs.declared.encoding.Encoding.TheVariants.{Identity, Qp, Base64, Other}
+use Rattle.mk_head.specs.declared.encodings.Encoding.{Encoding}
+use Rattle.mk_head.specs.declared.encodings.Encoding.TheVariants.{Identity, Qp, Base64, Other}
 use Rattle.mk_code.specs.Contents.{IsContent}
 use Rattle.mk_code.proofs.Base64Laws.{content_only}
 

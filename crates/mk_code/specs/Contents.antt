@@ -1,7 +1,7 @@
 -- What a text under a transfer encoding stands for.
 use Rattle.std.specs.Prelude.{◌≡◌, ℕ, List}
-use Rattle.mk_code.specs.declared.encoding.Encoding.{Encoding}
-use Rattle.mk_code.specs.declared.encoding.Encoding.TheVariants.{Identity, Qp, Base64, Other}
+use Rattle.mk_head.specs.declared.encodings.Encoding.{Encoding}
+use Rattle.mk_head.specs.declared.encodings.Encoding.TheVariants.{Identity, Qp, Base64, Other}
 use Rattle.mk_code.specs.declared.decoding.CodeError.{CodeError}
 use Rattle.mk_code.specs.declared.decoding.CodeError.TheVariants.{BadBase64, UnknownEncoding, Memory}
 use Rattle.mk_code.specs.Base64Text.{IsBase64Of}

@@ -5,7 +5,7 @@ ghost use Rattle.mk_line.specs.Lines.{ending_bytes};
 ghost use Rattle.mk_code.specs.Ascii.{equals_sign, is_letter as letter};
 ghost use Rattle.mk_code.specs.Base64Text.{IsBase64Of, letters as letters_of, lined, base64_encoded};
 ghost use Rattle.mk_code.specs.Contents.{IsRefused};
-ghost use Rattle.mk_code.specs.declared.encoding.Encoding.TheVariants.{Base64};
+ghost use Rattle.mk_head.specs.declared.encodings.Encoding.TheVariants.{Base64};
 
 use crate::decoding::CodeError;
 use crate::endings::bytes_of;

@@ -3,8 +3,8 @@ ghost use Rattle.std.specs.Prelude.{◌≡◌, IfOk, IfErr, Err};
 ghost use Rattle.mk_code.specs.Contents.{IsContent, IsRefused};
 ghost use Rattle.mk_code.specs.declared.decoding.CodeError.TheVariants.{Memory};
 
-use crate::encoding::Encoding;
 use crate::{base64_text, qp_decoding};
+use mk_head::Encoding;
 use std::alloc::{AllocError, Global};
 use thiserror::Error;
 

@@ -6,7 +6,6 @@
 mod base64_text;
 mod blanks;
 mod decoding;
-mod encoding;
 mod endings;
 pub mod laws;
 mod one_word;
@@ -18,7 +17,7 @@ mod words_encoding;
 
 pub use base64_text::b64_encode;
 pub use decoding::{CodeError, decode};
-pub use encoding::Encoding;
+pub use mk_head::Encoding;
 pub use qp_encoding::qp_encode;
 pub use words_decoding::words_decode;
 pub use words_encoding::words_encode;

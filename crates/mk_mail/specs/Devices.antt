@@ -1,9 +1,5 @@
-use Rattle.std.specs.Prelude.{◌≡◌, ℕ, ◌+◌, ◌-◌, ◌^◌, ◌<◌, ◌≤◌, ◌⊎◌, nat_lt, if◌then◌else◌, List, ◌++◌, Option}
+use Rattle.std.specs.Prelude.{◌≡◌, ℕ, ◌+◌, ◌-◌, ◌^◌, ◌<◌, ◌≤◌, ◌⊎◌, List, ◌++◌, Option}
 use Rattle.std.specs.Io.KnownBytes.{Appends}
-
--- a count that went on by one; it stays at the greatest u64
-abbrev pub ticked : ℕ → ℕ
-ticked n = if nat_lt n (2 ^ 64 - 1) then n + 1 else n
 
 -- a count stands at the greatest u64, from where it says no more
 abbrev pub IsFull : ℕ → Type 0

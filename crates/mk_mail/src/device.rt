@@ -1,6 +1,6 @@
 ghost use Rattle.std.specs.Prelude.{◌≡◌, ℕ, ◌<◌, ◌≤◌, List, Option, length, IfOk, OnOk, OnErr};
 ghost use Rattle.std.specs.Io.KnownBytes.{ReadConsumes, WriteAppends};
-ghost use Rattle.mk_mail.specs.Devices.{ticked};
+ghost use Rattle.mk_line.specs.Meters.{ticked};
 
 use std::error::Error;
 use std::fmt;

@@ -5,4 +5,3 @@
 mod device;
 
 pub use device::{Fault, Sink, Source};
-
