@@ -11,9 +11,9 @@ use Rattle.mk_head.specs.Fields.{is_one_field}
 use Rattle.mk_head.proofs.Splits.{fields_rest, separator_body}
 use Rattle.mk_head.proofs.FieldRuns.{more_start}
 use Rattle.mk_tree.specs.Tree.{leaf, read, field_lines, with_fields}
-use Rattle.mk_tree.specs.Documents.{levels, Document, enveloped, document_of, document_lines}
-use Rattle.mk_tree.specs.Equal.{is_stable}
-use Rattle.mk_tree.proofs.Equals.{test_stable, stable_test}
+use Rattle.mk_tree.specs.Documents.{Document, document_lines}
+use Rattle.mk_edit.specs.Leaves.{leaf_enveloped, leaf_document, is_leaf_stable}
+use Rattle.mk_edit.proofs.Leaves.{leaf_test_stable, leaf_stable_test}
 use Rattle.mk_edit.specs.Reasons.{added, with_root, lines_before, is_open_early}
 use Rattle.mk_edit.specs.Seams.{goes_on}
 use Rattle.mk_edit.proofs.Openings.{has_line, Each, each_line, each_join, each_front, each_back, are_lines}
@@ -24,19 +24,19 @@ EnvelopeIs None = Unit {0}
 EnvelopeIs (Some l) = is_from_line l.content ≡ true
 
 abbrev pub document : Option TextLine → List TextLine → Document
-document envelope ls = record { envelope = envelope; root = read levels false ls }
+document envelope ls = record { envelope = envelope; root = read 0 false ls }
 
 -- lines as an envelope and the lines of the root
 pub record Opened (ls : List TextLine) : Type 0 where
   pub envelope : Option TextLine
   pub root : List TextLine
   pub lines : ls ≡ option_line envelope ++ root
-  pub document_is : document_of ls ≡ document envelope root
+  pub document_is : leaf_document ls ≡ document envelope root
   pub is_envelope : EnvelopeIs envelope
 
 opened_by : (t : Bool) (l : TextLine) (ls : List TextLine) → is_from_line l.content ≡ t → Opened (l ∷ ls)
-opened_by true l ls e = record { envelope = Some l; root = ls; lines = refl; document_is = ap (λ t. enveloped t l ls) e; is_envelope = e }
-opened_by false l ls e = record { envelope = None; root = l ∷ ls; lines = refl; document_is = ap (λ t. enveloped t l ls) e; is_envelope = tt }
+opened_by true l ls e = record { envelope = Some l; root = ls; lines = refl; document_is = ap (λ t. leaf_enveloped t l ls) e; is_envelope = e }
+opened_by false l ls e = record { envelope = None; root = l ∷ ls; lines = refl; document_is = ap (λ t. leaf_enveloped t l ls) e; is_envelope = tt }
 
 pub opened : (ls : List TextLine) → Opened ls
 opened [] = record { envelope = None; root = []; lines = refl; document_is = refl; is_envelope = tt }
@@ -117,7 +117,7 @@ around_is false envelope ls = append_assoc (option_line envelope) (fields_from f
 
 -- the edited document
 abbrev pub planned : Bool → List TextLine → Option TextLine → List TextLine → Document
-planned top g envelope ls = with_root (document envelope ls) (with_fields (added top g (fields_from false ls)) (read levels false ls))
+planned top g envelope ls = with_root (document envelope ls) (with_fields (added top g (fields_from false ls)) (read 0 false ls))
 
 rest_lines : (ls : List TextLine) → option_line (separator_of (rest_from false ls)) ++ behind_head ls ≡ rest_from false ls
 rest_lines ls = separator_body (rest_from false ls)
@@ -168,7 +168,7 @@ fields_other false g ls h o e =
 rest_same : (fs rest : List TextLine) → fields_from false (fs ++ rest) ≡ fs → rest_from false (fs ++ rest) ≡ rest
 rest_same fs rest e = append_cancel_left fs (rest_from false (fs ++ rest)) rest (ap (λ xs. xs ++ rest_from false (fs ++ rest)) (sym e) ∙ fields_rest false (fs ++ rest))
 
-read_same : (fs ls : List TextLine) → fields_from false (fs ++ rest_from false ls) ≡ fs → read levels false (fs ++ rest_from false ls) ≡ with_fields fs (read levels false ls)
+read_same : (fs ls : List TextLine) → fields_from false (fs ++ rest_from false ls) ≡ fs → read 0 false (fs ++ rest_from false ls) ≡ with_fields fs (read 0 false ls)
 read_same fs ls e =
     let r = rest_same fs (rest_from false ls) e in
     λ i. leaf (record { fields = e i; separator = separator_of (r i) }) (body_of (r i))
@@ -191,16 +191,16 @@ first_start l ls fs e =
 start_from : (content : List ℕ) → is_field_start content ≡ true → is_from_line content ≡ false
 start_from content h = rw h (and_none (starts_with nat_eq content (codes "From ")))
 
-from_one : (l : TextLine) (ls : List TextLine) → is_from_line l.content ≡ false → document_of (l ∷ ls) ≡ document None (l ∷ ls)
-from_one l ls e = ap (λ t. enveloped t l ls) e
+from_one : (l : TextLine) (ls : List TextLine) → is_from_line l.content ≡ false → leaf_document (l ∷ ls) ≡ document None (l ∷ ls)
+from_one l ls e = ap (λ t. leaf_enveloped t l ls) e
 
-run_start : (fs rest zs : List TextLine) → fields_from false (fs ++ rest) ≡ fs ++ zs → has_line fs ≡ true → document_of (fs ++ rest) ≡ document None (fs ++ rest)
+run_start : (fs rest zs : List TextLine) → fields_from false (fs ++ rest) ≡ fs ++ zs → has_line fs ≡ true → leaf_document (fs ++ rest) ≡ document None (fs ++ rest)
 run_start [] rest zs e h = cc
 run_start (l ∷ fs) rest zs e h = from_one l (fs ++ rest) (start_from l.content (first_start l (fs ++ rest) (fs ++ zs) e))
 
-opened_same : (envelope : Option TextLine) (fs rest zs : List TextLine) → EnvelopeIs envelope → fields_from false (fs ++ rest) ≡ fs ++ zs → has_line fs ≡ true → document_of (option_line envelope ++ (fs ++ rest)) ≡ document envelope (fs ++ rest)
+opened_same : (envelope : Option TextLine) (fs rest zs : List TextLine) → EnvelopeIs envelope → fields_from false (fs ++ rest) ≡ fs ++ zs → has_line fs ≡ true → leaf_document (option_line envelope ++ (fs ++ rest)) ≡ document envelope (fs ++ rest)
 opened_same None fs rest zs h e o = run_start fs rest zs e o
-opened_same (Some l) fs rest zs h e o = ap (λ t. enveloped t l (fs ++ rest)) h
+opened_same (Some l) fs rest zs h e o = ap (λ t. leaf_enveloped t l (fs ++ rest)) h
 
 -- where a field takes lines in, they are fields more
 fields_taken : (top : Bool) (g ls : List TextLine) → is_one_field g ≡ true → goes_on (behind top ls) ≡ true → fields_from false (added top g (fields_from false ls) ++ rest_from false ls) ≡ added top g (fields_from false ls) ++ fields_from true (behind top ls)
@@ -227,18 +227,18 @@ has_added false g fs h = has_first fs g (has_field g h)
 -- what the edited lines are read as
 read_lines : (top : Bool) (g : List TextLine) (envelope : Option TextLine) (ls zs : List TextLine) → EnvelopeIs envelope → is_one_field g ≡ true
     → fields_from false (added top g (fields_from false ls) ++ rest_from false ls) ≡ added top g (fields_from false ls) ++ zs
-    → document_of (document_lines (planned top g envelope ls)) ≡ document envelope (added top g (fields_from false ls) ++ rest_from false ls)
+    → leaf_document (document_lines (planned top g envelope ls)) ≡ document envelope (added top g (fields_from false ls) ++ rest_from false ls)
 read_lines top g envelope ls zs v h e =
-    ap (λ xs. document_of (option_line envelope ++ xs)) (root_lines top g ls)
+    ap (λ xs. leaf_document (option_line envelope ++ xs)) (root_lines top g ls)
     ∙ opened_same envelope (added top g (fields_from false ls)) (rest_from false ls) zs v e (has_added top g (fields_from false ls) h)
 
-pub planned_kept : (top : Bool) (g : List TextLine) (envelope : Option TextLine) (ls : List TextLine) → EnvelopeIs envelope → is_one_field g ≡ true → goes_on (behind top ls) ≡ false → document_of (document_lines (planned top g envelope ls)) ≡ planned top g envelope ls
+pub planned_kept : (top : Bool) (g : List TextLine) (envelope : Option TextLine) (ls : List TextLine) → EnvelopeIs envelope → is_one_field g ≡ true → goes_on (behind top ls) ≡ false → leaf_document (document_lines (planned top g envelope ls)) ≡ planned top g envelope ls
 planned_kept top g envelope ls v h o =
     let e = fields_same top g ls h o in
     read_lines top g envelope ls [] v h (e ∙ sym (append_end (added top g (fields_from false ls))))
     ∙ (λ i. record { envelope = envelope; root = read_same (added top g (fields_from false ls)) ls e i })
 
-pub planned_other : (top : Bool) (g : List TextLine) (envelope : Option TextLine) (ls : List TextLine) → EnvelopeIs envelope → is_one_field g ≡ true → goes_on (behind top ls) ≡ true → document_of (document_lines (planned top g envelope ls)) ≡ planned top g envelope ls → ⊥
+pub planned_other : (top : Bool) (g : List TextLine) (envelope : Option TextLine) (ls : List TextLine) → EnvelopeIs envelope → is_one_field g ≡ true → goes_on (behind top ls) ≡ true → leaf_document (document_lines (planned top g envelope ls)) ≡ planned top g envelope ls → ⊥
 planned_other top g envelope ls v h o e =
     let taken = fields_taken top g ls h o in
     let fields : fields_from false (added top g (fields_from false ls) ++ rest_from false ls) ≡ added top g (fields_from false ls) = ap (λ t. field_lines t.root) (sym (read_lines top g envelope ls (fields_from true (behind top ls)) v h taken) ∙ e) in
@@ -253,12 +253,12 @@ planned_text text top g envelope ls e a o =
     (subst Each (sym (planned_lines top g envelope ls)) (each_join (before top envelope ls) (g ++ behind top ls) (each_front (before top envelope ls) (behind top ls) each) (each_join g (behind top ls) (each_line g a) (each_back (before top envelope ls) (behind top ls) each))))
     o
 
-pub planned_stable : (top : Bool) (g : List TextLine) (envelope : Option TextLine) (ls : List TextLine) → EnvelopeIs envelope → is_one_field g ≡ true → AreLines (document_lines (planned top g envelope ls)) → goes_on (behind top ls) ≡ false → is_stable (planned top g envelope ls) ≡ true
-planned_stable top g envelope ls v h a o = stable_test (planned top g envelope ls) (ap document_of (cut_text (document_lines (planned top g envelope ls)) a) ∙ planned_kept top g envelope ls v h o)
+pub planned_stable : (top : Bool) (g : List TextLine) (envelope : Option TextLine) (ls : List TextLine) → EnvelopeIs envelope → is_one_field g ≡ true → AreLines (document_lines (planned top g envelope ls)) → goes_on (behind top ls) ≡ false → is_leaf_stable (planned top g envelope ls) ≡ true
+planned_stable top g envelope ls v h a o = leaf_stable_test (planned top g envelope ls) (ap leaf_document (cut_text (document_lines (planned top g envelope ls)) a) ∙ planned_kept top g envelope ls v h o)
 
-pub planned_unstable : (top : Bool) (g : List TextLine) (envelope : Option TextLine) (ls : List TextLine) → EnvelopeIs envelope → is_one_field g ≡ true → AreLines (document_lines (planned top g envelope ls)) → goes_on (behind top ls) ≡ true → is_stable (planned top g envelope ls) ≡ false
+pub planned_unstable : (top : Bool) (g : List TextLine) (envelope : Option TextLine) (ls : List TextLine) → EnvelopeIs envelope → is_one_field g ≡ true → AreLines (document_lines (planned top g envelope ls)) → goes_on (behind top ls) ≡ true → is_leaf_stable (planned top g envelope ls) ≡ false
 planned_unstable top g envelope ls v h a o =
-    elim (cases_Bool (is_stable (planned top g envelope ls))) [
-      | inl t ↦ absurd (planned_other top g envelope ls v h o (sym (ap document_of (cut_text (document_lines (planned top g envelope ls)) a)) ∙ test_stable (planned top g envelope ls) t))
+    elim (cases_Bool (is_leaf_stable (planned top g envelope ls))) [
+      | inl t ↦ absurd (planned_other top g envelope ls v h o (sym (ap leaf_document (cut_text (document_lines (planned top g envelope ls)) a)) ∙ leaf_test_stable (planned top g envelope ls) t))
       | inr f ↦ f
     ]

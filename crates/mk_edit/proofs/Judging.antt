@@ -7,8 +7,8 @@ use Rattle.mk_line.specs.Views.{BeginsLine}
 use Rattle.mk_line.proofs.Cuts.{text_cut, lines_cut, text_append, text_apart, drop_lines, cut_rest, begins_line}
 use Rattle.mk_head.specs.Split.{option_line, fields_from}
 use Rattle.mk_head.specs.Fields.{is_one_field}
-use Rattle.mk_tree.specs.Documents.{Document, tree, document_lines, printed}
-use Rattle.mk_tree.specs.Equal.{is_stable}
+use Rattle.mk_tree.specs.Documents.{Document, document_lines, printed}
+use Rattle.mk_edit.specs.Leaves.{leaf_tree, is_leaf_stable}
 use Rattle.mk_edit.specs.declared.errors.EditError.TheVariants.{NoSuchSection, BadField, OpenLine, Recut}
 use Rattle.mk_edit.specs.Changes.{AddField}
 use Rattle.mk_edit.specs.Reasons.{is_root, lines_before, is_open_early, judged, outcome}
@@ -24,7 +24,7 @@ pub record Site (text : List ℕ) (top : Bool) : Type 0 where
   pub root : List TextLine
   pub lines : cut text ≡ option_line envelope ++ root
   pub around : cut text ≡ before top envelope root ++ behind top root
-  pub tree_is : tree text ≡ document envelope root
+  pub tree_is : leaf_tree text ≡ document envelope root
   pub is_envelope : EnvelopeIs envelope
 
 pub site : (text : List ℕ) (top : Bool) → Site text top
@@ -43,12 +43,12 @@ site text top =
 pub record PlaceAt (text : List ℕ) (top : Bool) (place : ℕ) (s : Site text top) : Type 0 where
   pub place_is : place ≡ length (text_of (before top s.envelope s.root))
 
-pub place_at : (text : List ℕ) (top : Bool) (place : ℕ) → place ≡ length (text_of (lines_before top (tree text))) → PlaceAt text top place (site text top)
+pub place_at : (text : List ℕ) (top : Bool) (place : ℕ) → place ≡ length (text_of (lines_before top (leaf_tree text))) → PlaceAt text top place (site text top)
 place_at text top place e =
     let s = site text top in
     record { place_is = e ∙ ap (λ ls. length (text_of ls)) (ap (lines_before top) s.tree_is ∙ before_is top s.envelope s.root) }
 
-pub place_begins : (text : List ℕ) (top : Bool) (place : ℕ) → place ≡ length (text_of (lines_before top (tree text))) → BeginsLine text place
+pub place_begins : (text : List ℕ) (top : Bool) (place : ℕ) → place ≡ length (text_of (lines_before top (leaf_tree text))) → BeginsLine text place
 place_begins text top place e =
     let s = site text top in
     subst (BeginsLine text) (sym (place_at text top place e).place_is) (begins_line text (before top s.envelope s.root) (behind top s.root) s.around)
@@ -99,26 +99,26 @@ no_section path top field t h = rw h refl
 pub bad_field : (path : List ℕ) (top : Bool) (field : List ℕ) (t : Document) → is_root path ≡ true → is_one_field (cut field) ≡ false → outcome (AddField path top field) t ≡ Err BadField
 bad_field path top field t h k = rw (h, k) refl
 
-pub judged_is : (path : List ℕ) (top : Bool) (field text : List ℕ) (s : Site text top) → is_root path ≡ true → is_one_field (cut field) ≡ true → outcome (AddField path top field) (tree text) ≡ judged (planned top (cut field) s.envelope s.root)
+pub judged_is : (path : List ℕ) (top : Bool) (field text : List ℕ) (s : Site text top) → is_root path ≡ true → is_one_field (cut field) ≡ true → outcome (AddField path top field) (leaf_tree text) ≡ judged (planned top (cut field) s.envelope s.root)
 judged_is path top field text s h k = ap (outcome (AddField path top field)) s.tree_is ∙ rw (h, k) refl
 
 judged_open : (t : Document) → is_open_early (document_lines t) ≡ true → judged t ≡ Err OpenLine
 judged_open t h = rw h refl
 
-judged_recut : (t : Document) → is_open_early (document_lines t) ≡ false → is_stable t ≡ false → judged t ≡ Err Recut
+judged_recut : (t : Document) → is_open_early (document_lines t) ≡ false → is_leaf_stable t ≡ false → judged t ≡ Err Recut
 judged_recut t h k = rw (h, k) refl
 
-judged_well : (t : Document) → is_open_early (document_lines t) ≡ false → is_stable t ≡ true → judged t ≡ Ok t
+judged_well : (t : Document) → is_open_early (document_lines t) ≡ false → is_leaf_stable t ≡ true → judged t ≡ Ok t
 judged_well t h k = rw (h, k) refl
 
-pub open_line : (path : List ℕ) (top : Bool) (field text : List ℕ) (place : ℕ) → is_root path ≡ true → is_one_field (cut field) ≡ true → place ≡ length (text_of (lines_before top (tree text)))
-    → ((nat_lt 0 place && ends_open (take place text)) || (ends_open field && nat_lt place (length text))) ≡ true → outcome (AddField path top field) (tree text) ≡ Err OpenLine
+pub open_line : (path : List ℕ) (top : Bool) (field text : List ℕ) (place : ℕ) → is_root path ≡ true → is_one_field (cut field) ≡ true → place ≡ length (text_of (lines_before top (leaf_tree text)))
+    → ((nat_lt 0 place && ends_open (take place text)) || (ends_open field && nat_lt place (length text))) ≡ true → outcome (AddField path top field) (leaf_tree text) ≡ Err OpenLine
 open_line path top field text place h k p o =
     let s = site text top in
     judged_is path top field text s h k ∙ judged_open (planned top (cut field) s.envelope s.root) (sym (opens_is text field top place s (place_at text top place p) k) ∙ o)
 
-pub recut : (path : List ℕ) (top : Bool) (field text : List ℕ) (place : ℕ) → is_root path ≡ true → is_one_field (cut field) ≡ true → place ≡ length (text_of (lines_before top (tree text)))
-    → ((nat_lt 0 place && ends_open (take place text)) || (ends_open field && nat_lt place (length text))) ≡ false → goes_on (cut (drop place text)) ≡ true → outcome (AddField path top field) (tree text) ≡ Err Recut
+pub recut : (path : List ℕ) (top : Bool) (field text : List ℕ) (place : ℕ) → is_root path ≡ true → is_one_field (cut field) ≡ true → place ≡ length (text_of (lines_before top (leaf_tree text)))
+    → ((nat_lt 0 place && ends_open (take place text)) || (ends_open field && nat_lt place (length text))) ≡ false → goes_on (cut (drop place text)) ≡ true → outcome (AddField path top field) (leaf_tree text) ≡ Err Recut
 recut path top field text place h k p o m =
     let s = site text top in
     let at = place_at text top place p in
@@ -137,7 +137,7 @@ planned_printed text field top place s p =
     ∙ (ap (λ xs. take (length (text_of (before top s.envelope s.root))) text ++ (field ++ xs)) (sym (drop_lines text (before top s.envelope s.root) (behind top s.root) s.around))
     ∙ ap (λ n. take n text ++ (field ++ drop n text)) (sym p.place_is))))) ∙ ap (λ n. take place text ++ (field ++ drop n text)) (sym (add-zero place))
 
-pub accepted : (path : List ℕ) (top : Bool) (field text : List ℕ) (place : ℕ) → is_root path ≡ true → is_one_field (cut field) ≡ true → place ≡ length (text_of (lines_before top (tree text)))
+pub accepted : (path : List ℕ) (top : Bool) (field text : List ℕ) (place : ℕ) → is_root path ≡ true → is_one_field (cut field) ≡ true → place ≡ length (text_of (lines_before top (leaf_tree text)))
     → ((nat_lt 0 place && ends_open (take place text)) || (ends_open field && nat_lt place (length text))) ≡ false → goes_on (cut (drop place text)) ≡ false → IsAccepted (AddField path top field) text place
 accepted path top field text place h k p o m =
     let s = site text top in
@@ -154,12 +154,12 @@ accepted path top field text place h k p o m =
     }
 
 -- the end of the fields behind the envelope
-pub end_place : (text : List ℕ) (top : Bool) (from result : ℕ) → top ≡ false → from ≡ length (text_of (option_line (tree text).envelope)) → result ≡ from + length (text_of (fields_from false (cut (drop from text)))) → result ≡ length (text_of (lines_before top (tree text)))
+pub end_place : (text : List ℕ) (top : Bool) (from result : ℕ) → top ≡ false → from ≡ length (text_of (option_line (leaf_tree text).envelope)) → result ≡ from + length (text_of (fields_from false (cut (drop from text)))) → result ≡ length (text_of (lines_before top (leaf_tree text)))
 end_place text top from result t e r =
     let s = site text false in
     let start : from ≡ length (text_of (option_line s.envelope)) = e ∙ ap (λ d. length (text_of (option_line d.envelope))) s.tree_is in
     let root : cut (drop from text) ≡ s.root = ap (λ n. cut (drop n text)) start ∙ cut_rest text (option_line s.envelope) s.root s.lines in
-    let whole : length (text_of (lines_before top (tree text))) ≡ length (text_of (option_line s.envelope ++ fields_from false s.root)) = ap (λ b. length (text_of (lines_before b (tree text)))) t ∙ ap (λ ls. length (text_of ls)) (ap (lines_before false) s.tree_is ∙ before_is false s.envelope s.root) in
+    let whole : length (text_of (lines_before top (leaf_tree text))) ≡ length (text_of (option_line s.envelope ++ fields_from false s.root)) = ap (λ b. length (text_of (lines_before b (leaf_tree text)))) t ∙ ap (λ ls. length (text_of ls)) (ap (lines_before false) s.tree_is ∙ before_is false s.envelope s.root) in
     let size : length (text_of (fields_from false (cut (drop from text)))) ≡ length (text_of (fields_from false s.root)) = ap (λ ls. length (text_of (fields_from false ls))) root in
     let parts : length (text_of (option_line s.envelope ++ fields_from false s.root)) ≡ length (text_of (option_line s.envelope) ++ text_of (fields_from false s.root)) = ap length (text_append (option_line s.envelope) (fields_from false s.root)) in
     omega (arith, r, start, whole, size, parts, length-append (text_of (option_line s.envelope)) (text_of (fields_from false s.root)))

@@ -4,9 +4,9 @@ use Rattle.std.proofs.lemmas.Bool.{cases_Bool, ltb-true}
 use Rattle.std.proofs.lemmas.List.{length-take-le, take-append-drop}
 use Rattle.mk_line.specs.Lines.{cut, text_of}
 use Rattle.mk_head.specs.Fields.{is_one_field}
-use Rattle.mk_tree.specs.Documents.{Document, tree, printed, document_lines}
-use Rattle.mk_tree.specs.Equal.{is_stable}
-use Rattle.mk_tree.proofs.Equals.{test_stable}
+use Rattle.mk_tree.specs.Documents.{Document, printed, document_lines}
+use Rattle.mk_edit.specs.Leaves.{leaf_tree, is_leaf_stable}
+use Rattle.mk_edit.proofs.Leaves.{leaf_test_stable}
 use Rattle.mk_edit.specs.declared.errors.EditError.{EditError}
 use Rattle.mk_edit.specs.declared.errors.EditError.TheVariants.{NoSuchSection, BadField, OpenLine, Recut, NothingToUndo, NothingToRedo}
 use Rattle.mk_edit.specs.Changes.{Change, AddField, Order, Do, Undo, Redo}
@@ -26,12 +26,12 @@ ok_same : (s t : Document) → ◌≡◌ {A = Result Document EditError} (Ok s) 
 ok_same s t h = cc
 
 -- an accepted document is the judged one, and stable
-pub judged_so : (s t : Document) → judged s ≡ Ok t → (s ≡ t) × (is_stable s ≡ true)
+pub judged_so : (s t : Document) → judged s ≡ Ok t → (s ≡ t) × (is_leaf_stable s ≡ true)
 judged_so s t h =
     elim (cases_Bool (is_open_early (document_lines s))) [
       | inl o ↦ ok_err t OpenLine (rw o at h)
       | inr c ↦
-          elim (cases_Bool (is_stable s)) [
+          elim (cases_Bool (is_leaf_stable s)) [
             | inl k ↦ (ok_same s t (rw (c, k) at h), k)
             | inr u ↦ ok_err t Recut (rw (c, u) at h)
           ]
@@ -41,16 +41,16 @@ judged_so s t h =
 pub record Added (path : List ℕ) (top : Bool) (field text : List ℕ) (t : Document) : Type 0 where
   pub document : Document
   pub same : document ≡ t
-  pub stable : is_stable document ≡ true
-  pub printed_so : printed document ≡ spliced (length (text_of (lines_before top (tree text)))) 0 field text
+  pub stable : is_leaf_stable document ≡ true
+  pub printed_so : printed document ≡ spliced (length (text_of (lines_before top (leaf_tree text)))) 0 field text
 
-added_so : (path : List ℕ) (top : Bool) (field text : List ℕ) (t : Document) → outcome (AddField path top field) (tree text) ≡ Ok t → Added path top field text t
+added_so : (path : List ℕ) (top : Bool) (field text : List ℕ) (t : Document) → outcome (AddField path top field) (leaf_tree text) ≡ Ok t → Added path top field text t
 added_so path top field text t h =
     elim (cases_Bool (is_root path)) [
-      | inr n ↦ ok_err t NoSuchSection (sym (no_section path top field (tree text) n) ∙ h)
+      | inr n ↦ ok_err t NoSuchSection (sym (no_section path top field (leaf_tree text) n) ∙ h)
       | inl r ↦
           elim (cases_Bool (is_one_field (cut field))) [
-            | inr b ↦ ok_err t BadField (sym (bad_field path top field (tree text) r b) ∙ h)
+            | inr b ↦ ok_err t BadField (sym (bad_field path top field (leaf_tree text) r b) ∙ h)
             | inl o ↦
                 let s = site text top in
                 let j : judged (planned top (cut field) s.envelope s.root) ≡ Ok t = sym (judged_is path top field text s r o) ∙ h in
@@ -59,7 +59,7 @@ added_so path top field text t h =
                   document = planned top (cut field) s.envelope s.root;
                   same = k.0;
                   stable = k.1;
-                  printed_so = planned_printed text field top (length (text_of (lines_before top (tree text)))) s (place_at text top (length (text_of (lines_before top (tree text)))) refl);
+                  printed_so = planned_printed text field top (length (text_of (lines_before top (leaf_tree text)))) s (place_at text top (length (text_of (lines_before top (leaf_tree text)))) refl);
                 }
           ]
     ]
@@ -74,14 +74,14 @@ nothing_stands place x h = record {
 pub splices_lead_lem : SplicesLead
 splices_lead_lem (AddField path top field) text t h =
     let a = added_so path top field text t h in
-    let p = place_begins text top (length (text_of (lines_before top (tree text)))) refl in
-    let forth : spliced (length (text_of (lines_before top (tree text)))) 0 field text ≡ printed t = sym a.printed_so ∙ ap printed a.same in
-    (forth, ap (spliced (length (text_of (lines_before top (tree text)))) (length field) []) (sym forth) ∙ put_again (length (text_of (lines_before top (tree text)))) [] field text (nothing_stands (length (text_of (lines_before top (tree text)))) text p.within))
+    let p = place_begins text top (length (text_of (lines_before top (leaf_tree text)))) refl in
+    let forth : spliced (length (text_of (lines_before top (leaf_tree text)))) 0 field text ≡ printed t = sym a.printed_so ∙ ap printed a.same in
+    (forth, ap (spliced (length (text_of (lines_before top (leaf_tree text)))) (length field) []) (sym forth) ∙ put_again (length (text_of (lines_before top (leaf_tree text)))) [] field text (nothing_stands (length (text_of (lines_before top (leaf_tree text)))) text p.within))
 
 pub edits_read_back_lem : EditsReadBack
 edits_read_back_lem (AddField path top field) text t h =
     let a = added_so path top field text t h in
-    subst (λ d. tree (printed d) ≡ d) a.same (test_stable a.document a.stable)
+    subst (λ d. leaf_tree (printed d) ≡ d) a.same (leaf_test_stable a.document a.stable)
 
 -- a step that leads from the text at a place to a new one
 linked_more : (first : List ℕ) (others : List (List ℕ)) (steps : List (List Splice)) (n : ℕ) (y : List ℕ) (s : List Splice) → AreLinked first others steps → n ≤ length steps → y ≡ forth_step s (get_or (first ∷ others) n []) → get_or (first ∷ others) n [] ≡ back_step s y → AreLinked first (take n others ++ y ∷ []) (take n steps ++ s ∷ [])
@@ -103,8 +103,8 @@ stays_step h y s b f g = record {
   within = omega (arith, length-append (take h.place h.steps) (s ∷ []), length-take-le h.place h.steps b.within);
 }
 
-stays_edit : (h : History) (c : Change) (r : Result Document EditError) → outcome c (tree (text_now h)) ≡ r → IsHistory h → IsHistory (left_by h (edited_by h (splices_of c (tree (text_now h))) r))
-stays_edit h c (Ok t) e b = let p = splices_lead_lem c (text_now h) t e in stays_step h (printed t) (splices_of c (tree (text_now h))) b (sym p.0) (sym p.1)
+stays_edit : (h : History) (c : Change) (r : Result Document EditError) → outcome c (leaf_tree (text_now h)) ≡ r → IsHistory h → IsHistory (left_by h (edited_by h (splices_of c (leaf_tree (text_now h))) r))
+stays_edit h c (Ok t) e b = let p = splices_lead_lem c (text_now h) t e in stays_step h (printed t) (splices_of c (leaf_tree (text_now h))) b (sym p.0) (sym p.1)
 stays_edit h c (Err f) e b = b
 
 stays_undo : (h : History) (t : Bool) → IsHistory h → IsHistory (left_by h (if t then Ok (record h { place = h.place - 1 }) else Err NothingToUndo))
@@ -116,7 +116,7 @@ stays_redo h true e b = record { first = b.first; others = b.others; texts = b.t
 stays_redo h false e b = b
 
 stays_after : (o : Order) (h : History) → IsHistory h → IsHistory (after o h)
-stays_after (Do c) h b = stays_edit h c (outcome c (tree (text_now h))) refl b
+stays_after (Do c) h b = stays_edit h c (outcome c (leaf_tree (text_now h))) refl b
 stays_after Undo h b = stays_undo h (nat_lt 0 h.place) b
 stays_after Redo h b = stays_redo h (nat_lt h.place (length h.steps)) refl b
 

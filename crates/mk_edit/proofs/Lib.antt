@@ -1,3 +1,4 @@
+pub mod Leaves
 pub mod Bytes
 pub mod Steps
 pub mod Moves

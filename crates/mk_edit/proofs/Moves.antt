@@ -5,7 +5,8 @@ use Rattle.std.proofs.lemmas.Bool.{lt-ltb}
 use Rattle.std.specs.Global.{Vec}
 use Rattle.mk_edit.specs.declared.errors.EditError.{EditError}
 use Rattle.mk_edit.specs.declared.splicing.Splice.{Splice as SpliceIn}
-use Rattle.mk_tree.specs.Documents.{Document, tree, printed}
+use Rattle.mk_tree.specs.Documents.{Document, printed}
+use Rattle.mk_edit.specs.Leaves.{leaf_tree}
 use Rattle.mk_edit.specs.Accepted.{IsAccepted}
 use Rattle.mk_edit.specs.Answers.{Answers}
 use Rattle.mk_edit.specs.Reasons.{outcome, splices_of, given_text}
@@ -178,14 +179,14 @@ pub answers_ok : (r : Result Document EditError) (t : Document) → r ≡ Ok t �
 answers_ok (Ok s) t h = tt
 answers_ok (Err f) t h = absurd (ok_err t f (sym h))
 
-pub step_err : (c : Change) (h : History) (x : List ℕ) (e : EditError) → x ≡ text_now h → outcome c (tree x) ≡ Err e → step (Do c) h ≡ Err e
-step_err c h x e q o = ap (edited_by h (splices_of c (tree (text_now h)))) (sym (ap (λ y. outcome c (tree y)) q) ∙ o)
+pub step_err : (c : Change) (h : History) (x : List ℕ) (e : EditError) → x ≡ text_now h → outcome c (leaf_tree x) ≡ Err e → step (Do c) h ≡ Err e
+step_err c h x e q o = ap (edited_by h (splices_of c (leaf_tree (text_now h)))) (sym (ap (λ y. outcome c (leaf_tree y)) q) ∙ o)
 
 pub step_ok : (c : Change) (h g : History) (x new : List ℕ) (place : ℕ) → x ≡ text_now h → IsAccepted c x place → new ≡ given_text c
     → g ≡ with_step h (spliced place 0 new (text_now h)) (record { place = place; old = take 0 (drop place (text_now h)); new = new } ∷ []) → step (Do c) h ≡ Ok g
 step_ok c h g x new place q a n m =
-    ap (λ y. edited_by h (splices_of c (tree y)) (outcome c (tree y))) (sym q)
-    ∙ (ap (edited_by h (splices_of c (tree x))) a.accepted
+    ap (λ y. edited_by h (splices_of c (leaf_tree y)) (outcome c (leaf_tree y))) (sym q)
+    ∙ (ap (edited_by h (splices_of c (leaf_tree x))) a.accepted
     ∙ (ap (λ s. Ok (with_step h (printed a.document) s)) a.splices
     ∙ (ap (λ y. Ok (with_step h y (record { place = place; old = []; new = given_text c } ∷ []))) (a.printed_so ∙ ap (spliced place 0 (given_text c)) q)
     ∙ (ap (λ b. Ok (with_step h (spliced place 0 b (text_now h)) (record { place = place; old = []; new = b } ∷ []))) (sym n) ∙ ap (λ k. Ok k) (sym m)))))

@@ -2,7 +2,8 @@
 use Rattle.std.proofs.Common.{◌≡◌, ◌+◌, ◌-◌, ◌≤◌, ◌<◌, ◌++◌, ℕ, suc, zero, Bool, true, false, nat_lt, if◌then◌else◌, Option, Some, Result, Ok, Err, List, [], ◌∷◌, refl, ap, sym, ◌∙◌, length, take, drop, map, get_or, arith, append_assoc, length-append}
 use Rattle.std.proofs.lemmas.Bool.{lt-ltb, ltb-true}
 use Rattle.std.proofs.lemmas.List.{length-take-le, drop_more, take_more, length-map}
-use Rattle.mk_tree.specs.Documents.{Document, tree, printed}
+use Rattle.mk_tree.specs.Documents.{Document, printed}
+use Rattle.mk_edit.specs.Leaves.{leaf_tree}
 use Rattle.mk_edit.specs.declared.errors.EditError.{EditError}
 use Rattle.mk_edit.specs.declared.errors.EditError.TheVariants.{NothingToUndo, NothingToRedo}
 use Rattle.mk_edit.specs.Changes.{Order, Do, Undo, Redo}
@@ -99,7 +100,7 @@ begun_redo text h true e b = record { others = b.others; texts = b.texts; size =
 begun_redo text h false e b = b
 
 begun_after : (text : List ℕ) (o : Order) (h : History) → Begun text h → Begun text (after o h)
-begun_after text (Do c) h b = begun_edit text h (splices_of c (tree (text_now h))) (outcome c (tree (text_now h))) b
+begun_after text (Do c) h b = begun_edit text h (splices_of c (leaf_tree (text_now h))) (outcome c (leaf_tree (text_now h))) b
 begun_after text Undo h b = begun_undo text h (nat_lt 0 h.place) b
 begun_after text Redo h b = begun_redo text h (nat_lt h.place (length h.steps)) refl b
 

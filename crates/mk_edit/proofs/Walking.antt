@@ -6,7 +6,7 @@ use Rattle.mk_line.specs.Kinds.{is_from_line}
 use Rattle.mk_line.specs.Views.{BeginsLine}
 use Rattle.mk_line.proofs.Cuts.{lines_cut, cut_rest, begins_line, append_nil}
 use Rattle.mk_head.specs.Split.{belongs, fields_from, option_line}
-use Rattle.mk_tree.specs.Documents.{tree, document_of, enveloped}
+use Rattle.mk_edit.specs.Leaves.{leaf_tree, leaf_document, leaf_enveloped}
 use Rattle.mk_edit.specs.Seams.{goes_on}
 use Rattle.mk_edit.proofs.Openings.{some_text}
 
@@ -88,18 +88,18 @@ pub no_line : (text : List ℕ) (place : ℕ) (inside : Bool) → None ≡ slice
 no_line text place inside e = ap (fields_from inside) (none_is (cut (drop place text)) e)
 
 -- the envelope, by the first line
-pub some_envelope : (text : List ℕ) (l : TextLine) → Some l ≡ slice_get (cut (drop 0 text)) 0 → is_from_line l.content ≡ true → length (printed_line l) ≡ length (text_of (option_line (tree text).envelope))
+pub some_envelope : (text : List ℕ) (l : TextLine) → Some l ≡ slice_get (cut (drop 0 text)) 0 → is_from_line l.content ≡ true → length (printed_line l) ≡ length (text_of (option_line (leaf_tree text).envelope))
 some_envelope text l e h =
     let f = first_is (cut text) l e in
-    sym (ap (λ ls. length (text_of (option_line (document_of ls).envelope))) f.is ∙ (ap (λ t. length (text_of (option_line (enveloped t l f.rest).envelope))) h ∙ one_line l))
+    sym (ap (λ ls. length (text_of (option_line (leaf_document ls).envelope))) f.is ∙ (ap (λ t. length (text_of (option_line (leaf_enveloped t l f.rest).envelope))) h ∙ one_line l))
 
-pub no_envelope : (text : List ℕ) (l : TextLine) → Some l ≡ slice_get (cut (drop 0 text)) 0 → is_from_line l.content ≡ false → 0 ≡ length (text_of (option_line (tree text).envelope))
+pub no_envelope : (text : List ℕ) (l : TextLine) → Some l ≡ slice_get (cut (drop 0 text)) 0 → is_from_line l.content ≡ false → 0 ≡ length (text_of (option_line (leaf_tree text).envelope))
 no_envelope text l e h =
     let f = first_is (cut text) l e in
-    sym (ap (λ ls. length (text_of (option_line (document_of ls).envelope))) f.is ∙ ap (λ t. length (text_of (option_line (enveloped t l f.rest).envelope))) h)
+    sym (ap (λ ls. length (text_of (option_line (leaf_document ls).envelope))) f.is ∙ ap (λ t. length (text_of (option_line (leaf_enveloped t l f.rest).envelope))) h)
 
-pub empty_envelope : (text : List ℕ) → None ≡ slice_get (cut (drop 0 text)) 0 → 0 ≡ length (text_of (option_line (tree text).envelope))
-empty_envelope text e = sym (ap (λ ls. length (text_of (option_line (document_of ls).envelope))) (none_is (cut text) e))
+pub empty_envelope : (text : List ℕ) → None ≡ slice_get (cut (drop 0 text)) 0 → 0 ≡ length (text_of (option_line (leaf_tree text).envelope))
+empty_envelope text e = sym (ap (λ ls. length (text_of (option_line (leaf_document ls).envelope))) (none_is (cut text) e))
 
 pub envelope_begins : (text : List ℕ) (l : TextLine) (size : ℕ) → Some l ≡ slice_get (cut (drop 0 text)) 0 → size ≡ length (printed_line l) → BeginsLine text size
 envelope_begins text l size e p =

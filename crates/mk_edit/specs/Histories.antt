@@ -1,6 +1,7 @@
 -- What edits, undoing and redoing make of a history (own).
 use Rattle.std.specs.Prelude.{◌≡◌, ◌+◌, ◌-◌, ◌≤◌, ◌++◌, if◌then◌else◌, ℕ, Option, None, Some, Result, Ok, Err, List, [], ◌∷◌, length, take, slice_index_or, nat_lt, suc, zero}
-use Rattle.mk_tree.specs.Documents.{Document, tree, printed}
+use Rattle.mk_tree.specs.Documents.{Document, printed}
+use Rattle.mk_edit.specs.Leaves.{leaf_tree}
 use Rattle.mk_edit.specs.declared.errors.EditError.{EditError}
 use Rattle.mk_edit.specs.declared.errors.EditError.TheVariants.{NothingToUndo, NothingToRedo}
 use Rattle.mk_edit.specs.Changes.{Order, Do, Undo, Redo}
@@ -42,7 +43,7 @@ edited_by h step (Err e) = Err e
 
 -- what an order makes of a history, or the reason why it is refused
 abbrev pub step : Order → History → Result History EditError
-step (Do c) h = edited_by h (splices_of c (tree (text_now h))) (outcome c (tree (text_now h)))
+step (Do c) h = edited_by h (splices_of c (leaf_tree (text_now h))) (outcome c (leaf_tree (text_now h)))
 step Undo h = if nat_lt 0 h.place then Ok (record h { place = h.place - 1 }) else Err NothingToUndo
 step Redo h = if nat_lt h.place (length h.steps) then Ok (record h { place = h.place + 1 }) else Err NothingToRedo
 

@@ -1,6 +1,7 @@
 -- The laws of edits and histories.
 use Rattle.std.specs.Prelude.{◌≡◌, ℕ, Some, Ok, List}
-use Rattle.mk_tree.specs.Documents.{Document, tree, printed}
+use Rattle.mk_tree.specs.Documents.{Document, printed}
+use Rattle.mk_edit.specs.Leaves.{leaf_tree}
 use Rattle.mk_edit.specs.Changes.{Change, Order, Undo, Redo}
 use Rattle.mk_edit.specs.Reasons.{outcome, splices_of}
 use Rattle.mk_edit.specs.Splices.{forth_step, back_step}
@@ -19,12 +20,12 @@ UndoingRestores = (text : List ℕ) (orders : List Order) → Restores text (aft
 
 -- the splices of an accepted edit lead from the text before to the text after, and back
 abbrev pub SplicesLead : Type 0
-SplicesLead = (c : Change) (text : List ℕ) (t : Document) → outcome c (tree text) ≡ Ok t →
-    (forth_step (splices_of c (tree text)) text ≡ printed t) × (back_step (splices_of c (tree text)) (printed t) ≡ text)
+SplicesLead = (c : Change) (text : List ℕ) (t : Document) → outcome c (leaf_tree text) ≡ Ok t →
+    (forth_step (splices_of c (leaf_tree text)) text ≡ printed t) × (back_step (splices_of c (leaf_tree text)) (printed t) ≡ text)
 
 -- an accepted edit gives a document that is read as itself
 abbrev pub EditsReadBack : Type 0
-EditsReadBack = (c : Change) (text : List ℕ) (t : Document) → outcome c (tree text) ≡ Ok t → tree (printed t) ≡ t
+EditsReadBack = (c : Change) (text : List ℕ) (t : Document) → outcome c (leaf_tree text) ≡ Ok t → leaf_tree (printed t) ≡ t
 
 -- what orders leave is a history
 abbrev pub HistoriesStay : Type 0

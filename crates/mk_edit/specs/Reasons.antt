@@ -5,7 +5,7 @@ use Rattle.mk_head.specs.Split.{option_line}
 use Rattle.mk_head.specs.Fields.{is_one_field}
 use Rattle.mk_tree.specs.Tree.{Entity, field_lines, with_fields}
 use Rattle.mk_tree.specs.Documents.{Document, document_lines}
-use Rattle.mk_tree.specs.Equal.{is_stable}
+use Rattle.mk_edit.specs.Leaves.{is_leaf_stable}
 use Rattle.mk_edit.specs.declared.errors.EditError.{EditError}
 use Rattle.mk_edit.specs.declared.errors.EditError.TheVariants.{NoSuchSection, BadField, OpenLine, Recut}
 use Rattle.mk_edit.specs.Changes.{Change, AddField}
@@ -40,7 +40,7 @@ is_open_early (l ∷ m ∷ ls) = is_open l.ending || is_open_early (m ∷ ls)
 
 -- the edited document, unless an open line would not be the last or the document would not be read as itself
 abbrev pub judged : Document → Result Document EditError
-judged t = if is_open_early (document_lines t) then Err OpenLine else (if not (is_stable t) then Err Recut else Ok t)
+judged t = if is_open_early (document_lines t) then Err OpenLine else (if not (is_leaf_stable t) then Err Recut else Ok t)
 
 abbrev pub judged_by : Result Document EditError → Result Document EditError
 judged_by (Ok t) = judged t

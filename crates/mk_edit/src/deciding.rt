@@ -4,7 +4,7 @@ ghost use Rattle.mk_line.specs.Lines.{cut as lines_of, text_of};
 ghost use Rattle.mk_line.specs.Kinds.{is_field_start, is_continuation as continues};
 ghost use Rattle.mk_line.specs.Views.{BeginsLine};
 ghost use Rattle.mk_head.specs.Split.{fields_from, option_line};
-ghost use Rattle.mk_tree.specs.Documents.{tree};
+ghost use Rattle.mk_edit.specs.Leaves.{leaf_tree};
 ghost use Rattle.mk_edit.specs.Changes.{AddField};
 ghost use Rattle.mk_edit.specs.Reasons.{is_root as at_root, lines_before, outcome};
 ghost use Rattle.mk_edit.specs.Accepted.{IsAccepted};
@@ -23,7 +23,7 @@ const ROOT: u32 = 1;
 /// Where an edit puts its bytes, or the first reason against it.
 pub fn decide(text: &[u8], edit: &Edit, meter: &mut Meter) -> Result<usize, EditError>
     ensures ok { IfOk result (λ place. IsAccepted (change_of edit.now) text.now place) }
-    ensures err { IfErr result (λ e. outcome (change_of edit.now) (tree text.now) ≡ Err e) }
+    ensures err { IfErr result (λ e. outcome (change_of edit.now) (leaf_tree text.now) ≡ Err e) }
 {
     match edit {
         Edit::AddField {
@@ -43,7 +43,7 @@ fn decide_field(
     meter: &mut Meter,
 ) -> Result<usize, EditError>
     ensures ok { IfOk result (λ place. IsAccepted (AddField path.now top field.now) text.now place) }
-    ensures err { IfErr result (λ e. outcome (AddField path.now top field.now) (tree text.now) ≡ Err e) }
+    ensures err { IfErr result (λ e. outcome (AddField path.now top field.now) (leaf_tree text.now) ≡ Err e) }
 {
     if !is_root(path) {
         return Err(EditError::NoSuchSection);
@@ -73,7 +73,7 @@ fn is_root(path: &[u32]) -> bool
 
 // Where a field is put: behind the fields, or before them.
 fn field_place(text: &[u8], top: bool, meter: &mut Meter) -> usize
-    ensures { result ≡ length (text_of (lines_before top (tree text.now))) }
+    ensures { result ≡ length (text_of (lines_before top (leaf_tree text.now))) }
 {
     let start = envelope_size(text, meter);
     if top {
@@ -85,7 +85,7 @@ fn field_place(text: &[u8], top: bool, meter: &mut Meter) -> usize
 
 // How many bytes the envelope takes.
 fn envelope_size(text: &[u8], meter: &mut Meter) -> usize
-    ensures size { result ≡ length (text_of (option_line (tree text.now).envelope)) }
+    ensures size { result ≡ length (text_of (option_line (leaf_tree text.now).envelope)) }
     ensures begins { BeginsLine text.now result }
 {
     match line_at(text, 0, meter) {

@@ -1,6 +1,6 @@
 //! A text under edit, and its history.
 ghost use Rattle.std.specs.Prelude.{◌≡◌, ◌+◌, ◌≤◌, ◌∷◌, [], ℕ, IfOk, IfErr, OnOk, OnErr, length, take, drop, map};
-ghost use Rattle.mk_tree.specs.Documents.{tree};
+ghost use Rattle.mk_edit.specs.Leaves.{leaf_tree};
 ghost use Rattle.mk_edit.specs.Changes.{Do, Undo, Redo};
 ghost use Rattle.mk_edit.specs.Reasons.{outcome};
 ghost use Rattle.mk_edit.specs.Answers.{Answers, Does};
@@ -75,7 +75,7 @@ impl Session {
 
     /// What `edit` would answer, short of memory. Nothing changes.
     pub fn check(&self, edit: &Edit, meter: &mut Meter) -> Result<(), EditError>
-        ensures { Answers result (outcome (change_of edit.now) (tree (text_now self.now))) }
+        ensures { Answers result (outcome (change_of edit.now) (leaf_tree (text_now self.now))) }
     {
         decide(&self.text, edit, meter)?;
         Ok(())

@@ -6,8 +6,8 @@ use Rattle.mk_line.specs.Lines.{TextLine, cut, text_of, printed_line}
 use Rattle.mk_line.specs.Kinds.{is_field_start, is_continuation, name_len}
 use Rattle.std.specs.List.{prefix_len}
 use Rattle.std.proofs.lemmas.List.{take_at, length-take-le}
-use Rattle.mk_line.proofs.Cuts.{text_append, text_apart, cut_rest, append_nil}
-use Rattle.mk_head.specs.Split.{is_start, is_more, fields_from, rest_from}
+use Rattle.mk_line.proofs.Cuts.{text_append, text_apart, cut_rest, append_nil, length_cut}
+use Rattle.mk_head.specs.Split.{is_start, is_more, belongs, fields_from, rest_from}
 use Rattle.mk_head.specs.Fields.{continuations, name_of, field_text, fields_of, counted}
 
 -- the lines behind the continuations in front
@@ -189,3 +189,23 @@ counted_past (x ∷ xs) (suc k) h = counted_past xs k (omega (arith, h))
 pub counted_zero : {X : Type 0} (xs : List X) → counted 0 xs ≡ None
 counted_zero [] = refl
 counted_zero (x ∷ xs) = refl
+
+-- a text has no more fields than bytes
+length_fields : (ls : List TextLine) → length (fields_of ls) ≤ length ls
+length_fields [] = omega arith
+length_fields (l ∷ ls) =
+    elim (cases_Bool (is_start l)) [
+      | inl h ↦ rw h (omega (arith, length_fields ls))
+      | inr h ↦ rw h (omega (arith, length_fields ls))
+    ]
+
+length_run : (inside : Bool) (ls : List TextLine) → length (fields_from inside ls) ≤ length ls
+length_run inside [] = omega arith
+length_run inside (l ∷ ls) =
+    elim (cases_Bool (belongs inside l)) [
+      | inl h ↦ rw h (omega (arith, length_run true ls))
+      | inr h ↦ rw h (omega arith)
+    ]
+
+pub few_fields : (text : List ℕ) → length (fields_of (fields_from false (cut text))) ≤ length text
+few_fields text = omega (arith, length_fields (fields_from false (cut text)), length_run false (cut text), length_cut text)

@@ -60,7 +60,7 @@ fn all_continue(lines: Lines<'_>) -> bool
 }
 
 // The field in front, and what stands behind it.
-fn first_field(text: &[u8]) -> Option<(Field<'_>, &[u8])>
+pub(crate) fn first_field(text: &[u8]) -> Option<(Field<'_>, &[u8])>
     ensures none { IfNone result (fields_from false (lines_of text.now) ≡ []) }
     ensures field { IfSome result (λ r. fields_of (fields_from false (lines_of text.now)) ≡ field_view r.0 ∷ fields_of (fields_from false (lines_of r.1.now))) }
     ensures size { IfSome result (λ r. length (text_of (fields_from false (lines_of text.now))) + length r.1.now ≡ length text.now + length (text_of (fields_from false (lines_of r.1.now)))) }

@@ -1,11 +1,11 @@
 -- The lines of a text joined are the text, they are lines, and no other lines join to it.
 use Rattle.std.proofs.Common.{◌≡◌, append_assoc, ◌==◌, ◌≢◌, subst, length-append, ◌<◌, ◌≤◌, ◌+◌, ◌-◌, if◌then◌else◌, ℕ, suc, zero, Bool, true, false, List, [], ◌∷◌, ◌++◌, refl, ap, sym, ◌∙◌, length, take, drop, slice_index, arith, inl, inr}
-use Rattle.std.proofs.Common.{None, Some, add-one}
+use Rattle.std.proofs.Common.{None, Some, add-one, length-drop}
 use Rattle.std.proofs.Math.Seq.{drop-length}
 use Rattle.std.proofs.lemmas.Bool.{or_parts, eqb-true, false_from_ne_true}
 use Rattle.std.proofs.lemmas.List.{take_rest}
 use Rattle.memchr.specs.Find.{IsFirstByte, is_byte}
-use Rattle.std.proofs.lemmas.Bool.Decides.{eqb_tells}
+use Rattle.std.proofs.lemmas.Bool.Decides.{eqb_tells, nat_tests}
 use Rattle.mk_line.specs.declared.cutting.Ending.{Ending}
 use Rattle.mk_line.specs.declared.cutting.Ending.TheVariants.{Crlf, Lf, Missing}
 use Rattle.mk_line.specs.Views.{BeginsLine}
@@ -253,3 +253,13 @@ begins_line text xs ys e = record {
   within = let size : length text ≡ length (text_of xs ++ text_of ys) = ap length (text_apart text xs ys e) in omega (arith, size, length-append (text_of xs) (text_of ys));
   behind_feed = begins_behind text xs ys e;
 }
+
+-- a first line and the rest make up the text
+pub front_apart : (text : List ℕ) (l : TextLine) (rest : List ℕ) → cut text ≡ l ∷ cut rest → text ≡ printed_line l ++ rest
+front_apart text l rest e = sym (text_cut text) ∙ (ap text_of e ∙ ap (λ t. printed_line l ++ t) (text_cut rest))
+
+pub some_length : (n : ℕ) → (n == 0) ≡ false → 0 < n
+some_length n h = grind (arith, nat_tests)
+
+pub shorter : (text : List ℕ) (n : ℕ) → 0 < n → 0 < length text → length (take (length text - n) (drop n text)) < length text
+shorter text n h k = omega (arith, ap length (take_rest text n), length-drop n text)

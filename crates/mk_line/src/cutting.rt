@@ -1,8 +1,8 @@
 //! Cutting a text into lines (RFC 5322, 2.1).
-ghost use Rattle.std.specs.Prelude.{◌≡◌, ◌≤◌, ◌<◌, ◌∷◌, true, length, drop, slice_get};
+ghost use Rattle.std.specs.Prelude.{◌≡◌, ◌≤◌, ◌<◌, ◌∷◌, ◌++◌, [], true, length, drop, slice_get, IfNone, IfSome};
 ghost use Rattle.std.specs.Option.{option_map};
 ghost use Rattle.std.specs.Iterator.{YieldsFirstBy, item_count};
-ghost use Rattle.mk_line.specs.Lines.{cut as lines_of, ended, eol_of as eol, closed as closed_ending, text_line, ends_in_return as ends_in_cr};
+ghost use Rattle.mk_line.specs.Lines.{cut as lines_of, ended, eol_of as eol, closed as closed_ending, printed_line, text_line, ends_in_return as ends_in_cr};
 ghost use Rattle.mk_line.specs.declared.cutting.Ending.TheVariants.{Missing};
 ghost use Rattle.mk_line.specs.Meters.{ticked};
 ghost use Rattle.mk_line.specs.Views.{line_of, BeginsLine};
@@ -75,10 +75,7 @@ impl<'a> Iterator for Lines<'a> {
     ghost remaining = { item_count (λ s. s) };
 
     fn next(&mut self) -> Option<Line<'a>> {
-        if self.rest.is_empty() {
-            return None;
-        }
-        let (line, rest) = first_line(self.rest);
+        let (line, rest) = first_line(self.rest)?;
         self.rest = rest;
         Some(line)
     }
@@ -99,11 +96,7 @@ pub fn line_at<'a>(text: &'a [u8], place: usize, meter: &mut Meter) -> Option<Li
     ensures counted { meter.new ≡ ticked meter.old }
 {
     meter.tick();
-    let rest = &text[place..];
-    if rest.is_empty() {
-        return None;
-    }
-    let (line, _) = first_line(rest);
+    let (line, _) = first_line(&text[place..])?;
     Some(line)
 }
 
@@ -117,14 +110,19 @@ pub fn eol_of(text: &[u8]) -> Ending
     }
 }
 
-// The first line of a text, and the rest of the text.
-fn first_line(text: &[u8]) -> (Line<'_>, &[u8])
-    requires { 0 < length text.now }
-    ensures { lines_of text.now ≡ line_of result.0 ∷ lines_of result.1.now }
+/// The first line of a text, and the rest of the text; `None` where the text is empty.
+pub fn first_line(text: &[u8]) -> Option<(Line<'_>, &[u8])>
+    ensures none { IfNone result (text.now ≡ []) }
+    ensures some { IfSome result (λ r. lines_of text.now ≡ line_of r.0 ∷ lines_of r.1.now) }
+    ensures rest { IfSome result (λ r. text.now ≡ printed_line (line_of r.0) ++ r.1.now) }
+    ensures less { IfSome result (λ r. length r.1.now < length text.now) }
 {
+    if text.is_empty() {
+        return None;
+    }
     match memchr(LINE_FEED, text) {
-        Some(end) => (ended_line(&text[..end]), &text[end + 1..]),
-        None => (open_line(text), &text[text.len()..]),
+        Some(end) => Some((ended_line(&text[..end]), &text[end + 1..])),
+        None => Some((open_line(text), &text[text.len()..])),
     }
 }
 

@@ -127,12 +127,12 @@ mutual
   parts_self no_parts = refl
   parts_self (part l e ps) = and_true (line_eq l l) (entity_eq e e && parts_eq ps ps) (line_self l) (and_true (entity_eq e e) (parts_eq ps ps) (entity_self e) (parts_self ps))
 
-document_same : (s t : Document) → document_eq s t ≡ true → s ≡ t
+pub document_same : (s t : Document) → document_eq s t ≡ true → s ≡ t
 document_same s t h =
     let p = both (option_eq s.envelope t.envelope) (entity_eq s.root t.root) h in
     λ i. record { envelope = option_same s.envelope t.envelope p.0 i; root = entity_same s.root t.root p.1 i }
 
-document_self : (t : Document) → document_eq t t ≡ true
+pub document_self : (t : Document) → document_eq t t ≡ true
 document_self t = and_true (option_eq t.envelope t.envelope) (entity_eq t.root t.root) (option_self t.envelope) (entity_self t.root)
 
 pub test_stable : (t : Document) → is_stable t ≡ true → IsStable t

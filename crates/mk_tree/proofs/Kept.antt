@@ -29,7 +29,7 @@ enveloped_kept true l ls = ap (λ xs. l ∷ xs) (print_read levels false ls)
 enveloped_kept false l ls = print_read levels false (l ∷ ls)
 
 pub document_kept : (ls : List TextLine) → document_lines (document_of ls) ≡ ls
-document_kept [] = refl
+document_kept [] = print_read levels false []
 document_kept (l ∷ ls) = enveloped_kept (is_from_line l.content) l ls
 
 pub lines_kept : (text : List ℕ) → document_lines (tree text) ≡ cut text

@@ -2,3 +2,14 @@ pub mod Kept
 pub mod Equals
 pub mod OneCut
 pub mod Rows
+pub mod WellRead
+pub mod Plugs
+pub mod Stability
+pub mod Placed
+pub mod Marked
+pub mod Descent
+pub mod PartsRead
+pub mod Heads
+pub mod FieldValues
+pub mod KindsSaid
+pub mod EntityRead

@@ -9,9 +9,9 @@ pub record Document : Type 0 where
   pub envelope : Option TextLine
   pub root : Entity
 
--- how many levels may stand below the root: none for now, so every root is a leaf whatever its Content-Type says
+-- how many levels may stand below the root: the root has level 1, and what stands at level 101 is a leaf (own)
 abbrev pub levels : ℕ
-levels = 0
+levels = 100
 
 -- lines whose first is the envelope, or isn't
 abbrev pub enveloped : Bool → TextLine → List TextLine → Document

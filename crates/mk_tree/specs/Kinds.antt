@@ -45,3 +45,9 @@ kind fields digest = kind_of (header_type digest fields) (header_encoding fields
 abbrev pub kind_at : ℕ → List TextLine → Bool → Kind
 kind_at zero fields digest = Leaf
 kind_at (suc left) fields digest = kind fields digest
+
+-- whether a missing type means a message in the parts of an entity of this kind (RFC 2046, 5.1.5)
+abbrev pub is_digest : Kind → Bool
+is_digest Leaf = false
+is_digest Message = false
+is_digest (Multi boundary digest) = digest

@@ -3,3 +3,11 @@ pub mod Tree
 pub mod Documents
 pub mod Equal
 pub mod Cutting
+pub mod Spans
+pub mod Sections
+pub mod Places
+pub mod Locality
+pub mod Reading
+pub mod Nodes
+pub mod Upto
+pub mod Steps

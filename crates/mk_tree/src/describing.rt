@@ -1,0 +1,136 @@
+//! What fields say of a body (RFC 2045, 5.1, 5.2 and 6; RFC 2046, 5.1 and 5.2.1).
+ghost use Rattle.std.specs.Prelude.{◌≡◌, false, true, not, IfOk, IfNone, IfSome};
+ghost use Rattle.std.specs.Option.{option_map};
+ghost use Rattle.mk_line.specs.Lines.{cut as lines_of};
+ghost use Rattle.mk_head.specs.Split.{fields_from};
+ghost use Rattle.mk_head.specs.Types.{boundary_of, field_value, header_encoding};
+ghost use Rattle.mk_head.specs.ValueViews.{media_type_of};
+ghost use Rattle.mk_tree.specs.Kinds.{kind, kind_of, has_boundary, has_return as holds_return, holds_message as is_message, is_identity as identity};
+ghost use Rattle.mk_tree.specs.Steps.{kind_described};
+
+use mk_head::{ContentType, Encoding, content_type, each_field, encoding, unfold};
+use mk_line::trimmed;
+use std::alloc::{AllocError, Global};
+
+const CARRIAGE_RETURN: u8 = b'\r';
+
+const MULTIPART: &[u8] = b"multipart";
+
+const DIGEST: &[u8] = b"digest";
+
+const MESSAGE: &[u8] = b"message";
+
+const RFC822: &[u8] = b"rfc822";
+
+const GLOBAL: &[u8] = b"global";
+
+/// What fields say of a body.
+#[derive(Debug, Drop)]
+pub enum Described {
+    Leaf,
+    Message,
+    /// A multipart with this boundary, and whether it is a digest.
+    Multi(Vec<u8>, bool),
+}
+
+/// What the fields in front of a text say of the body below them, in a digest or not.
+pub(crate) fn describe(alloc: Global, head: &[u8], digest: bool) -> Result<Described, AllocError>
+    ensures { IfOk result (λ d. kind_described d ≡ kind (fields_from false (lines_of head.now)) digest) }
+{
+    let encoding = encoding_in(alloc, head)?;
+    match value_in(alloc, head, b"Content-Type")? {
+        Some(value) => describe_type(alloc, &content_type(alloc, &value)?, encoding),
+        None => {
+            if digest && is_identity(encoding) {
+                Ok(Described::Message)
+            } else {
+                Ok(Described::Leaf)
+            }
+        }
+    }
+}
+
+// What a content type says of a body in an encoding.
+fn describe_type(
+    alloc: Global,
+    media: &ContentType,
+    encoding: Encoding,
+) -> Result<Described, AllocError>
+    ensures { IfOk result (λ d. kind_described d ≡ kind_of (media_type_of media.now) encoding) }
+{
+    if media.main.as_slice() == MULTIPART {
+        if let Some(boundary) = boundary_in(media) {
+            let boundary = Vec::from_slice(alloc, boundary)?;
+            return Ok(Described::Multi(boundary, media.sub.as_slice() == DIGEST));
+        }
+    }
+    if holds_message(media, encoding) {
+        Ok(Described::Message)
+    } else {
+        Ok(Described::Leaf)
+    }
+}
+
+// The boundary of a content type, if it counts: it has a byte and no CR.
+fn boundary_in(media: &ContentType) -> Option<&[u8]>
+    ensures none { IfNone result (has_boundary (media_type_of media.now) ≡ false) }
+    ensures counts { IfSome result (λ b. has_boundary (media_type_of media.now) ≡ true) }
+    ensures boundary { IfSome result (λ b. b.now ≡ boundary_of (media_type_of media.now)) }
+{
+    let boundary = trimmed(media.param(b"boundary")?);
+    if boundary.is_empty() || has_return(boundary) {
+        None
+    } else {
+        Some(boundary)
+    }
+}
+
+fn has_return(text: &[u8]) -> bool
+    ensures { result ≡ holds_return text.now }
+{
+    for byte in text {
+        if *byte == CARRIAGE_RETURN {
+            return true;
+        }
+    }
+    false
+}
+
+// Whether a content type in an encoding is that of a message.
+fn holds_message(media: &ContentType, encoding: Encoding) -> bool
+    ensures { result ≡ is_message (media_type_of media.now) encoding }
+{
+    let sub = media.sub.as_slice();
+    media.main.as_slice() == MESSAGE && (sub == RFC822 || sub == GLOBAL) && is_identity(encoding)
+}
+
+fn is_identity(encoding: Encoding) -> bool
+    ensures { result ≡ identity encoding }
+{
+    match encoding {
+        Encoding::Identity => true,
+        Encoding::Qp | Encoding::Base64 | Encoding::Other => false,
+    }
+}
+
+// The encoding that the fields in front of a text say.
+fn encoding_in(alloc: Global, head: &[u8]) -> Result<Encoding, AllocError>
+    ensures { IfOk result (λ e. e ≡ header_encoding (fields_from false (lines_of head.now))) }
+{
+    match value_in(alloc, head, b"Content-Transfer-Encoding")? {
+        Some(value) => Ok(encoding(&value)),
+        None => Ok(Encoding::Identity),
+    }
+}
+
+// The value of the first field of a name in front of a text.
+fn value_in(alloc: Global, head: &[u8], name: &[u8]) -> Result<Option<Vec<u8>>, AllocError>
+    ensures { IfOk result (λ v. option_map (λ b. b.items) v ≡ field_value name.now (fields_from false (lines_of head.now))) }
+{
+    for field in each_field(head) {
+        if field.is_named(name) {
+            return Ok(Some(unfold(alloc, &field)?));
+        }
+    }
+    Ok(None)
+}

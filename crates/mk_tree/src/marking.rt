@@ -1,0 +1,145 @@
+//! Passing over lines up to the first that is a delimiter or close line of an open boundary, one of a multipart around them.
+ghost use Rattle.std.specs.Prelude.{◌≡◌, ◌<◌, ◌+◌, ◌++◌, ◌∷◌, [], true, false, length, IfNone, IfSome, IfOk};
+ghost use Rattle.mk_line.specs.Lines.{cut as lines_of};
+ghost use Rattle.mk_line.specs.Views.{line_of};
+ghost use Rattle.mk_line.specs.Marks.{mark};
+ghost use Rattle.mk_head.specs.Split.{belongs as is_of_fields, separator_of, body_of, option_line};
+ghost use Rattle.mk_tree.specs.Upto.{is_mark as marks, is_marked as marked, upto, beyond, fields_until, rest_until};
+ghost use Rattle.mk_tree.specs.Spans.{size};
+ghost use Rattle.mk_tree.specs.Nodes.{tail_of};
+ghost use Rattle.mk_tree.specs.Spans.{tail_sizes};
+ghost use Rattle.mk_tree.specs.Steps.{boundaries_of, begins_part, behind_first, first_size, ended_by};
+
+use crate::node::Tail;
+use mk_line::{Line, Mark, first_line, is_continuation, is_delimiter, name_len, trimmed};
+use std::alloc::{AllocError, Global};
+
+const DASHES: &[u8; 2] = b"--";
+
+/// The open boundaries and one more.
+pub(crate) fn with_boundary<'a>(
+    alloc: Global,
+    opened: &[&'a [u8]],
+    boundary: &'a [u8],
+) -> Result<Vec<&'a [u8]>, AllocError>
+    ensures { IfOk result (λ v. boundaries_of v.items ≡ boundaries_of opened.now ++ boundary.now ∷ []) }
+{
+    let mut inside = Vec::with_capacity(alloc, opened.len() + 1)?;
+    inside.extend_from_slice(opened)?;
+    inside.push(boundary)?;
+    Ok(inside)
+}
+
+// Whether a content is the delimiter or the close line of a boundary.
+fn is_mark(content: &[u8], boundary: &[u8]) -> bool
+    ensures { result ≡ marks (mark boundary.now content.now) }
+{
+    match is_delimiter(content, boundary) {
+        Mark::No => false,
+        Mark::Part | Mark::Close => true,
+    }
+}
+
+// Whether the line is a delimiter or close line of an open boundary.
+fn is_marked(line: &Line<'_>, opened: &[&[u8]]) -> bool
+    ensures { result ≡ marked (boundaries_of opened.now) (line_of line.now) }
+{
+    if !line.content.starts_with(DASHES) {
+        return false;
+    }
+    let content = trimmed(line.content);
+    for boundary in opened {
+        if is_mark(content, boundary) {
+            return true;
+        }
+    }
+    false
+}
+
+// Whether the line belongs to a header, where a field stands before it or not.
+fn belongs(line: &Line<'_>, inside: bool) -> bool
+    ensures { result ≡ is_of_fields inside (line_of line.now) }
+{
+    name_len(line.content).is_some() || (inside && is_continuation(line.content))
+}
+
+/// What stands behind the fields in front, up to a mark.
+pub(crate) fn skip_fields<'a>(text: &'a [u8], opened: &[&[u8]]) -> &'a [u8]
+    ensures fields { length text.now ≡ size (fields_until (boundaries_of opened.now) false (lines_of text.now)) + length result.now }
+    ensures rest { rest_until (boundaries_of opened.now) false (lines_of text.now) ≡ lines_of result.now }
+{
+    let mut rest = text;
+    let mut inside = false;
+    'each: while let Some((line, behind)) = first_line(rest) {
+        if is_marked(&line, opened) || !belongs(&line, inside) {
+            break;
+        }
+        rest = behind;
+        inside = true;
+    }
+    rest
+}
+
+/// What stands behind the empty line in front, if there is one.
+pub(crate) fn skip_separator(text: &[u8]) -> &[u8]
+    ensures separator { length text.now ≡ size (option_line (separator_of (lines_of text.now))) + length result.now }
+    ensures body { body_of (lines_of text.now) ≡ lines_of result.now }
+{
+    match first_line(text) {
+        Some((line, rest)) => { if line.content.is_empty() { rest } else { text } }
+        None => text,
+    }
+}
+
+/// The first mark and what stands behind it.
+pub(crate) fn skip_unmarked<'a>(text: &'a [u8], opened: &[&[u8]]) -> &'a [u8]
+    ensures front { length text.now ≡ size (upto (boundaries_of opened.now) (lines_of text.now)) + length result.now }
+    ensures rest { beyond (boundaries_of opened.now) (lines_of text.now) ≡ lines_of result.now }
+{
+    let mut rest = text;
+    'each: while let Some((line, behind)) = first_line(rest) {
+        if is_marked(&line, opened) {
+            break;
+        }
+        rest = behind;
+    }
+    rest
+}
+
+/// What stands behind a delimiter of the boundary in front, where it is no mark of those around it.
+pub(crate) fn behind_delimiter<'a>(
+    text: &'a [u8],
+    boundary: &[u8],
+    opened: &[&[u8]],
+) -> Option<&'a [u8]>
+    ensures none { IfNone result (begins_part (boundaries_of opened.now) boundary.now (lines_of text.now) ≡ false) }
+    ensures begins { IfSome result (λ r. begins_part (boundaries_of opened.now) boundary.now (lines_of text.now) ≡ true) }
+    ensures rest { IfSome result (λ r. lines_of r.now ≡ behind_first (lines_of text.now)) }
+    ensures delimiter { IfSome result (λ r. length text.now ≡ first_size (lines_of text.now) + length r.now) }
+    ensures less { IfSome result (λ r. length r.now < length text.now) }
+{
+    let (line, rest) = first_line(text)?;
+    if !is_marked(&line, opened) && is_delimiter(line.content, boundary) == Mark::Part {
+        Some(rest)
+    } else {
+        None
+    }
+}
+
+/// The line in front and what it closes off, where it is no mark; and what stands behind.
+pub(crate) fn read_tail<'a>(text: &'a [u8], opened: &[&[u8]]) -> (Option<Tail>, &'a [u8])
+    ensures tail { tail_of result.0 ≡ tail_sizes (ended_by (boundaries_of opened.now) (lines_of text.now)) }
+    ensures rest { lines_of result.1.now ≡ beyond (boundaries_of opened.now) (lines_of text.now) }
+{
+    match first_line(text) {
+        Some((line, behind)) if !is_marked(&line, opened) => {
+            let rest = skip_unmarked(behind, opened);
+            let tail = Tail {
+                close: text.len() - behind.len(),
+                epilogue: behind.len() - rest.len(),
+            };
+            (Some(tail), rest)
+        }
+        _ => (None, text),
+    }
+}
