@@ -3,20 +3,11 @@ use Rattle.std.proofs.Common.{◌≡◌, ◌==◌, ◌&&◌, ◌<◌, ◌-◌, �
 use Rattle.std.proofs.lemmas.Bool.{or_parts}
 use Rattle.std.proofs.lemmas.List.{take_rest, nil_from_length, append-nil}
 use Rattle.std.specs.Prelude.{Bool, if◌then◌else◌}
-use Rattle.mk_line.specs.Ascii.{is_blank}
 use Rattle.mk_line.specs.Marks.{trimmed}
-use Rattle.mk_line.proofs.Blanks.{trimmed_blank, trimmed_kept}
 use Rattle.mk_code.specs.Ascii.{has_byte}
 use Rattle.std.specs.List.{flat_map}
 use Rattle.mk_line.specs.Lines.{TextLine, ending_bytes}
 use Rattle.mk_code.specs.QuotedPrintable.{is_hex_digit, pair_value, pair_at, unquoted, line_unquoted}
-
--- the last byte of a content is a blank, or nothing goes
-pub blank_off : (rest front : List ℕ) (byte : ℕ) → rest ≡ front ++ byte ∷ [] → is_blank byte ≡ true → trimmed front ≡ trimmed rest
-blank_off rest front byte e h = rw e (sym (trimmed_blank front byte h))
-
-pub blanks_gone : (rest front : List ℕ) (byte : ℕ) → rest ≡ front ++ byte ∷ [] → is_blank byte ≡ false → rest ≡ trimmed rest
-blanks_gone rest front byte e h = rw e (sym (trimmed_kept front byte h))
 
 -- a byte other than `=` stands for itself
 pub unquoted_other : (ending : List ℕ) (byte : ℕ) (bytes : List ℕ) → (byte == 61) ≡ false → unquoted ending (byte ∷ bytes) ≡ byte ∷ unquoted ending bytes

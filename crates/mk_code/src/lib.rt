@@ -4,7 +4,6 @@
 #![tactic(auto)]
 
 mod base64_text;
-mod blanks;
 mod decoding;
 mod endings;
 pub mod laws;

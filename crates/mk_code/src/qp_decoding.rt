@@ -3,10 +3,9 @@ ghost use Rattle.std.specs.Prelude.{◌≡◌, ◌<◌, ◌++◌, ◌≤◌, tru
 ghost use Rattle.mk_line.specs.Marks.{trimmed};
 ghost use Rattle.mk_code.specs.QuotedPrintable.{qp_decoded, unquoted, pair_at, is_hex_digit as hex_digit, digit_value as value_of};
 
-use crate::blanks::without_blanks;
 use crate::endings::bytes_of;
 use crate::splitting::split_once;
-use mk_line::cut;
+use mk_line::{cut, trimmed};
 use std::alloc::{AllocError, Global};
 
 const EQUALS: u8 = b'=';
@@ -29,7 +28,7 @@ pub(crate) fn decode(alloc: Global, text: &[u8]) -> Result<Vec<u8>, AllocError>
 fn push_line(out: &mut Vec<u8>, content: &[u8], ending: &[u8]) -> Result<(), AllocError>
     ensures { OnOk result (out.new.items ≡ out.old.items ++ unquoted ending.now (trimmed content.now)) }
 {
-    let mut rest = without_blanks(content);
+    let mut rest = trimmed(content);
     while let Some((front, behind)) = split_once(EQUALS, rest) {
         out.extend_from_slice(front)?;
         if behind.is_empty() {

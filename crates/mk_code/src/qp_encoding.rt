@@ -7,11 +7,10 @@ ghost use Rattle.mk_code.specs.OutputLines.{widest};
 ghost use Rattle.mk_code.specs.QuotedPrintable.{qp_encoded, packed, form, limit as line_limit, is_plain, is_quiet as quiet, is_guarded as guarded, escaped, hex_digit as digit_of, logical_lines};
 ghost use Rattle.mk_line.specs.declared.cutting.Ending.TheVariants.{Crlf};
 
-use crate::blanks::is_blank;
 use crate::endings::bytes_of;
 use crate::splitting::split_once;
 use memchr::memmem;
-use mk_line::Ending;
+use mk_line::{Ending, is_blank};
 use std::alloc::{AllocError, Global};
 
 const EQUALS: u8 = b'=';

@@ -4,9 +4,8 @@ ghost use Rattle.std.specs.List.{prefix_len};
 ghost use Rattle.mk_line.specs.Ascii.{is_blank as blank};
 ghost use Rattle.mk_code.specs.EncodedWords.{words_decoded, unfolded, runs, shown, is_decoded, word_shown, gap_shown};
 
-use crate::blanks::is_blank;
 use crate::one_word::decode_word;
-use mk_line::cut;
+use mk_line::{cut, is_blank};
 use std::alloc::{AllocError, Global};
 
 /// The value with its encoded words decoded, in UTF-8 where the charset is known. Line endings are taken
