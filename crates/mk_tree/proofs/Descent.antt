@@ -98,3 +98,8 @@ size_append xs ys = ap length (text_append xs ys) ∙ length-append (text_of xs)
 
 pub size_beyond : (bs : List (List ℕ)) (ls : List TextLine) → size (upto bs ls) + size (beyond bs ls) ≡ size ls
 size_beyond bs ls = sym (size_append (upto bs ls) (beyond bs ls)) ∙ ap size (upto_beyond bs ls)
+
+-- no boundary ends nothing
+pub upto_none : (ls : List TextLine) → upto [] ls ≡ ls
+upto_none [] = refl
+upto_none (l ∷ ls) = ap (λ xs. l ∷ xs) (upto_none ls)

@@ -7,7 +7,8 @@ use Rattle.mk_tree.specs.Tree.{Entity, leaf, message, multi, read, entity_by, en
 use Rattle.mk_tree.specs.Places.{below}
 use Rattle.mk_tree.specs.Spans.{size, Form, span, Spans, span_of}
 use Rattle.mk_tree.specs.Upto.{upto, beyond, fields_until, rest_until}
-use Rattle.mk_tree.specs.Steps.{KeptOfBody, form_in, spans_in}
+use Rattle.mk_tree.specs.Steps.{KeptOfBody}
+use Rattle.mk_tree.specs.Forms.{form_in, spans_in}
 use Rattle.mk_tree.proofs.Kept.{print_read}
 use Rattle.mk_tree.proofs.Descent.{size_cut, size_beyond}
 use Rattle.mk_tree.proofs.Heads.{fields_upto, rest_upto, beyond_rest, fields_again, until_apart, separator_upto, front_lines}

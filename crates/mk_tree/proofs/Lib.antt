@@ -12,4 +12,10 @@ pub mod PartsRead
 pub mod Heads
 pub mod FieldValues
 pub mod KindsSaid
+pub mod Slices
+pub mod Counting
+pub mod Endings
+pub mod SectionViews
+pub mod Below
+pub mod Roots
 pub mod EntityRead

@@ -11,3 +11,6 @@ pub mod Reading
 pub mod Nodes
 pub mod Upto
 pub mod Steps
+pub mod Forms
+pub mod Codes
+pub mod Layouts

@@ -8,10 +8,11 @@ use Rattle.mk_line.specs.Marks.{mark}
 use Rattle.mk_tree.specs.declared.describing.Described.{Described}
 use Rattle.mk_tree.specs.declared.describing.Described.TheVariants as described
 use Rattle.mk_tree.specs.Kinds.{Kind, Leaf, Message, Multi}
-use Rattle.mk_tree.specs.Tree.{Entity, leaf, message, multi, read, entity_by, parts_by}
+use Rattle.mk_tree.specs.Tree.{read, entity_by, parts_by}
 use Rattle.mk_tree.specs.Kinds.{kind_at}
-use Rattle.mk_tree.specs.Spans.{size, tail_sizes, Form, leaf_form, message_form, multi_form, span_of, Spans, spans_of, no_spans, more_spans, digest_below}
+use Rattle.mk_tree.specs.Spans.{size, Form, Spans, spans_of}
 use Rattle.mk_tree.specs.Places.{below}
+use Rattle.mk_tree.specs.Forms.{form_in, spans_in}
 use Rattle.mk_tree.specs.Upto.{is_marked, upto, beyond, inner}
 
 -- boundaries in memory as lists of bytes
@@ -50,17 +51,6 @@ ended_by bs (l ∷ ls) = if is_marked bs l then None else Some (l, upto bs ls)
 abbrev pub AtMark : List (List ℕ) → List TextLine → Type 0
 AtMark bs [] = Unit {0}
 AtMark bs (l ∷ ls) = is_marked bs l ≡ true
-
--- what is kept of the body of an entity, in a digest or not
-abbrev pub form_in : Bool → Entity → Form
-form_in digest (leaf h ls) = leaf_form
-form_in digest (message h e) = message_form
-form_in digest (multi h b pre ps t) = multi_form b (digest_below digest h) (size pre) (tail_sizes t)
-
-abbrev pub spans_in : Bool → Entity → Spans
-spans_in digest (leaf h ls) = no_spans
-spans_in digest (message h e) = more_spans (span_of false 0 e) no_spans
-spans_in digest (multi h b pre ps t) = spans_of (digest_below digest h) ps
 
 -- a form and spans are kept of the body that lines are read as behind fields
 abbrev pub KeptOfBody : ℕ → Bool → List TextLine → List TextLine → Form → Spans → Type 0

@@ -3,8 +3,20 @@
 //! A message is an optional envelope line and one entity, a head and a body.
 #![tactic(auto)]
 
+mod children;
 mod describing;
+mod doc;
 pub mod laws;
 mod marking;
 mod node;
 mod reading;
+mod section;
+mod shapes;
+
+pub use children::Children;
+pub use doc::Doc;
+pub use section::Section;
+pub use shapes::Kind;
+
+#[cfg(test)]
+mod tests;
