@@ -86,6 +86,19 @@ fn headers_of_texts(rt: HostRuntime) -> Result<(), Fail> {
 }
 
 #[test]
+fn fields_one_by_one(rt: HostRuntime) -> Result<(), Fail> {
+    for row in &ROWS {
+        let mut expected = row.fields.iter();
+        for field in each_field(row.text) {
+            let raw = expected.next().ok_or("a field too many")?;
+            assert_eq!(rt; field.raw, *raw);
+        }
+        assert!(rt; expected.next().is_none());
+    }
+    Ok(())
+}
+
+#[test]
 fn fields_are_found_by_name_and_number(rt: HostRuntime) -> Result<(), Fail> {
     let alloc = rt.alloc();
     let found = header(alloc, b"A: 1\nB: 2\na: 3\n\nA: 4\n")?;
