@@ -10,4 +10,11 @@ pub mod Seams
 pub mod Rooms
 pub mod Accepted
 pub mod Views
+pub mod Edits
+pub mod FieldEdits
+pub mod Wrapping
+pub mod Plans
+pub mod Outcomes
+pub mod Local
+pub mod EditLaws
 pub mod Laws

@@ -5,6 +5,7 @@
 #![tactic(auto)]
 
 mod deciding;
+pub mod edit_laws;
 mod edits;
 mod errors;
 pub mod laws;

@@ -7,7 +7,7 @@ use Rattle.mk_head.specs.Types.{field_value, type_by, default_type, header_encod
 use Rattle.mk_head.specs.Values.{MediaType, content_type_of}
 use Rattle.mk_tree.specs.Kinds.{Kind, Leaf, Message, kind, kind_of, is_identity}
 
-kind_by : (fields : List TextLine) (digest : Bool) (e : Encoding) (o : Option (List ℕ)) → e ≡ header_encoding fields → o ≡ field_value (codes "Content-Type") fields → kind fields digest ≡ kind_of (type_by digest o) e
+pub kind_by : (fields : List TextLine) (digest : Bool) (e : Encoding) (o : Option (List ℕ)) → e ≡ header_encoding fields → o ≡ field_value (codes "Content-Type") fields → kind fields digest ≡ kind_of (type_by digest o) e
 unfolding kind
 kind_by fields digest e o h k = λ i. kind_of (type_by digest (sym k i)) (sym h i)
 
@@ -17,7 +17,7 @@ pub kind_some : {X V : Type 0} (fields : List TextLine) (digest : Bool) (e : Enc
 kind_some fields digest e value media f r h k m o =
     subst (λ g. IfOk r (λ d. f d ≡ g)) (ap (λ t. kind_of t e) m ∙ sym (kind_by fields digest e (Some value) h k)) o
 
-kind_default : (digest : Bool) (e : Encoding) (t : Bool) → (digest && is_identity e) ≡ t → kind_of (default_type digest) e ≡ (if t then Message else Leaf)
+pub kind_default : (digest : Bool) (e : Encoding) (t : Bool) → (digest && is_identity e) ≡ t → kind_of (default_type digest) e ≡ (if t then Message else Leaf)
 kind_default true Identity true h = refl
 kind_default true Qp true h = cc
 kind_default true Base64 true h = cc

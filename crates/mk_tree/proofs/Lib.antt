@@ -18,4 +18,11 @@ pub mod Endings
 pub mod SectionViews
 pub mod Below
 pub mod Roots
+pub mod ChangedNodes
+pub mod Respans
+pub mod OwnFields
+pub mod Leads
+pub mod FieldsChanged
+pub mod HeadChanged
+pub mod Spliced
 pub mod EntityRead

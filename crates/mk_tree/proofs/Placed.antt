@@ -158,7 +158,7 @@ sections_placed t ks =
     ∙ map_same (λ q. placed_in (root_of t) q.0 q.1) (λ q. placed t.envelope q.0 q.1) (λ q. root_placed t q.0 q.1) (place_at ks t.root)
 
 -- what is found, put back where it stood, gives what it was found in
-abbrev MakesParts : Parts → Option (Parts × TextLine × Entity × Parts) → Type 0
+abbrev pub MakesParts : Parts → Option (Parts × TextLine × Entity × Parts) → Type 0
 MakesParts ps None = Unit {0}
 MakesParts ps (Some q) = append_parts q.0 (part q.1 q.2 q.3) ≡ ps
 
@@ -166,13 +166,13 @@ parts_later : (l : TextLine) (e : Entity) (ps : Parts) (o : Option (Parts × Tex
 parts_later l e ps None h = tt
 parts_later l e ps (Some q) h = ap (λ qs. part l e qs) h
 
-parts_made : (k : ℕ) (ps : Parts) → MakesParts ps (part_at k ps)
+pub parts_made : (k : ℕ) (ps : Parts) → MakesParts ps (part_at k ps)
 parts_made k no_parts = tt
 parts_made zero (part l e ps) = tt
 parts_made (suc zero) (part l e ps) = refl
 parts_made (suc (suc k)) (part l e ps) = parts_later l e ps (part_at (suc k) ps) (parts_made (suc k) ps)
 
-abbrev MakesStep : Entity → Option (Frame × Entity) → Type 0
+abbrev pub MakesStep : Entity → Option (Frame × Entity) → Type 0
 MakesStep e None = Unit {0}
 MakesStep e (Some r) = plug_one r.0 r.1 ≡ e
 
@@ -180,7 +180,7 @@ multi_made : (h : Head) (b : List ℕ) (pre : List TextLine) (ps : Parts) (t : O
 multi_made h b pre ps t None m = tt
 multi_made h b pre ps t (Some q) m = ap (λ qs. multi h b pre qs t) m
 
-step_made : (k : ℕ) (e : Entity) → MakesStep e (step_to k e)
+pub step_made : (k : ℕ) (e : Entity) → MakesStep e (step_to k e)
 step_made k (leaf h ls) = tt
 step_made zero (message h e) = tt
 step_made (suc zero) (message h e) = refl

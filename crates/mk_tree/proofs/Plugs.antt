@@ -28,22 +28,22 @@ print_plug [] e = sym (lines_end (print e))
 print_plug (in_message h ∷ fs) e = ap (λ xs. head_lines h ++ xs) (print_plug fs e) ∙ sym (append_assoc (head_lines h) (lines_before fs) (print e ++ lines_after fs))
 print_plug (in_multi h b pre before l after t ∷ fs) e = rw (print_append before (part l (plug fs e) after), print_plug fs e) (simp append_assoc refl)
 
-unmarked_left : (b : List ℕ) (xs ys : List TextLine) → Unmarked b (xs ++ ys) → Unmarked b xs
+pub unmarked_left : (b : List ℕ) (xs ys : List TextLine) → Unmarked b (xs ++ ys) → Unmarked b xs
 unmarked_left b [] ys u = tt
 unmarked_left b (x ∷ xs) ys u = (u.0, unmarked_left b xs ys u.1)
 
-unmarked_right : (b : List ℕ) (xs ys : List TextLine) → Unmarked b (xs ++ ys) → Unmarked b ys
+pub unmarked_right : (b : List ℕ) (xs ys : List TextLine) → Unmarked b (xs ++ ys) → Unmarked b ys
 unmarked_right b [] ys u = u
 unmarked_right b (x ∷ xs) ys u = unmarked_right b xs ys u.1
 
-unmarked_join : (b : List ℕ) (xs ys : List TextLine) → Unmarked b xs → Unmarked b ys → Unmarked b (xs ++ ys)
+pub unmarked_join : (b : List ℕ) (xs ys : List TextLine) → Unmarked b xs → Unmarked b ys → Unmarked b (xs ++ ys)
 unmarked_join b [] ys u v = v
 unmarked_join b (x ∷ xs) ys u v = (u.0, unmarked_join b xs ys u.1 v)
 
-unmarked_section : (b : List ℕ) (fs : List Frame) (e : Entity) → Unmarked b (print (plug fs e)) → Unmarked b (print e)
+pub unmarked_section : (b : List ℕ) (fs : List Frame) (e : Entity) → Unmarked b (print (plug fs e)) → Unmarked b (print e)
 unmarked_section b fs e u = unmarked_left b (print e) (lines_after fs) (unmarked_right b (lines_before fs) (print e ++ lines_after fs) (subst (Unmarked b) (print_plug fs e) u))
 
-unmarked_replaced : (b : List ℕ) (fs : List Frame) (s e : Entity) → Unmarked b (print (plug fs s)) → Unmarked b (print e) → Unmarked b (print (plug fs e))
+pub unmarked_replaced : (b : List ℕ) (fs : List Frame) (s e : Entity) → Unmarked b (print (plug fs s)) → Unmarked b (print e) → Unmarked b (print (plug fs e))
 unmarked_replaced b fs s e u v =
     let w : Unmarked b (lines_before fs ++ (print s ++ lines_after fs)) = subst (Unmarked b) (print_plug fs s) u in
     let after : Unmarked b (lines_after fs) = unmarked_right b (print s) (lines_after fs) (unmarked_right b (lines_before fs) (print s ++ lines_after fs) w) in
@@ -83,10 +83,10 @@ pub untyped : (n : ℕ) → kind_at n [] false ≡ Leaf
 untyped zero = refl
 untyped (suc n) = untyped_kind
 
-message_leaf : Message ≡ Leaf → ⊥
+pub message_leaf : Message ≡ Leaf → ⊥
 message_leaf e = cc
 
-multi_leaf : (b : List ℕ) (g : Bool) → Multi b g ≡ Leaf → ⊥
+pub multi_leaf : (b : List ℕ) (g : Bool) → Multi b g ≡ Leaf → ⊥
 multi_leaf b g e = cc
 
 -- so an entity with another below it has fields
@@ -98,7 +98,7 @@ has_fields n (in_multi h b pre before l after t) fs e w p = multi_leaf b (digest
 no_start : (inside : Bool) (l : TextLine) → belongs inside l ≡ false → belongs false l ≡ false
 no_start inside l h = rw (or_parts (is_start l) (inside && is_more l) h).0 refl
 
-bare_lines : (inside : Bool) (ls : List TextLine) → Stops inside ls → head_of ls ≡ open_head []
+pub bare_lines : (inside : Bool) (ls : List TextLine) → Stops inside ls → head_of ls ≡ open_head []
 bare_lines inside [] h = refl
 bare_lines inside (l ∷ ls) h = rw (no_start inside l h.0, h.1) refl
 
@@ -106,15 +106,15 @@ bare_lines inside (l ∷ ls) h = rw (no_start inside l h.0, h.1) refl
 pub bare : (inside : Bool) (n : ℕ) (d : Bool) (e : Entity) → Stops inside (print e) → IsWellRead n d e → entity_head e ≡ open_head []
 bare inside n d e h w = ap entity_head (sym (well_read n d e w)) ∙ (read_head n d (print e) ∙ bare_lines inside (print e) h)
 
-stops_first : (inside : Bool) (ls : List TextLine) → Stops inside ls → Stops inside (first_line ls)
+pub stops_first : (inside : Bool) (ls : List TextLine) → Stops inside ls → Stops inside (first_line ls)
 stops_first inside [] h = tt
 stops_first inside (l ∷ ls) h = h
 
-first_stops : (inside : Bool) (ls : List TextLine) → Stops inside (first_line ls) → Stops inside ls
+pub first_stops : (inside : Bool) (ls : List TextLine) → Stops inside (first_line ls) → Stops inside ls
 first_stops inside [] h = tt
 first_stops inside (l ∷ ls) h = h
 
-ends_of : (fields ls : List TextLine) → IsSplit (open_head fields) ls → Ends fields ls
+pub ends_of : (fields ls : List TextLine) → IsSplit (open_head fields) ls → Ends fields ls
 ends_of fields ls s =
     let p = splits_read (open_head fields) ls s in
     record {
@@ -122,11 +122,11 @@ ends_of fields ls s =
       body = ap (λ xs. behind_head (xs ++ ls)) (sym (lines_end fields)) ∙ p.1;
     }
 
-of_ends : (fields ls : List TextLine) → Ends fields ls → IsSplit (open_head fields) ls
+pub of_ends : (fields ls : List TextLine) → Ends fields ls → IsSplit (open_head fields) ls
 of_ends fields ls h = subst (λ k. IsSplit k ls) h.head (subst (IsSplit (head_of (fields ++ ls))) h.body (reads_split (fields ++ ls)))
 
 -- an entity that is read back behind a head of a message continues it
-continues_of : (n : ℕ) (d : Bool) (fields : List TextLine) (o : Option TextLine) (e : Entity) → IsRun false fields → Follows (has_line fields) o (print e) → IsWellRead n d e → Continues fields o e
+pub continues_of : (n : ℕ) (d : Bool) (fields : List TextLine) (o : Option TextLine) (e : Entity) → IsRun false fields → Follows (has_line fields) o (print e) → IsWellRead n d e → Continues fields o e
 continues_of n d fields (Some l) e r h w = tt
 continues_of n d fields None e r h w =
     (bare (has_line fields) n d e h w, ends_of fields (first_line (print e)) (record { run = r; next = stops_first (has_line fields) (print e) h }))
@@ -157,12 +157,12 @@ message_follows n h [] s e p w j = continues_follows h.fields h.separator s e p 
 message_follows n h (f ∷ fs) s e p w j = deeper_follows n (has_line h.fields) h.separator f fs s e p w
 
 -- the first line of a multipart's body is never inside a part
-stops_same : (inside : Bool) (pre : List TextLine) (before : Parts) (l : TextLine) (s e : Entity) (after : Parts) (rest : List TextLine) → Stops inside (pre ++ (print_parts (append_parts before (part l s after)) ++ rest)) → Stops inside (pre ++ (print_parts (append_parts before (part l e after)) ++ rest))
+pub stops_same : (inside : Bool) (pre : List TextLine) (before : Parts) (l : TextLine) (s e : Entity) (after : Parts) (rest : List TextLine) → Stops inside (pre ++ (print_parts (append_parts before (part l s after)) ++ rest)) → Stops inside (pre ++ (print_parts (append_parts before (part l e after)) ++ rest))
 stops_same inside (p ∷ pre) before l s e after rest h = h
 stops_same inside [] no_parts l s e after rest h = h
 stops_same inside [] (part m x ps) l s e after rest h = h
 
-multi_follows : (inside : Bool) (o : Option TextLine) (pre : List TextLine) (before : Parts) (l : TextLine) (s e : Entity) (after : Parts) (rest : List TextLine) → Follows inside o (pre ++ (print_parts (append_parts before (part l s after)) ++ rest)) → Follows inside o (pre ++ (print_parts (append_parts before (part l e after)) ++ rest))
+pub multi_follows : (inside : Bool) (o : Option TextLine) (pre : List TextLine) (before : Parts) (l : TextLine) (s e : Entity) (after : Parts) (rest : List TextLine) → Follows inside o (pre ++ (print_parts (append_parts before (part l s after)) ++ rest)) → Follows inside o (pre ++ (print_parts (append_parts before (part l e after)) ++ rest))
 multi_follows inside (Some m) pre before l s e after rest h = h
 multi_follows inside None pre before l s e after rest h = stops_same inside pre before l s e after rest h
 

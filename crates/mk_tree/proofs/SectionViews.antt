@@ -68,7 +68,7 @@ pub record Keeps (node : Node) (digest : Bool) (e : Entity) : Type 0 where
   pub form : form_of (out-Node node).shape ≡ form_in digest e
   pub spans : map node_span (out-Node node).parts.items ≡ span_list (spans_in digest e)
 
-abbrev opened : Node → Span
+abbrev pub opened : Node → Span
 opened node = span (out-Node node).delimiter (out-Node node).fields (out-Node node).separator (out-Node node).size (form_of (out-Node node).shape) (spans_with (map node_span (out-Node node).parts.items) no_spans)
 
 pub opens : (node : Node) → node_span node ≡ opened node

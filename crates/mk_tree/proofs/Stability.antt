@@ -58,7 +58,7 @@ read_parts None [] r b h = λ i. record { envelope = None; root = h i }
 read_parts None (l ∷ ls) r b h = ap (λ t. enveloped t l ls) b ∙ (λ i. record { envelope = None; root = h i })
 
 -- lines that begin with a field begin with it whatever follows
-fields_plain : (fields rest other more : List TextLine) → (fields ≡ [] → ⊥) → BeginsPlain ((fields ++ rest) ++ other) → BeginsPlain ((fields ++ rest) ++ more)
+pub fields_plain : (fields rest other more : List TextLine) → (fields ≡ [] → ⊥) → BeginsPlain ((fields ++ rest) ++ other) → BeginsPlain ((fields ++ rest) ++ more)
 fields_plain [] rest other more h p = absurd (h refl)
 fields_plain (l ∷ ls) rest other more h p = p
 

@@ -14,3 +14,6 @@ pub mod Steps
 pub mod Forms
 pub mod Codes
 pub mod Layouts
+pub mod Changed
+pub mod Splicing
+pub mod ChangeViews

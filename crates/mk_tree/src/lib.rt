@@ -3,6 +3,7 @@
 //! A message is an optional envelope line and one entity, a head and a body.
 #![tactic(auto)]
 
+mod changing;
 mod children;
 mod describing;
 mod doc;
@@ -12,11 +13,13 @@ mod node;
 mod reading;
 mod section;
 mod shapes;
+mod splicing;
 
 pub use children::Children;
 pub use doc::Doc;
 pub use section::Section;
 pub use shapes::Kind;
+pub use splicing::{Change, replace};
 
 #[cfg(test)]
 mod tests;

@@ -1,0 +1,54 @@
+-- A field among the lines of fields, by its name, and what edits make of it.
+use Rattle.std.specs.Prelude.{◌&&◌, ◌++◌, if◌then◌else◌, ℕ, Bool, not, Option, None, Some, List, [], ◌∷◌, suc, zero}
+use Rattle.std.specs.Option.{option_map}
+use Rattle.std.specs.List.{list_all}
+use Rattle.mk_line.specs.Ascii.{is_name_byte}
+use Rattle.mk_line.specs.Lines.{TextLine, text_line, is_nil}
+use Rattle.mk_head.specs.Split.{is_start, is_more}
+use Rattle.mk_head.specs.Fields.{continuations, field_text, is_named}
+
+-- a field start of a name, without regard to ASCII case (RFC 5322, 2.2)
+abbrev pub starts_named : List ℕ → TextLine → Bool
+starts_named name l = is_start l && is_named name (field_text l [])
+
+-- what stands behind the continuations in front
+abbrev pub behind_continuations : List TextLine → List TextLine
+behind_continuations [] = []
+behind_continuations (l ∷ ls) = if is_more l then behind_continuations ls else l ∷ ls
+
+-- a field among others: the lines before it, its field start, the lines that continue it, the lines behind it
+pub record Found : Type 0 where
+  pub before : List TextLine
+  pub start : TextLine
+  pub more : List TextLine
+  pub after : List TextLine
+
+-- a field found behind a line
+abbrev pub found_behind : TextLine → Option Found → Option Found
+found_behind l o = option_map (λ (f : Found). record { before = l ∷ f.before; start = f.start; more = f.more; after = f.after }) o
+
+-- the field of the first line that passes a test, or, where so many such are passed over, of a later one
+abbrev pub find : (TextLine → Bool) → ℕ → List TextLine → Option Found
+find test k [] = None
+find test zero (l ∷ ls) =
+    if test l then Some (record { before = []; start = l; more = continuations ls; after = behind_continuations ls })
+    else found_behind l (find test zero ls)
+find test (suc k) (l ∷ ls) = found_behind l (find test (if test l then k else suc k) ls)
+
+-- the k-th field of a name, counted from 1
+abbrev pub field_at : List ℕ → ℕ → List TextLine → Option Found
+field_at name zero ls = None
+field_at name (suc k) ls = find (starts_named name) k ls
+
+-- what stands behind the name that a content begins with
+abbrev pub behind_name : List ℕ → List ℕ
+behind_name [] = []
+behind_name (byte ∷ bytes) = if is_name_byte byte then behind_name bytes else byte ∷ bytes
+
+-- a field start with another name
+abbrev pub renamed : List ℕ → TextLine → TextLine
+renamed to l = text_line (to ++ behind_name l.content) l.ending
+
+-- a name has one byte or more, each a byte of a name (RFC 5322, 2.2)
+abbrev pub is_name : List ℕ → Bool
+is_name bytes = not (is_nil bytes) && list_all is_name_byte bytes

@@ -1,0 +1,93 @@
+-- A section made the one part of a multipart: what stands around it, and what it becomes (own; RFC 2046, 5.1).
+use Rattle.std.specs.Prelude.{◌||◌, ◌++◌, if◌then◌else◌, ℕ, Bool, true, false, Option, None, Some, List, [], ◌∷◌, codes, nat_eq}
+use Rattle.std.specs.List.{starts_with}
+use Rattle.mk_line.specs.declared.cutting.Ending.{Ending}
+use Rattle.mk_line.specs.Lines.{TextLine, text_line, is_open}
+use Rattle.mk_line.specs.Marks.{dashed}
+use Rattle.mk_head.specs.Split.{Head, is_start}
+use Rattle.mk_head.specs.Splits.{has_line}
+use Rattle.mk_head.specs.Fields.{name_of}
+use Rattle.mk_head.specs.Values.{lowered}
+use Rattle.mk_tree.specs.Tree.{Entity, leaf, message, multi, no_parts, part, field_lines}
+use Rattle.mk_tree.specs.Places.{Frame, lines_after}
+use Rattle.mk_edit.specs.FieldEdits.{starts_named}
+
+-- a field start whose name begins with Content-, without regard to ASCII case (RFC 2045, 9: such fields describe the content)
+abbrev pub describes_content : TextLine → Bool
+describes_content l = starts_with nat_eq (lowered (name_of l)) (codes "content-")
+
+-- whether a line belongs to such a field; inside: one stands before it
+abbrev pub is_content_line : Bool → TextLine → Bool
+is_content_line inside l = if is_start l then describes_content l else inside
+
+-- the lines of these fields
+abbrev pub content_fields : Bool → List TextLine → List TextLine
+content_fields inside [] = []
+content_fields inside (l ∷ ls) = if is_content_line inside l then l ∷ content_fields true ls else content_fields false ls
+
+-- the lines of the other fields
+abbrev pub other_fields : Bool → List TextLine → List TextLine
+other_fields inside [] = []
+other_fields inside (l ∷ ls) = if is_content_line inside l then other_fields true ls else l ∷ other_fields false ls
+
+-- some field has the name
+abbrev pub names_field : List ℕ → List TextLine → Bool
+names_field name [] = false
+names_field name (l ∷ ls) = starts_named name l || names_field name ls
+
+-- only the root of a document says its MIME version (RFC 2045, 4), and says it once
+abbrev pub version_lines : Ending → List Frame → List TextLine → List TextLine
+version_lines eol [] others = if names_field (codes "MIME-Version") others then [] else text_line (codes "MIME-Version: 1.0") eol ∷ []
+version_lines eol (f ∷ fs) others = []
+
+-- the field that says the boundary (RFC 2046, 5.1.1)
+abbrev pub type_line : Ending → List ℕ → List ℕ → TextLine
+type_line eol subtype boundary = text_line (codes "Content-Type: multipart/" ++ (subtype ++ (codes "; boundary=\"" ++ (boundary ++ codes "\"")))) eol
+
+-- the delimiter of a part (RFC 2046, 5.1.1)
+abbrev pub delimiter_line : Ending → List ℕ → TextLine
+delimiter_line eol boundary = text_line (dashed boundary) eol
+
+-- the close line behind the last part (RFC 2046, 5.1.1)
+abbrev pub close_line : Ending → List ℕ → TextLine
+close_line eol boundary = text_line (dashed boundary ++ codes "--") eol
+
+-- the made lines that aren't empty; an empty line is never a mark
+abbrev pub made_lines : Ending → List Frame → List TextLine → List ℕ → List ℕ → List TextLine
+made_lines eol fs others subtype boundary = version_lines eol fs others ++ (type_line eol subtype boundary ∷ delimiter_line eol boundary ∷ close_line eol boundary ∷ [])
+
+-- a separator, made where there is none
+abbrev pub separator_or : Ending → Option TextLine → TextLine
+separator_or eol None = text_line [] eol
+separator_or eol (Some l) = l
+
+-- lines with an ending put behind them: an open last line gets it, else it is an empty line more
+abbrev pub ended_lines : Ending → List TextLine → List TextLine
+ended_lines eol [] = text_line [] eol ∷ []
+ended_lines eol (l ∷ []) = if is_open l.ending then text_line l.content eol ∷ [] else l ∷ text_line [] eol ∷ []
+ended_lines eol (l ∷ m ∷ ls) = l ∷ ended_lines eol (m ∷ ls)
+
+-- the head of the part
+abbrev pub inner_head : Ending → Head → Head
+inner_head eol h = record { fields = content_fields false h.fields; separator = Some (separator_or eol h.separator) }
+
+-- the part: a leaf that no line follows gets an ending, which belongs to the close line behind it
+abbrev pub inner_part : Ending → List Frame → Entity → Entity
+inner_part eol fs (leaf h ls) = leaf (inner_head eol h) (if has_line (lines_after fs) then ls else ended_lines eol ls)
+inner_part eol fs (message h e) = message (inner_head eol h) e
+inner_part eol fs (multi h b pre ps t) = multi (inner_head eol h) b pre ps t
+
+-- the fields of the multipart: those that don't describe the content, and the made ones
+abbrev pub outer_fields : Ending → List Frame → List TextLine → List ℕ → List ℕ → List TextLine
+outer_fields eol fs others subtype boundary = others ++ (version_lines eol fs others ++ (type_line eol subtype boundary ∷ []))
+
+-- the head of the multipart
+abbrev pub outer_head : Ending → List Frame → Entity → List ℕ → List ℕ → Head
+outer_head eol fs s subtype boundary = record { fields = outer_fields eol fs (other_fields false (field_lines s)) subtype boundary; separator = Some (text_line [] eol) }
+
+-- the multipart
+abbrev pub wrapped : Ending → List Frame → Entity → List ℕ → List ℕ → Entity
+wrapped eol fs s subtype boundary =
+    multi (outer_head eol fs s subtype boundary) boundary []
+    (part (delimiter_line eol boundary) (inner_part eol fs s) no_parts)
+    (Some (close_line eol boundary, []))
