@@ -1,1 +1,5 @@
 pub mod Devices
+pub mod Ascii
+pub mod Listed
+pub mod Listing
+pub mod Extracts

@@ -1,7 +1,16 @@
-//! Mail over devices: a `Source` that gives bytes and a `Sink` that takes them.
+//! Mail as a whole: the sections of a document listed and taken out, and devices that mail comes from and goes to.
 
 #![tactic(auto)]
 
 mod device;
+mod extracting;
+mod listing;
+mod typing;
+mod writing;
 
 pub use device::{Fault, Sink, Source};
+pub use extracting::{ExtractError, extract};
+pub use listing::list;
+
+#[cfg(test)]
+mod tests;

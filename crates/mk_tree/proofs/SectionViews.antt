@@ -255,10 +255,19 @@ run_again inside (l ∷ ls) =
       | inr h ↦ rw h refl
     ]
 
-pub fields_are : (raw : List ℕ) (start : ℕ) (followed digest : Bool) (left n : ℕ) → n ≡ size (fields_in (read left digest (cut raw)))
-    → fields_of (fields_from false (cut (take n raw))) ≡ section_fields (placed_over raw start followed digest left)
-fields_are raw start followed digest left n e =
+-- the lines of a head are read again as its fields
+pub fields_again : (raw : List ℕ) (digest : Bool) (left n : ℕ) → n ≡ size (fields_in (read left digest (cut raw)))
+    → fields_from false (cut (take n raw)) ≡ fields_in (read left digest (cut raw))
+fields_again raw digest left n e =
     let again : fields_from false (fields_in (read left digest (cut raw))) ≡ fields_in (read left digest (cut raw)) =
     ap (λ (h : Head). fields_from false h.fields) (head_read left digest (cut raw)) ∙ (run_again false (cut raw) ∙ sym (ap (λ (h : Head). h.fields) (head_read left digest (cut raw)))) in
-    ap (λ xs. fields_of (fields_from false (cut xs))) (head_is raw left digest n e)
-    ∙ (ap (λ ls. fields_of (fields_from false ls)) (head_cut raw left digest) ∙ ap fields_of again)
+    ap (λ xs. fields_from false (cut xs)) (head_is raw left digest n e) ∙ (ap (fields_from false) (head_cut raw left digest) ∙ again)
+
+pub fields_are : (raw : List ℕ) (start : ℕ) (followed digest : Bool) (left n : ℕ) → n ≡ size (fields_in (read left digest (cut raw)))
+    → fields_of (fields_from false (cut (take n raw))) ≡ section_fields (placed_over raw start followed digest left)
+fields_are raw start followed digest left n e = ap fields_of (fields_again raw digest left n e)
+
+-- where its body begins, and where it ends
+pub body_place : (raw : List ℕ) (start : ℕ) (left : ℕ) (digest : Bool) (n m : ℕ) → n ≡ size (fields_in (read left digest (cut raw))) → m ≡ size (separator_in (read left digest (cut raw)))
+    → n + m + start ≡ start + size (head_lines (entity_head (read left digest (cut raw))))
+body_place raw start left digest n m p q = omega (arith, p, q, head_size (entity_head (read left digest (cut raw))))

@@ -123,8 +123,12 @@ fn encoding_in(alloc: Global, head: &[u8]) -> Result<Encoding, AllocError>
     }
 }
 
-// The value of the first field of a name in front of a text.
-fn value_in(alloc: Global, head: &[u8], name: &[u8]) -> Result<Option<Vec<u8>>, AllocError>
+/// The value of the first field of a name in front of a text.
+pub(crate) fn value_in(
+    alloc: Global,
+    head: &[u8],
+    name: &[u8],
+) -> Result<Option<Vec<u8>>, AllocError>
     ensures { IfOk result (λ v. option_map (λ b. b.items) v ≡ field_value name.now (fields_from false (lines_of head.now))) }
 {
     for field in each_field(head) {

@@ -4,9 +4,11 @@ ghost use Rattle.mk_line.specs.Lines.{cut as lines_of, text_of};
 ghost use Rattle.mk_tree.specs.Sections.{unended as unended_lines};
 
 use crate::children::Children;
+use crate::describing::value_in;
 use crate::node::Node;
 use crate::shapes::Kind;
 use mk_head::{Field, Fields, each_field};
+use std::alloc::{AllocError, Global};
 use std::marker::Model;
 
 const LINE_FEED: &[u8; 1] = b"\n";
@@ -41,12 +43,16 @@ impl<'a> Model for Section<'a> {
 }
 
 impl<'a> Section<'a> {
-    ghost use Rattle.std.specs.Prelude.{◌≡◌, ◌<◌, ◌^◌, length};
+    ghost use Rattle.std.specs.Prelude.{◌≡◌, ◌<◌, ◌+◌, ◌^◌, length, IfOk};
     ghost use Rattle.std.specs.Option.{option_map};
     ghost use Rattle.mk_line.specs.Lines.{text_of};
     ghost use Rattle.mk_head.specs.Fields.{counted, find_field};
+    ghost use Rattle.mk_head.specs.Split.{head_lines};
+    ghost use Rattle.mk_head.specs.Types.{field_value};
     ghost use Rattle.mk_head.specs.Views.{field_view};
     ghost use Rattle.mk_tree.specs.Forms.{kind_in};
+    ghost use Rattle.mk_tree.specs.Spans.{size};
+    ghost use Rattle.mk_tree.specs.Tree.{entity_head, field_lines, print};
     ghost use Rattle.mk_tree.specs.Sections.{boundary_in, body_text, children as sections_below, content_text, epilogue_lines, head_text, preamble_lines, raw_of, section_fields};
 
     /// All its bytes.
@@ -104,6 +110,21 @@ impl<'a> Section<'a> {
         ensures { result ≡ self.now.start }
     {
         self.start
+    }
+
+    /// Where its body begins in the document, in bytes from 0.
+    pub fn body_start(&self) -> usize
+        ensures { result ≡ self.now.start + size (head_lines (entity_head self.now.entity)) }
+    {
+        let head = self.node.fields + self.node.separator;
+        head + self.start
+    }
+
+    /// Where it ends in the document, in bytes from 0: the place behind its last byte.
+    pub fn end(&self) -> usize
+        ensures { result ≡ self.now.start + size (print self.now.entity) }
+    {
+        self.raw.len() + self.start
     }
 
     /// What its body is.
@@ -185,6 +206,14 @@ impl<'a> Section<'a> {
             }
         }
         None
+    }
+
+    /// The value of its first field of a name; names are compared without regard to ASCII case.
+    pub fn value(&self, alloc: Global, name: &[u8]) -> Result<Option<Vec<u8>>, AllocError>
+        ensures { IfOk result (λ value. option_map (λ bytes. bytes.items) value ≡ field_value name.now (field_lines self.now.entity)) }
+    {
+        let (head, _) = self.raw.split_at(self.node.fields);
+        value_in(alloc, head, name)
     }
 
     /// The sections directly below it, in order: the parts of a multipart, or the one message of a message.

@@ -1,0 +1,18 @@
+use Rattle.std.proofs.Common.{◌≡◌, ◌++◌, ◌≤◌}
+use Rattle.std.specs.List.{flat_map}
+use Rattle.mk_mail.specs.Listed.{along, depth, greatest_number, listed_from}
+use Rattle.mk_mail.specs.Listing.{listing_line}
+use Rattle.mk_mail.proofs.Depths.{AreLower}
+use Rattle.mk_mail.proofs.listing.+push_sections.Given as goal
+
+abbrev pub decreases-push_sections : goal.decreases-push_sections
+decreases-push_sections l = depth l.section.now.entity
+
+abbrev pub invariant-loop-child : goal.invariant-loop-child
+invariant-loop-child l = record {
+  lower : AreLower (depth l.section.entity) l.child-iterator;
+  fits : l.number ≤ greatest_number;
+  lines :
+      l.lines.items ++ flat_map listing_line (along listed_from l.path l.number l.child-iterator)
+      ≡ l.fn.lines.items ++ flat_map listing_line (listed_from l.path l.section);
+}

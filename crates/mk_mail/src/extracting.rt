@@ -1,0 +1,77 @@
+//! The content of a section, taken out of a document.
+ghost use Rattle.std.specs.Prelude.{◌≡◌, ◌↔◌, Err, None, IfErr, IfOk};
+ghost use Rattle.mk_mail.specs.declared.extracting.ExtractError.TheVariants.{Memory};
+ghost use Rattle.mk_tree.specs.Documents.{tree};
+ghost use Rattle.mk_tree.specs.Sections.{section_at};
+ghost use Rattle.mk_mail.specs.Extracts.{IsContentOf, IsExtract, IsExtractRefused, IsRefusedOf, extract_reason};
+
+use crate::typing::transfer_encoding;
+use mk_code::{CodeError, decode};
+use mk_tree::{Doc, Kind, Section};
+use std::alloc::{AllocError, Global};
+use thiserror::Error;
+
+/// Why no content is taken out.
+#[derive(Clone, Copy, Debug, PartialEq, Eq, Error)]
+pub enum ExtractError {
+    /// There is no section at the path.
+    #[error("there is no section at the path")]
+    NoSuchSection,
+    /// The content of a leaf is said to be base64, and its letters are no encoding of any bytes.
+    #[error("the content is no base64")]
+    BadBase64,
+    /// The content of a leaf has a transfer encoding that can't be decoded.
+    #[error("the transfer encoding is unknown")]
+    UnknownEncoding,
+    /// Memory ran out.
+    #[error("out of memory")]
+    Memory,
+}
+
+impl From<AllocError> for ExtractError {
+    ghost from_gives = { λ _ error. error ≡ Memory };
+
+    fn from(_error: AllocError) -> ExtractError {
+        ExtractError::Memory
+    }
+}
+
+/// Takes out the content of the section at a path: that of a leaf decoded by its Content-Transfer-Encoding (RFC 2045, 6),
+/// that of another section as it stands. Only `NoSuchSection` takes no memory to answer.
+pub fn extract(alloc: Global, doc: &Doc, path: &[u32]) -> Result<Vec<u8>, ExtractError>
+    ensures content { IfOk result (λ bytes. IsExtract (section_at path.now (tree doc.now)) bytes.items) }
+    ensures refused { IfErr result (λ error. IsExtractRefused (section_at path.now (tree doc.now)) error) }
+    ensures missing { (section_at path.now (tree doc.now) ≡ None) ↔ (result ≡ Err ExtractError.NoSuchSection) }
+{
+    match doc.section(path) {
+        Some(section) => match content_of(alloc, &section) {
+            Ok(bytes) => Ok(bytes),
+            Err(error) => Err(extract_error(error)),
+        },
+        None => Err(ExtractError::NoSuchSection),
+    }
+}
+
+// The content of a section, decoded where it is a leaf.
+fn content_of(alloc: Global, section: &Section<'_>) -> Result<Vec<u8>, CodeError>
+    ensures content { IfOk result (λ bytes. IsContentOf section.now bytes.items) }
+    ensures refused { IfErr result (λ error. IsRefusedOf section.now error) }
+{
+    match section.kind() {
+        Kind::Leaf => {
+            let encoding = transfer_encoding(alloc, section)?;
+            decode(alloc, encoding, section.content())
+        }
+        Kind::Multi | Kind::Message => Ok(Vec::from_slice(alloc, section.content())?),
+    }
+}
+
+fn extract_error(error: CodeError) -> ExtractError
+    ensures { result ≡ extract_reason error }
+{
+    match error {
+        CodeError::BadBase64 => ExtractError::BadBase64,
+        CodeError::UnknownEncoding => ExtractError::UnknownEncoding,
+        CodeError::Memory => ExtractError::Memory,
+    }
+}

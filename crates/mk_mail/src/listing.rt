@@ -1,0 +1,138 @@
+//! The listing of a document: a line for each of its sections.
+ghost use Rattle.std.specs.Prelude.{◌≡◌, ◌++◌, ◌∷◌, [], length, IfOk, OnOk};
+ghost use Rattle.std.specs.List.{flat_map};
+ghost use Rattle.mk_line.specs.Lines.{cut as lines_of};
+ghost use Rattle.mk_tree.specs.Documents.{tree};
+ghost use Rattle.mk_mail.specs.Listed.{Listed, listed_from};
+ghost use Rattle.mk_mail.specs.Listing.{column, encoding_name as name_of_encoding, kind_name as name_of_kind, line_counts, listing, listing_line, nature, places, type_of, type_text};
+
+use crate::typing::{media_type, transfer_encoding};
+use crate::writing::{push_column, push_number_column, push_path};
+use mk_head::Encoding;
+use mk_line::cut;
+use mk_tree::{Doc, Kind, Section};
+use std::alloc::{AllocError, Global};
+
+const LINE_FEED: u8 = b'\n';
+
+const SLASH: u8 = b'/';
+
+/// Lists the sections of a document, a line each, in the document's order: path, kind, type, transfer encoding, the
+/// offsets in bytes of its front, of its body and of its end, and how many lines its fields and its body have. A section
+/// with a number in its path that `u32` can't hold is left out.
+pub fn list(alloc: Global, doc: &Doc) -> Result<Vec<u8>, AllocError>
+    ensures { IfOk result (λ lines. lines.items ≡ listing (tree doc.now)) }
+{
+    let mut lines = Vec::new(alloc);
+    push_sections(alloc, &mut lines, &[1], &doc.root())?;
+    Ok(lines)
+}
+
+// Writes the line of a section, and behind it those of the sections below.
+fn push_sections(
+    alloc: Global,
+    lines: &mut Vec<u8>,
+    path: &[u32],
+    section: &Section<'_>,
+) -> Result<(), AllocError>
+    ensures { OnOk result (lines.new.items ≡ lines.old.items ++ flat_map listing_line (listed_from path.now section.now)) }
+{
+    push_line(alloc, lines, path, section)?;
+    let mut number = 1u32;
+    for child in section.children() {
+        let child_path = path_below(alloc, path, number)?;
+        push_sections(alloc, lines, &child_path, &child)?;
+        let Some(next) = number.checked_add(1) else {
+            return Ok(());
+        };
+        number = next;
+    }
+    Ok(())
+}
+
+/// The path of the section with a number directly below another.
+pub(crate) fn path_below(alloc: Global, path: &[u32], number: u32) -> Result<Vec<u32>, AllocError>
+    ensures { IfOk result (λ below. below.items ≡ path.now ++ number ∷ []) }
+{
+    let mut below = Vec::with_capacity(alloc, path.len() + 1)?;
+    below.extend_from_slice(path)?;
+    below.push(number)?;
+    Ok(below)
+}
+
+// Writes the line of a section.
+fn push_line(
+    alloc: Global,
+    lines: &mut Vec<u8>,
+    path: &[u32],
+    section: &Section<'_>,
+) -> Result<(), AllocError>
+    ensures { OnOk result (lines.new.items ≡ lines.old.items ++ listing_line (record { path = path.now; section = section.now })) }
+{
+    push_path(lines, path)?;
+    push_nature(alloc, lines, section)?;
+    push_places(lines, section)?;
+    push_line_counts(lines, section)?;
+    lines.push(LINE_FEED)?;
+    Ok(())
+}
+
+fn push_nature(alloc: Global, lines: &mut Vec<u8>, section: &Section<'_>) -> Result<(), AllocError>
+    ensures { OnOk result (lines.new.items ≡ lines.old.items ++ nature section.now) }
+{
+    push_column(lines, kind_name(section.kind()))?;
+    push_type(alloc, lines, section)?;
+    push_column(lines, encoding_name(transfer_encoding(alloc, section)?))
+}
+
+fn push_type(alloc: Global, lines: &mut Vec<u8>, section: &Section<'_>) -> Result<(), AllocError>
+    ensures { OnOk result (lines.new.items ≡ lines.old.items ++ column (type_text (type_of section.now))) }
+{
+    let media = media_type(alloc, section)?;
+    push_column(lines, &media.main)?;
+    lines.push(SLASH)?;
+    lines.extend_from_slice(&media.sub)
+}
+
+fn push_places(lines: &mut Vec<u8>, section: &Section<'_>) -> Result<(), AllocError>
+    ensures { OnOk result (lines.new.items ≡ lines.old.items ++ places section.now) }
+{
+    push_number_column(lines, section.start())?;
+    push_number_column(lines, section.body_start())?;
+    push_number_column(lines, section.end())
+}
+
+fn push_line_counts(lines: &mut Vec<u8>, section: &Section<'_>) -> Result<(), AllocError>
+    ensures { OnOk result (lines.new.items ≡ lines.old.items ++ line_counts section.now) }
+{
+    push_number_column(lines, line_count(section.head()))?;
+    push_number_column(lines, line_count(section.body()))
+}
+
+// How many lines a text has.
+fn line_count(text: &[u8]) -> usize
+    ensures { result ≡ length (lines_of text.now) }
+{
+    cut(text).count()
+}
+
+fn kind_name(kind: Kind) -> &'static [u8]
+    ensures { result.now ≡ name_of_kind kind }
+{
+    match kind {
+        Kind::Leaf => b"leaf",
+        Kind::Multi => b"multi",
+        Kind::Message => b"message",
+    }
+}
+
+fn encoding_name(encoding: Encoding) -> &'static [u8]
+    ensures { result.now ≡ name_of_encoding encoding }
+{
+    match encoding {
+        Encoding::Identity => b"identity",
+        Encoding::Qp => b"quoted-printable",
+        Encoding::Base64 => b"base64",
+        Encoding::Other => b"other",
+    }
+}

@@ -1,0 +1,56 @@
+//! What the fields of a section say of it (RFC 2045, 5.1, 5.2 and 6).
+ghost use Rattle.std.specs.Prelude.{◌≡◌, [], IfOk};
+ghost use Rattle.mk_head.specs.Types.{default_type as type_by_default};
+ghost use Rattle.mk_head.specs.ValueViews.{media_type_of};
+ghost use Rattle.mk_mail.specs.Listing.{encoding_in, type_of};
+
+use mk_head::{ContentType, Encoding, content_type, encoding};
+use mk_tree::Section;
+use std::alloc::{AllocError, Global};
+
+/// The content type of a section; without a Content-Type field that of its place.
+pub(crate) fn media_type(alloc: Global, section: &Section<'_>) -> Result<ContentType, AllocError>
+    ensures { IfOk result (λ media. media_type_of media ≡ type_of section.now) }
+{
+    match section.value(alloc, b"Content-Type")? {
+        Some(value) => content_type(alloc, &value),
+        None => default_type(alloc, section.default_message()),
+    }
+}
+
+// The content type where no field says it, in a digest or not (RFC 2046, 5.1.5).
+fn default_type(alloc: Global, digest: bool) -> Result<ContentType, AllocError>
+    ensures { IfOk result (λ media. media_type_of media ≡ type_by_default digest) }
+{
+    if digest {
+        media(alloc, b"message", b"rfc822")
+    } else {
+        media(alloc, b"text", b"plain")
+    }
+}
+
+// A content type without parameters.
+fn media(alloc: Global, main: &[u8], sub: &[u8]) -> Result<ContentType, AllocError>
+    ensures { IfOk result (λ media. media_type_of media ≡ record { main = main.now; sub = sub.now; params = [] }) }
+{
+    let main = Vec::from_slice(alloc, main)?;
+    let sub = Vec::from_slice(alloc, sub)?;
+    Ok(ContentType {
+        main,
+        sub,
+        params: Vec::new(alloc),
+    })
+}
+
+/// The transfer encoding of a section; without a Content-Transfer-Encoding field it has none.
+pub(crate) fn transfer_encoding(
+    alloc: Global,
+    section: &Section<'_>,
+) -> Result<Encoding, AllocError>
+    ensures { IfOk result (λ encoding. encoding ≡ encoding_in section.now) }
+{
+    match section.value(alloc, b"Content-Transfer-Encoding")? {
+        Some(value) => Ok(encoding(&value)),
+        None => Ok(Encoding::Identity),
+    }
+}

@@ -1,0 +1,47 @@
+//! Numbers, paths and columns, written behind a text.
+ghost use Rattle.std.specs.Prelude.{◌≡◌, ◌++◌, decimal, OnOk};
+ghost use Rattle.mk_mail.specs.Listing.{column, path_text};
+
+use itoa::Buffer;
+use std::alloc::AllocError;
+
+const DOT: u8 = b'.';
+
+const SPACE: u8 = b' ';
+
+/// Writes a path: its numbers, joined by dots.
+pub(crate) fn push_path(text: &mut Vec<u8>, path: &[u32]) -> Result<(), AllocError>
+    ensures { OnOk result (text.new.items ≡ text.old.items ++ path_text path.now) }
+{
+    if let Some((first, others)) = path.split_first() {
+        push_number(text, *first as usize)?;
+        for number in others {
+            text.push(DOT)?;
+            push_number(text, *number as usize)?;
+        }
+    }
+    Ok(())
+}
+
+fn push_number(text: &mut Vec<u8>, number: usize) -> Result<(), AllocError>
+    ensures { OnOk result (text.new.items ≡ text.old.items ++ decimal number) }
+{
+    let mut buffer = Buffer::new();
+    text.extend_from_slice(buffer.format(number).as_bytes())
+}
+
+/// Writes a column behind another: a space, and the text.
+pub(crate) fn push_column(text: &mut Vec<u8>, column_text: &[u8]) -> Result<(), AllocError>
+    ensures { OnOk result (text.new.items ≡ text.old.items ++ column column_text.now) }
+{
+    text.push(SPACE)?;
+    text.extend_from_slice(column_text)
+}
+
+/// Writes a number as a column.
+pub(crate) fn push_number_column(text: &mut Vec<u8>, number: usize) -> Result<(), AllocError>
+    ensures { OnOk result (text.new.items ≡ text.old.items ++ column (decimal number)) }
+{
+    text.push(SPACE)?;
+    push_number(text, number)
+}
