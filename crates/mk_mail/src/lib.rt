@@ -11,6 +11,7 @@ mod writing;
 pub use device::{Fault, Sink, Source};
 pub use extracting::{ExtractError, extract};
 pub use listing::list;
+pub use writing::push_path;
 
 #[cfg(test)]
 mod tests;

@@ -10,7 +10,7 @@ const DOT: u8 = b'.';
 const SPACE: u8 = b' ';
 
 /// Writes a path: its numbers, joined by dots.
-pub(crate) fn push_path(text: &mut Vec<u8>, path: &[u32]) -> Result<(), AllocError>
+pub fn push_path(text: &mut Vec<u8>, path: &[u32]) -> Result<(), AllocError>
     ensures { OnOk result (text.new.items ≡ text.old.items ++ path_text path.now) }
 {
     if let Some((first, others)) = path.split_first() {

@@ -5,3 +5,4 @@ mod PieceLemmas
 mod RunLemmas
 mod Slices
 mod WrittenLemmas
+pub mod ShownLemmas

@@ -5,3 +5,4 @@ pub mod Script
 pub mod ScriptViews
 pub mod Statuses
 pub mod Written
+pub mod Shown

@@ -130,8 +130,8 @@ fn run_words<S: Source, O: Sink, E: Sink>(
     }
 }
 
-// The cause where reading stopped.
-fn reading(stop: Stop) -> Cause
+/// The cause where reading stopped.
+pub fn reading(stop: Stop) -> Cause
     ensures { result ≡ cause_of_reading stop }
 {
     match stop {

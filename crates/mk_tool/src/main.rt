@@ -1,6 +1,7 @@
 //! `mimetool`: an editor for Internet messages with exact undo.
 #![tactic(auto)]
 
+mod answers;
 mod device;
 mod engine;
 pub mod laws;
@@ -9,6 +10,7 @@ mod path;
 mod program;
 mod report;
 mod script;
+mod showing;
 mod status;
 mod steps;
 mod transfer;

@@ -13,6 +13,14 @@ pub const SCRIPT: &str = "SCRIPT";
 
 pub const PIECE: &str = "PIECE";
 
+/// The subcommand that lists the sections of a message.
+pub const SECTIONS: &str = "sections";
+
+/// The subcommand that gives the content of a section.
+pub const EXTRACT: &str = "extract";
+
+pub const PATH: &str = "PATH";
+
 /// The command line of the program.
 pub fn command<'a>(alloc: Global) -> Result<Command<'a>, AllocError> {
     Command::new(alloc, "mimetool")
@@ -21,7 +29,27 @@ pub fn command<'a>(alloc: Global) -> Result<Command<'a>, AllocError> {
             "Edits an Internet message exactly: the message comes from standard input, the result goes to standard output.",
         )
         .subcommand_required(true)
-        .subcommand(edit_command(alloc)?)
+        .subcommand(edit_command(alloc)?)?
+        .subcommand(sections_command(alloc)?)?
+        .subcommand(extract_command(alloc)?)
+}
+
+// mimetool sections
+fn sections_command<'a>(alloc: Global) -> Result<Command<'a>, AllocError> {
+    Ok(Command::new(alloc, SECTIONS).about("Lists the sections of the message, a line each"))
+}
+
+// mimetool extract -s PATH
+fn extract_command<'a>(alloc: Global) -> Result<Command<'a>, AllocError> {
+    let path = Arg::new(alloc, PATH)
+        .short('s')
+        .help("The path of the section, as 1 or 1.2")
+        .required(true)
+        .allow_hyphen_values(true)
+        .action(ArgAction::Set);
+    Command::new(alloc, EXTRACT)
+        .about("Prints the content of a section, decoded where it has no sections below it")
+        .arg(path)
 }
 
 // mimetool edit SCRIPT [PIECE..]

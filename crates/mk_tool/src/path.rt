@@ -1,9 +1,9 @@
 //! The paths of sections, as scripts write them.
 
-ghost use Rattle.std.specs.Prelude.{◌≡◌, ◌==◌, ◌∷◌, option_copied, IfOk};
+ghost use Rattle.std.specs.Prelude.{◌≡◌, ◌<◌, ◌==◌, ◌∷◌, length, option_copied, IfOk, IfSome};
 ghost use Rattle.std.specs.List.{position};
 ghost use Rattle.std.specs.Option.{option_map};
-ghost use Rattle.mk_tool.specs.Paths.{dot, parted as parted_at, pieces_of, pieces_behind, number_of, path_of};
+ghost use Rattle.mk_tool.specs.Paths.{dot, parted as parted_at, pieces_of, pieces_behind, number_of, numbers_of, path_of};
 
 use std::alloc::{AllocError, Global};
 
@@ -16,7 +16,8 @@ pub const MAX_COMPONENTS: usize = 101;
 
 /// What stands before the first separator and what stands behind it, where there is one.
 pub fn parted(text: &[u8], separator: u8) -> Option<(&[u8], &[u8])>
-    ensures { option_map (λ p. (p.0.now, p.1.now)) result ≡ parted_at separator text.now }
+    ensures parts { option_map (λ p. (p.0.now, p.1.now)) result ≡ parted_at separator text.now }
+    ensures less { IfSome result (λ p. length p.1.now < length text.now) }
 {
     match place_of(text, separator) {
         Some(end) => Some((&text[..end], &text[end + 1..])),
@@ -31,14 +32,29 @@ fn place_of(text: &[u8], wanted: u8) -> Option<usize>
     text.iter().position(|byte| *byte == wanted)
 }
 
-/// The path that a text writes: numbers from 1 without leading zeros, joined by dots. `None` where
-/// it writes none.
+/// The path that a text writes, of no more than 101 components. `None` where it writes none.
 pub fn path(alloc: Global, text: &[u8]) -> Result<Option<Vec<u32>>, AllocError>
     ensures { IfOk result (λ path. option_map (λ numbers. numbers.items) path ≡ path_of text.now) }
 {
+    match numbers(alloc, text)? {
+        Some(numbers) => {
+            if numbers.len() <= MAX_COMPONENTS {
+                Ok(Some(numbers))
+            } else {
+                Ok(None)
+            }
+        }
+        None => Ok(None),
+    }
+}
+
+/// The numbers that a text writes: from 1, without leading zeros, joined by dots. `None` where it writes none.
+pub fn numbers(alloc: Global, text: &[u8]) -> Result<Option<Vec<u32>>, AllocError>
+    ensures { IfOk result (λ path. option_map (λ numbers. numbers.items) path ≡ numbers_of (pieces_of dot text.now)) }
+{
     let mut numbers = Vec::new(alloc);
     let mut rest = text;
-    for _ in 0..MAX_COMPONENTS {
+    'each: loop {
         let (piece, more) = first_piece(rest);
         let Some(number) = number(piece) else {
             return Ok(None);
@@ -49,12 +65,12 @@ pub fn path(alloc: Global, text: &[u8]) -> Result<Option<Vec<u32>>, AllocError>
         };
         rest = behind;
     }
-    Ok(None)
 }
 
 // The text before the first dot, and the text behind that dot.
 fn first_piece(text: &[u8]) -> (&[u8], Option<&[u8]>)
-    ensures { pieces_of dot text.now ≡ result.0.now ∷ pieces_behind dot (option_copied result.1) }
+    ensures pieces { pieces_of dot text.now ≡ result.0.now ∷ pieces_behind dot (option_copied result.1) }
+    ensures less { IfSome result.1 (λ rest. length rest.now < length text.now) }
 {
     match parted(text, DOT) {
         Some((piece, behind)) => (piece, Some(behind)),

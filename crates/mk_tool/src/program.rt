@@ -2,7 +2,9 @@
 
 use crate::device::Input;
 use crate::engine::{give_up, run_edit};
-use crate::options::{EDIT, PIECE, SCRIPT, command};
+use crate::options::{EDIT, EXTRACT, PATH, PIECE, SCRIPT, SECTIONS, command};
+use crate::path::numbers;
+use crate::showing::{run_extract, run_sections};
 use crate::status::{Cause, Status};
 use crate::transfer::{Stop, read_all, write_all};
 use clap::ArgMatches;
@@ -70,9 +72,25 @@ fn run_matches<R: Files + AllocGlobal, S: Source, O: Sink, E: Sink>(
     out: &mut O,
     err: &mut E,
 ) -> Status {
-    let Some(matches) = matches.subcommand_matches(EDIT) else {
-        return usage(err);
-    };
+    if let Some(matches) = matches.subcommand_matches(EDIT) {
+        edit(rt, matches, input, out, err)
+    } else if let Some(matches) = matches.subcommand_matches(EXTRACT) {
+        extract(rt, matches, input, out, err)
+    } else if matches.subcommand_matches(SECTIONS).is_some() {
+        run_sections(rt.alloc(), input, out, err)
+    } else {
+        usage(err)
+    }
+}
+
+// mimetool edit
+fn edit<R: Files + AllocGlobal, S: Source, O: Sink, E: Sink>(
+    rt: &R,
+    matches: &ArgMatches<'_>,
+    input: &mut S,
+    out: &mut O,
+    err: &mut E,
+) -> Status {
     let Some(script) = matches.get_str(SCRIPT) else {
         return usage(err);
     };
@@ -90,6 +108,24 @@ fn run_matches<R: Files + AllocGlobal, S: Source, O: Sink, E: Sink>(
         }
         Err(Stop::Fault) => give_up(err, Cause::Read),
         Err(Stop::Memory) => give_up(err, Cause::Memory),
+    }
+}
+
+// mimetool extract
+fn extract<R: Files + AllocGlobal, S: Source, O: Sink, E: Sink>(
+    rt: &R,
+    matches: &ArgMatches<'_>,
+    input: &mut S,
+    out: &mut O,
+    err: &mut E,
+) -> Status {
+    let Some(path) = matches.get_str(PATH) else {
+        return usage(err);
+    };
+    match numbers(rt.alloc(), path.as_bytes()) {
+        Ok(Some(path)) => run_extract(rt.alloc(), input, out, err, &path),
+        Ok(None) => usage(err),
+        Err(_) => give_up(err, Cause::Memory),
     }
 }
 

@@ -3,8 +3,8 @@ use Rattle.mk_tool.specs.Paths.{dot}
 use Rattle.mk_tool.proofs.PathLemmas.{pieces_of-parted, pieces_of-whole}
 use Rattle.mk_tool.proofs.path.first_piece.Goals as goal
 
-pub returns-in-Some : goal.returns-in-Some
-returns-in-Some c = pieces_of-parted dot c.args.text.now _ (sym c.in-Some.ensures)
+pub returns-in-Some-clause-pieces : goal.returns-in-Some-clause-pieces
+returns-in-Some-clause-pieces c = pieces_of-parted dot c.args.text.now _ (sym c.in-Some.ensures.parts)
 
-pub returns-in-None : goal.returns-in-None
-returns-in-None c = pieces_of-whole dot c.args.text.now (sym c.in-None.ensures)
+pub returns-in-None-clause-pieces : goal.returns-in-None-clause-pieces
+returns-in-None-clause-pieces c = pieces_of-whole dot c.args.text.now (sym c.in-None.ensures.parts)
