@@ -3,6 +3,7 @@
 mod devices;
 mod faults;
 mod memory;
+mod shown;
 
 use crate::engine::run_edit;
 use crate::status::Status;
