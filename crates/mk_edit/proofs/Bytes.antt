@@ -1,7 +1,9 @@
 -- A splice made and taken back gives the text again, and the same for whole steps.
-use Rattle.std.proofs.Common.{◌≡◌, ◌+◌, ◌≤◌, ◌++◌, ℕ, List, [], ◌∷◌, refl, ap, sym, ◌∙◌, subst, length, take, drop, arith, append_assoc, length-append, length-drop}
+use Rattle.std.proofs.Common.{◌≡◌, ◌+◌, ◌≤◌, ◌++◌, ℕ, List, [], ◌∷◌, refl, ap, sym, ◌∙◌, subst, length, take, drop, arith, append_assoc, length-append}
 use Rattle.std.proofs.lemmas.List.{take_at, drop_at, length-take-le}
-use Rattle.mk_edit.specs.Splices.{Splice, spliced, Stands, forth_one, back_one, forth_step, back_step, GoesForth, GoesBack}
+use Rattle.mk_tree.proofs.FieldsChanged.{length-spliced}
+use Rattle.mk_edit.specs.Splices.{Splice, Stands, forth_one, back_one, forth_step, back_step, GoesForth, GoesBack}
+use Rattle.mk_tree.specs.Splicing.{spliced}
 
 -- what stands before the place stays, and what stands behind
 before_spliced : (place n : ℕ) (new x : List ℕ) → place ≤ length x → take place (spliced place n new x) ≡ take place x
@@ -14,10 +16,6 @@ behind_spliced : (place n : ℕ) (new x : List ℕ) → place ≤ length x → d
 behind_spliced place n new x h =
     ap (drop (place + length new)) (sym (append_assoc (take place x) new (drop (place + n) x)))
     ∙ drop_at (take place x ++ new) (drop (place + n) x) (place + length new) (sym (front_size place new x h))
-
-pub length-spliced : (place n : ℕ) (new x : List ℕ) → place + n ≤ length x → length (spliced place n new x) + n ≡ length x + length new
-length-spliced place n new x h =
-    omega (arith, length-append (take place x) (new ++ drop (place + n) x), length-append new (drop (place + n) x), length-take-le place x (omega arith), length-drop (place + n) x)
 
 -- putting other bytes there and the old ones back changes nothing
 pub put_again : (place : ℕ) (old new x : List ℕ) → Stands place old x → spliced place (length new) old (spliced place (length old) new x) ≡ x

@@ -12,7 +12,7 @@ use Rattle.mk_edit.specs.Leaves.{leaf_tree, is_leaf_stable}
 use Rattle.mk_edit.specs.declared.errors.EditError.TheVariants.{NoSuchSection, BadField, OpenLine, Recut}
 use Rattle.mk_edit.specs.Changes.{AddField}
 use Rattle.mk_edit.specs.Reasons.{is_root, lines_before, is_open_early, judged, outcome}
-use Rattle.mk_edit.specs.Splices.{spliced}
+use Rattle.mk_tree.specs.Splicing.{spliced}
 use Rattle.mk_edit.specs.Accepted.{IsAccepted}
 use Rattle.mk_edit.specs.Seams.{goes_on, ends_open}
 use Rattle.mk_edit.proofs.Openings.{has_line, last_open, some_text, open_text, early_put, lines_front}

@@ -11,7 +11,8 @@ use Rattle.mk_edit.specs.declared.errors.EditError.{EditError}
 use Rattle.mk_edit.specs.declared.errors.EditError.TheVariants.{NoSuchSection, BadField, OpenLine, Recut, NothingToUndo, NothingToRedo}
 use Rattle.mk_edit.specs.Changes.{Change, AddField, Order, Do, Undo, Redo}
 use Rattle.mk_edit.specs.Reasons.{is_root, is_open_early, judged, outcome, splices_of, lines_before}
-use Rattle.mk_edit.specs.Splices.{Splice, spliced, Stands, forth_step, back_step}
+use Rattle.mk_edit.specs.Splices.{Splice, Stands, forth_step, back_step}
+use Rattle.mk_tree.specs.Splicing.{spliced}
 use Rattle.mk_edit.specs.History.{History}
 use Rattle.mk_edit.specs.Histories.{AreLinked, IsHistory, text_now, started, with_step, edited_by, left_by, after, after_all}
 use Rattle.mk_edit.specs.Laws.{SplicesLead, EditsReadBack, HistoriesStay}

@@ -11,13 +11,14 @@ use Rattle.mk_edit.specs.Accepted.{IsAccepted}
 use Rattle.mk_edit.specs.Answers.{Answers}
 use Rattle.mk_edit.specs.Reasons.{outcome, splices_of, given_text}
 use Rattle.mk_edit.specs.Changes.{Change, Do, Undo, Redo}
-use Rattle.mk_edit.specs.Splices.{Splice, spliced, Stands, back_one, back_step, forth_step, GoesBack, GoesForth}
+use Rattle.mk_edit.specs.Splices.{Splice, Stands, back_one, back_step, forth_step, GoesBack, GoesForth}
+use Rattle.mk_tree.specs.Splicing.{spliced}
 use Rattle.mk_edit.specs.Rooms.{olds}
 use Rattle.mk_edit.specs.History.{History}
 use Rattle.mk_edit.specs.Histories.{step, edited_by, text_now, with_step}
 use Rattle.mk_edit.specs.Fits.{Fit, history_of}
 use Rattle.mk_edit.specs.Views.{splice_of, steps_of}
-use Rattle.mk_edit.proofs.Bytes.{length-spliced}
+use Rattle.mk_tree.proofs.FieldsChanged.{length-spliced}
 use Rattle.mk_edit.proofs.Steps.{Moved, Stepped, undo_can, undo_is, redo_can, redo_is, edit_is, fit_text}
 
 -- the last splice of a step, which is taken back first

@@ -4,7 +4,7 @@ use Rattle.mk_tree.specs.Documents.{Document, printed}
 use Rattle.mk_edit.specs.Leaves.{leaf_tree}
 use Rattle.mk_edit.specs.Changes.{Change}
 use Rattle.mk_edit.specs.Reasons.{outcome, splices_of, given_text}
-use Rattle.mk_edit.specs.Splices.{spliced}
+use Rattle.mk_tree.specs.Splicing.{spliced}
 
 -- the edit is accepted, and puts its bytes at the place
 pub record IsAccepted (c : Change) (text : List ℕ) (place : ℕ) : Type 0 where

@@ -4,7 +4,7 @@ use Rattle.std.specs.Option.{option_map}
 use Rattle.mk_tree.specs.Tree.{Entity, leaf, message, multi}
 use Rattle.mk_tree.specs.Sections.{Placed, section_at, content_text}
 use Rattle.mk_tree.specs.Documents.{Document, IsStable}
-use Rattle.mk_tree.specs.Places.{Frame}
+use Rattle.mk_tree.specs.Places.{Frame, placed}
 use Rattle.mk_tree.specs.Locality.{Replaces}
 use Rattle.mk_line.specs.Lines.{TextLine}
 use Rattle.mk_head.specs.Split.{is_start}
@@ -83,3 +83,7 @@ FieldsAreApart = (name : List ℕ) (k : ℕ) (fields : List TextLine) → IsApar
 -- a field start under another name: the name is the new one, and what stands behind it is as it was
 abbrev pub NamesAreReplaced : Type 0
 NamesAreReplaced = (to : List ℕ) (l : TextLine) → is_name to ≡ true → is_start l ≡ true → (name_of (renamed to l) ≡ to) × (behind_name (renamed to l).content ≡ behind_name l.content) × (name_of l ++ behind_name l.content ≡ l.content)
+
+-- what a path leads to is the section of that path
+abbrev pub PathsLeadToSections : Type 0
+PathsLeadToSections = (path : List ℕ) (t : Document) → section_at path t ≡ option_map (λ q. placed t.envelope q.0 q.1) (place_of path t.root)

@@ -1,21 +1,14 @@
 -- What an edit gives: the edited document, or the first reason against it (own).
-use Rattle.std.specs.Prelude.{◌||◌, if◌then◌else◌, ℕ, Bool, true, false, Option, None, Some, Result, Ok, Err, List, [], ◌∷◌, suc, length}
-use Rattle.mk_line.specs.declared.marks.Mark.{Mark}
-use Rattle.mk_line.specs.declared.marks.Mark.TheVariants.{No, Part, Close}
+use Rattle.std.specs.Prelude.{◌||◌, if◌then◌else◌, ℕ, Bool, false, Option, None, Some, Result, Ok, Err, List, [], ◌∷◌, suc, length}
 use Rattle.mk_line.specs.Lines.{TextLine}
 use Rattle.mk_line.specs.Marks.{mark}
 use Rattle.mk_tree.specs.Documents.{Document, document_lines}
+use Rattle.mk_tree.specs.Upto.{is_mark}
 use Rattle.mk_tree.specs.Equal.{is_stable}
 use Rattle.mk_tree.specs.Places.{Frame, in_message, in_multi}
 use Rattle.mk_edit.specs.Reasons.{is_open_early}
 use Rattle.mk_edit.specs.Edits.{PlainEdit, Refusal, OpenLine, HoldsBoundary, Recut}
 use Rattle.mk_edit.specs.Plans.{Plan, plan_of, planned}
-
--- a delimiter or a close line
-abbrev pub is_mark : Mark → Bool
-is_mark No = false
-is_mark Part = true
-is_mark Close = true
 
 -- some line is a delimiter or close line of a boundary (RFC 2046, 5.1.1)
 abbrev pub has_mark : List ℕ → List TextLine → Bool

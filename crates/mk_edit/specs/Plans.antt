@@ -131,7 +131,7 @@ wrap eol fs s subtype boundary = record {
   inside = body_lines s;
 }
 
--- what an edit does at a place. The four edits of fields look for the field first
+-- what an edit does at a place; an edit of a field looks for the field first
 abbrev pub plan_at : PlainEdit → Ending → List Frame → Entity → Result Plan Refusal
 plan_at (AddField path top text) eol fs s = unless (not (is_one_field (cut text))) BadField (Ok (add_plan fs s top (cut text)))
 plan_at (RemoveField path name k) eol fs s = with_field (field_at name k (field_lines s)) (λ f. Ok (drop_plan fs s f))

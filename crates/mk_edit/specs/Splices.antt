@@ -1,15 +1,12 @@
 -- Replacing bytes at a place, forth and back (own).
-use Rattle.std.specs.Prelude.{◌≡◌, ◌+◌, ◌≤◌, ◌++◌, ℕ, List, [], ◌∷◌, length, take, drop}
+use Rattle.std.specs.Prelude.{◌≡◌, ◌+◌, ◌≤◌, ℕ, List, [], ◌∷◌, length}
+use Rattle.mk_tree.specs.Splicing.{spliced}
 
 -- a place, the old bytes and the new ones
 pub record Splice : Type 0 where
   pub place : ℕ
   pub old : List ℕ
   pub new : List ℕ
-
--- a text with `new` in the place of `count` bytes at `place`
-abbrev pub spliced : ℕ → ℕ → List ℕ → List ℕ → List ℕ
-spliced place count new text = take place text ++ (new ++ drop (place + count) text)
 
 -- bytes stand at a place: putting them there changes nothing
 pub record Stands (place : ℕ) (bytes text : List ℕ) : Type 0 where

@@ -1,5 +1,5 @@
 //! Laws of the nine edits, over the definitions alone: each a function with an empty body whose clause is the law.
-ghost use Rattle.mk_edit.specs.EditLaws.{EditsAreReplacements, FieldsAreApart, FieldsAreCounted, LocalityOfEdits, NamesAreReplaced, RemovalReasons, StabilityReasons, WrappingKeepsContent};
+ghost use Rattle.mk_edit.specs.EditLaws.{EditsAreReplacements, FieldsAreApart, FieldsAreCounted, LocalityOfEdits, NamesAreReplaced, PathsLeadToSections, RemovalReasons, StabilityReasons, WrappingKeepsContent};
 
 /// An edit that no earlier reason holds against gives the edited document where this is stable, and a reason from
 /// OpenLine to Recut exactly where it isn't.
@@ -44,4 +44,9 @@ pub fn fields_are_apart()
 /// A field start under another name has that name, and is otherwise as it was.
 pub fn names_are_replaced()
     ensures { NamesAreReplaced }
+{}
+
+/// The section that an edit's path leads to is the section of that path, in its place.
+pub fn paths_lead_to_sections()
+    ensures { PathsLeadToSections }
 {}

@@ -4,15 +4,16 @@ ghost use Rattle.mk_edit.specs.Leaves.{leaf_tree};
 ghost use Rattle.mk_edit.specs.Changes.{Do, Undo, Redo};
 ghost use Rattle.mk_edit.specs.Reasons.{outcome};
 ghost use Rattle.mk_edit.specs.Answers.{Answers, Does};
-ghost use Rattle.mk_edit.specs.Splices.{spliced};
+ghost use Rattle.mk_tree.specs.Splicing.{spliced};
 ghost use Rattle.mk_edit.specs.Histories.{IsHistory, after, after_all, refusal, replies, started, step, text_now, with_step};
 ghost use Rattle.mk_edit.specs.Views.{change_of, order_of};
 
 use crate::deciding::decide;
 use crate::edits::{Command, Edit};
 use crate::errors::EditError;
-use crate::splicing::{Splice, copied, make_again, replace, take_back};
+use crate::splicing::{Splice, copied, make_again, take_back};
 use mk_line::Meter;
+use mk_tree::replace;
 use std::alloc::{AllocError, Global};
 use std::marker::Model;
 

@@ -1,9 +1,11 @@
 //! Replacing bytes of a text in place, and steps of such replacements, forth and back.
 ghost use Rattle.std.specs.Prelude.{◌≡◌, ◌+◌, ◌≤◌, IfOk, OnOk, OnErr, IsOk, IfSome, length, map, take, drop, vec_len, vec_capacity};
-ghost use Rattle.mk_edit.specs.Splices.{spliced, back_step, forth_step, GoesBack, GoesForth};
+ghost use Rattle.mk_edit.specs.Splices.{back_step, forth_step, GoesBack, GoesForth};
+ghost use Rattle.mk_tree.specs.Splicing.{spliced};
 ghost use Rattle.mk_edit.specs.Rooms.{olds, news};
 ghost use Rattle.mk_edit.specs.Views.{splice_of};
 
+use mk_tree::replace;
 use std::alloc::{AllocError, Global};
 
 /// A place in a text, the bytes that stood there and those that took their place.
@@ -20,40 +22,6 @@ pub fn copied(alloc: Global, text: &[u8], place: usize, count: usize) -> Result<
     ensures { IfOk result (λ v. v.items ≡ take count (drop place text.now)) }
 {
     Vec::from_slice(alloc, &text[place..place + count])
-}
-
-/// Puts `text` in the place of `count` bytes at `place`. Where there is no memory, nothing changes.
-pub fn replace(
-    items: &mut Vec<u8>,
-    place: usize,
-    count: usize,
-    text: &[u8],
-) -> Result<(), AllocError>
-    requires { place + count ≤ vec_len items.old }
-    ensures ok { OnOk result (items.new.items ≡ spliced place count text.now items.old.items) }
-    ensures err { OnErr result (items.new.items ≡ items.old.items) }
-    ensures succeeds { vec_len items.old + length text.now ≤ vec_capacity items.old + count → IsOk result }
-    ensures capacity { vec_capacity items.old ≤ vec_capacity items.new }
-{
-    let size = items.len();
-    if count < text.len() {
-        items.extend_from_slice(&text[count..])?;
-        items.copy_within(place + count..size, place + text.len());
-    } else {
-        items.copy_within(place + count..size, place + text.len());
-        items.truncate(size - (count - text.len()));
-    }
-    overwrite(items, place, text);
-    Ok(())
-}
-
-// Writes `text` over as many bytes at `place`.
-fn overwrite(items: &mut Vec<u8>, place: usize, text: &[u8])
-    requires { place + length text.now ≤ vec_len items.old }
-    ensures items { items.new.items ≡ spliced place (length text.now) text.now items.old.items }
-    ensures capacity { vec_capacity items.new ≡ vec_capacity items.old }
-{
-    items[place..place + text.len()].copy_from_slice(text);
 }
 
 // The same as `replace`, where there is room.

@@ -1,13 +1,12 @@
 -- Paths: their numbers, and the pieces between dots.
-use Rattle.std.proofs.Common.{◌≡◌, ◌==◌, ◌+◌, ◌*◌, ◌^◌, ◌<◌, ◌≤◌, ℕ, suc, true, false, nat_lt, List, [], ◌∷◌, length, take, drop, get_or, ◌++◌, nat_le, length-append, Option, Some, None, refl, sym, ap, ◌∙◌, inl, inr, arith, add-one}
+use Rattle.std.proofs.Common.{◌≡◌, ◌==◌, ◌+◌, ◌*◌, ◌^◌, ◌<◌, ◌≤◌, ℕ, suc, true, false, nat_lt, List, [], ◌∷◌, length, take, drop, get_or, ◌++◌, Option, Some, None, refl, sym, ap, ◌∙◌, inl, inr, arith, add-one}
 use Rattle.std.proofs.Math.Seq.{drop-cons}
-use Rattle.std.proofs.lemmas.Bool.{cases_Bool, le-ltb, lt-ltb, ltb-true, ltb-false, lt-leb}
+use Rattle.std.proofs.lemmas.Bool.{cases_Bool, le-ltb, lt-ltb, ltb-true, ltb-false}
 use Rattle.std.proofs.lemmas.List.{drop_all}
 use Rattle.std.specs.List.{list_all, position_or_len}
 use Rattle.std.specs.Char.{digit_value, is_digit}
 use Rattle.std.specs.Str.Parse.{digits_value_after}
-use Rattle.mk_tool.specs.Paths.{number_behind, pieces_of, parted, onto_first_piece, dot, max_components, short_path, with_number, number_of, numbers_of, path_of}
-use Rattle.std.specs.Option.{option_and_then}
+use Rattle.mk_tool.specs.Paths.{number_behind, pieces_of, parted, onto_first_piece}
 
 -- more digits make no smaller number
 digits_value_after-ge : (n : ℕ) (digits : List ℕ) → n ≤ digits_value_after 10 n digits
@@ -97,27 +96,3 @@ pieces_of-whole separator text e = elim (cases_Bool (nat_lt (place_of separator 
 abbrev pub numbers_onto : List ℕ → Option (List ℕ) → Option (List ℕ)
 numbers_onto read None = None
 numbers_onto read (Some numbers) = Some (read ++ numbers)
-
-pieces_of-some : (separator : ℕ) (text : List ℕ) → (piece : List ℕ) × (pieces : List (List ℕ)) × (pieces_of separator text ≡ piece ∷ pieces)
-pieces_of-some separator [] = ([], [], refl)
-pieces_of-some separator (byte ∷ bytes) =
-    let rest = pieces_of-some separator bytes in
-    elim (cases_Bool (byte == separator)) [
-      | inl t ↦ ([], pieces_of separator bytes, rw t refl)
-      | inr f ↦ (byte ∷ rest.0, rest.1, rw (f, rest.2) refl)
-    ]
-
-too_long : (read : List ℕ) (number : Option ℕ) (numbers : Option (List ℕ)) → max_components ≤ length read
-    → option_and_then short_path (numbers_onto read (with_number number numbers)) ≡ None
-too_long read None numbers h = refl
-too_long read (Some n) None h = refl
-too_long read (Some n) (Some ns) h =
-    let long : nat_le (length (read ++ n ∷ ns)) max_components ≡ false = lt-leb _ _ (simp (length-append) (omega arith)) in
-    rw long refl
-
--- a path is too long where all that may be are read and a dot follows
-pub path_of-long : (read text all : List ℕ) → numbers_onto read (numbers_of (pieces_of dot text)) ≡ numbers_of (pieces_of dot all)
-    → max_components ≤ length read → path_of all ≡ None
-path_of-long read text all e h =
-    let some = pieces_of-some dot text in
-    ap (option_and_then short_path) (sym e ∙ ap (λ pieces. numbers_onto read (numbers_of pieces)) some.2) ∙ too_long read (number_of some.0) (numbers_of some.1) h

@@ -1,9 +1,9 @@
 -- What is written of an answer is what a run leaves.
-use Rattle.std.proofs.Common.{◌≡◌, List, ℕ, Option, refl, inl, inr}
+use Rattle.std.proofs.Common.{List, ℕ, Option, refl, inr}
 use Rattle.std.specs.Io.KnownBytes.{IsAtEnd}
 use Rattle.mk_tool.specs.declared.status.Status.{Status}
 use Rattle.mk_tool.specs.declared.status.Status.TheVariants.{Well, Refused, Usage, Fault, Memory}
-use Rattle.mk_tool.specs.declared.status.Cause.TheVariants.{Read, Write}
+use Rattle.mk_tool.specs.declared.status.Cause.TheVariants.{Write}
 use Rattle.mk_tool.specs.Runs.{Run}
 use Rattle.mk_tool.specs.RunClauses.{held}
 use Rattle.mk_tool.specs.Shown.{Shows, Writes}

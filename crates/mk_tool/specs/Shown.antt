@@ -1,5 +1,5 @@
 -- Runs that show what a message is: its sections, and the content of one of them (own).
-use Rattle.std.specs.Prelude.{◌≡◌, ◌⊎◌, ◌++◌, if◌then◌else◌, ℕ, Bool, true, false, Option, None, Some, List, [], ◌∷◌, codes}
+use Rattle.std.specs.Prelude.{◌≡◌, ◌⊎◌, ◌++◌, if◌then◌else◌, ℕ, Bool, true, false, Option, List, [], ◌∷◌, codes}
 use Rattle.std.specs.Io.KnownBytes.{Appends, Consumes, Keeps}
 use Rattle.mk_line.specs.Ascii.{line_feed}
 use Rattle.mk_line.specs.Lines.{is_nil}

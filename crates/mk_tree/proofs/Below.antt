@@ -16,7 +16,8 @@ use Rattle.mk_tree.specs.Forms.{form_preamble, has_sizes, form_digest, form_clos
 use Rattle.mk_tree.specs.Sections.{Placed, has_part, has_tail, parts_placed, children_of, children, preamble_lines}
 use Rattle.mk_tree.specs.Layouts.{delimiter_of, whole_of, has_span, placed_over, IsSpanOver, first_text, text_behind, placed_along, AreSpansOver}
 use Rattle.mk_tree.proofs.Kept.{print_read, print_parts_by}
-use Rattle.mk_tree.proofs.Slices.{sizes_add, front_within, middle_cut, end_cut, middle_within}
+use Rattle.mk_tree.proofs.Descent.{size_append}
+use Rattle.mk_tree.proofs.Slices.{front_within, middle_cut, end_cut, middle_within}
 use Rattle.mk_tree.proofs.SectionViews.{opens, span_list, Keeps, behind_preamble, body_front, raw_head, head_size, preamble_size}
 
 pub delimiter_span : (d : Bool) (n : ℕ) (e : Entity) → delimiter_of (span_of d n e) ≡ n
@@ -137,7 +138,7 @@ raw_front raw left digest =
     ∙ sym (append_assoc (head_lines (entity_head (read left digest (cut raw)))) (preamble_lines (read left digest (cut raw))) (behind_preamble (read left digest (cut raw)))))
 
 front_adds : (e : Entity) → size (head_lines (entity_head e) ++ preamble_lines e) ≡ front_of e
-front_adds e = sizes_add (head_lines (entity_head e)) (preamble_lines e)
+front_adds e = size_append (head_lines (entity_head e)) (preamble_lines e)
 
 pub front_fits_in : (raw : List ℕ) (left : ℕ) (digest : Bool) → front_of (read left digest (cut raw)) ≤ length raw
 front_fits_in raw left digest =

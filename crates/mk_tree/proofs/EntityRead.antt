@@ -1,8 +1,8 @@
 -- An entity, read as its head and its body.
-use Rattle.std.proofs.Common.{◌≡◌, ◌+◌, ◌-◌, ℕ, zero, suc, Bool, false, List, refl, ap, sym, ◌∙◌, subst, length, take, arith}
+use Rattle.std.proofs.Common.{◌≡◌, ◌+◌, ◌-◌, ℕ, Bool, false, List, refl, ap, sym, ◌∙◌, subst, length, take, arith}
 use Rattle.mk_line.specs.Lines.{TextLine, cut as lines_of}
 use Rattle.mk_head.specs.Split.{Head, head_of, behind_head, fields_from, separator_of, body_of, option_line}
-use Rattle.mk_tree.specs.Kinds.{Kind, Leaf, Message, Multi, kind_at}
+use Rattle.mk_tree.specs.Kinds.{kind_at}
 use Rattle.mk_tree.specs.Tree.{Entity, leaf, message, multi, read, entity_by, entity_head, print}
 use Rattle.mk_tree.specs.Places.{below}
 use Rattle.mk_tree.specs.Spans.{size, Form, span, Spans, span_of}
@@ -10,6 +10,7 @@ use Rattle.mk_tree.specs.Upto.{upto, beyond, fields_until, rest_until}
 use Rattle.mk_tree.specs.Steps.{KeptOfBody}
 use Rattle.mk_tree.specs.Forms.{form_in, spans_in}
 use Rattle.mk_tree.proofs.Kept.{print_read}
+use Rattle.mk_tree.proofs.WellRead.{read_is, head_by}
 use Rattle.mk_tree.proofs.Descent.{size_cut, size_beyond}
 use Rattle.mk_tree.proofs.Heads.{fields_upto, rest_upto, beyond_rest, fields_again, until_apart, separator_upto, front_lines}
 
@@ -17,15 +18,6 @@ span_parts : (digest : Bool) (d : ℕ) (e : Entity) → span_of digest d e ≡ s
 span_parts digest d (leaf h ls) = refl
 span_parts digest d (message h e) = refl
 span_parts digest d (multi h b pre ps t) = refl
-
-head_by : (f : Bool → List TextLine → Entity) (k : Kind) (h : Head) (ls : List TextLine) → entity_head (entity_by f k h ls) ≡ h
-head_by f Leaf h ls = refl
-head_by f Message h ls = refl
-head_by f (Multi b digest) h ls = refl
-
-read_by : (left : ℕ) (digest : Bool) (ls : List TextLine) → read left digest ls ≡ entity_by (read (below left)) (kind_at left (fields_from false ls) digest) (head_of ls) (behind_head ls)
-read_by zero digest ls = refl
-read_by (suc left) digest ls = refl
 
 abbrev head_until : List (List ℕ) → List TextLine → Head
 head_until bs ls = record { fields = fields_until bs false ls; separator = separator_of (rest_until bs false ls) }
@@ -42,7 +34,7 @@ entity_until left digest bs ls body = entity_by (read (below left)) (kind_at lef
 
 read_until : (left : ℕ) (digest : Bool) (bs : List (List ℕ)) (ls body : List TextLine) → body_of (rest_until bs false ls) ≡ body → read left digest (upto bs ls) ≡ entity_until left digest bs ls body
 read_until left digest bs ls body e =
-    read_by left digest (upto bs ls)
+    read_is left digest (upto bs ls)
     ∙ (λ i. entity_by (read (below left)) (kind_at left (fields_upto bs false ls i) digest) (head_is bs ls i) ((behind_is bs ls ∙ ap (upto bs) e) i))
 
 span_until : (left : ℕ) (digest : Bool) (bs : List (List ℕ)) (delimiter : ℕ) (ls body : List TextLine) (fields separator whole : ℕ) (form : Form) (spans : Spans)

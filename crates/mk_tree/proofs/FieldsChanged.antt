@@ -14,7 +14,8 @@ use Rattle.mk_tree.proofs.Kept.{text_kept}
 use Rattle.mk_tree.proofs.WellRead.{well_of}
 use Rattle.mk_tree.proofs.Plugs.{print_plug, own_of}
 use Rattle.mk_tree.proofs.Stability.{stable_kept, read_stable, parts_read}
-use Rattle.mk_tree.proofs.Placed.{size_append, place_plug}
+use Rattle.mk_tree.proofs.Descent.{size_append}
+use Rattle.mk_tree.proofs.Placed.{place_plug}
 use Rattle.mk_tree.proofs.Respans.{respan_place}
 use Rattle.mk_tree.proofs.OwnFields.{size_entity, rest_same, fields_are, fields_grow, own_fields}
 use Rattle.mk_tree.proofs.Leads.{leads_place}

@@ -7,7 +7,8 @@ use Rattle.mk_tree.specs.Tree.{Entity, leaf, message, multi, Parts, no_parts, pa
 use Rattle.mk_tree.specs.Spans.{size, span_of, spans_of, digest_below}
 use Rattle.mk_tree.specs.Places.{Frame, in_multi, part_at, step_to, place_at, digest_in}
 use Rattle.mk_tree.specs.Changed.{LeadsAt, LeadsTo}
-use Rattle.mk_tree.proofs.Placed.{size_append, MakesParts, parts_made}
+use Rattle.mk_tree.proofs.Descent.{size_append}
+use Rattle.mk_tree.proofs.Placed.{MakesParts, parts_made}
 use Rattle.mk_tree.proofs.Respans.{size_around, size_multi}
 use Rattle.mk_tree.proofs.OwnFields.{size_entity}
 

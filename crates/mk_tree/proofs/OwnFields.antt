@@ -13,7 +13,7 @@ use Rattle.mk_tree.specs.Reading.{IsWellRead, AreWellRead}
 use Rattle.mk_tree.specs.Places.{below}
 use Rattle.mk_tree.specs.Changed.{respan}
 use Rattle.mk_tree.specs.Splicing.{IsDigestOf}
-use Rattle.mk_tree.proofs.Placed.{size_append}
+use Rattle.mk_tree.proofs.Descent.{size_append}
 use Rattle.mk_tree.proofs.KindsSaid.{kind_by, kind_default}
 use Rattle.mk_tree.proofs.Respans.{Grows}
 

@@ -1,8 +1,7 @@
 -- The section that is found at numbers is the one that the frames around it say, and put back there it gives the tree.
-use Rattle.std.proofs.Common.{◌≡◌, ◌+◌, ◌++◌, ◌||◌, ℕ, zero, suc, Bool, true, false, Option, None, Some, List, [], ◌∷◌, refl, ap, sym, ◌∙◌, length, arith, length-append, append_assoc, subst, option_and_then}
+use Rattle.std.proofs.Common.{◌≡◌, ◌+◌, ◌++◌, ◌||◌, ℕ, zero, suc, Bool, true, false, Option, None, Some, List, [], ◌∷◌, refl, ap, sym, ◌∙◌, arith, append_assoc, subst, option_and_then}
 use Rattle.std.specs.Option.{option_map}
-use Rattle.mk_line.specs.Lines.{TextLine, text_of}
-use Rattle.mk_line.proofs.Cuts.{text_append}
+use Rattle.mk_line.specs.Lines.{TextLine}
 use Rattle.mk_head.specs.Split.{Head, head_lines, option_line}
 use Rattle.mk_head.specs.Splits.{has_line}
 use Rattle.mk_head.specs.Fields.{counted}
@@ -12,10 +11,8 @@ use Rattle.mk_tree.specs.Documents.{Document}
 use Rattle.mk_tree.specs.Spans.{size, digest_below}
 use Rattle.mk_tree.specs.Sections.{Placed, has_part, has_tail, parts_placed, children_of, root_of, section_below}
 use Rattle.mk_tree.specs.Places.{Frame, in_message, in_multi, append_parts, plug_one, plug, part_at, step_to, place_at, default_at, lines_before, lines_after, placed}
+use Rattle.mk_tree.proofs.Descent.{size_append}
 use Rattle.mk_tree.proofs.Plugs.{lines_end}
-
-pub size_append : (xs ys : List TextLine) → size (xs ++ ys) ≡ size xs + size ys
-size_append xs ys = ap length (text_append xs ys) ∙ length-append (text_of xs) (text_of ys)
 
 or_end : (a : Bool) → (a || false) ≡ a
 or_end true = refl

@@ -9,7 +9,8 @@ use Rattle.mk_tree.specs.Spans.{size, tail_sizes, message_form, multi_form, Span
 use Rattle.mk_tree.specs.Places.{Frame, in_message, in_multi, append_parts, plug_one, plug, part_at, step_to, place_at, digest_in, default_at}
 use Rattle.mk_tree.specs.Changed.{changed_at, respan}
 use Rattle.mk_tree.proofs.Plugs.{print_append}
-use Rattle.mk_tree.proofs.Placed.{size_append, MakesParts, parts_made, MakesStep, step_made}
+use Rattle.mk_tree.proofs.Descent.{size_append}
+use Rattle.mk_tree.proofs.Placed.{MakesParts, parts_made, MakesStep, step_made}
 
 -- an entity whose lines are longer or shorter than those of another
 pub record Grows (count added : ℕ) (s t : Entity) : Type 0 where

@@ -18,7 +18,8 @@ use Rattle.mk_tree.specs.declared.node.Node.{Node}
 use Rattle.mk_tree.specs.declared.node.Node.TheViews.{out-Node}
 use Rattle.mk_tree.specs.declared.node.Node.TheFolds.{fold_out-Node}
 use Rattle.mk_tree.proofs.Kept.{print_read}
-use Rattle.mk_tree.proofs.Slices.{sizes_add, text_size, front_within, front_text, front_cut, behind_cut}
+use Rattle.mk_tree.proofs.Descent.{size_append, size_cut}
+use Rattle.mk_tree.proofs.Slices.{front_within, front_text, front_cut, behind_cut}
 
 abbrev pub span_list : Spans → List Span
 span_list no_spans = []
@@ -113,7 +114,7 @@ raw_head raw left digest =
     ∙ sym (append_assoc (fields_in (read left digest (cut raw))) (separator_in (read left digest (cut raw))) (body_lines (read left digest (cut raw))))
 
 pub head_size : (h : Head) → size (head_lines h) ≡ size h.fields + size (option_line h.separator)
-head_size h = sizes_add h.fields (option_line h.separator)
+head_size h = size_append h.fields (option_line h.separator)
 
 -- the slices of a section
 pub raw_is : (raw : List ℕ) (left : ℕ) (digest : Bool) → raw ≡ text_of (print (read left digest (cut raw)))
@@ -194,7 +195,7 @@ body_front (multi h b pre ps t) = refl
 pub preamble_within : (raw : List ℕ) (left : ℕ) (digest : Bool) → size (preamble_lines (read left digest (cut raw))) ≤ length (text_of (body_lines (read left digest (cut raw))))
 preamble_within raw left digest =
     let h : size (body_lines (read left digest (cut raw))) ≡ size (preamble_lines (read left digest (cut raw)) ++ behind_preamble (read left digest (cut raw))) = ap size (body_front (read left digest (cut raw))) in
-    omega (arith, h, sizes_add (preamble_lines (read left digest (cut raw))) (behind_preamble (read left digest (cut raw))))
+    omega (arith, h, size_append (preamble_lines (read left digest (cut raw))) (behind_preamble (read left digest (cut raw))))
 
 pub preamble_is : (e : Entity) → take (size (preamble_lines e)) (text_of (body_lines e)) ≡ text_of (preamble_lines e)
 preamble_is e =
@@ -227,7 +228,7 @@ raw_end : (raw : List ℕ) (left : ℕ) (digest : Bool) → cut raw ≡ before_e
 raw_end raw left digest = raw_lines raw left digest ∙ epilogue_end (read left digest (cut raw))
 
 raw_sizes : (raw : List ℕ) (left : ℕ) (digest : Bool) → length raw ≡ size (before_epilogue (read left digest (cut raw))) + size (epilogue_lines (read left digest (cut raw)))
-raw_sizes raw left digest = sym (text_size raw) ∙ (ap size (raw_end raw left digest) ∙ sizes_add (before_epilogue (read left digest (cut raw))) (epilogue_lines (read left digest (cut raw))))
+raw_sizes raw left digest = sym (size_cut raw) ∙ (ap size (raw_end raw left digest) ∙ size_append (before_epilogue (read left digest (cut raw))) (epilogue_lines (read left digest (cut raw))))
 
 pub epilogue_within : (raw : List ℕ) (left : ℕ) (digest : Bool) → size (epilogue_lines (read left digest (cut raw))) ≤ length raw
 epilogue_within raw left digest = omega (arith, raw_sizes raw left digest)

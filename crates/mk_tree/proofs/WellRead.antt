@@ -23,7 +23,7 @@ read_split n d h ls s =
     let p = splits_read h ls s in
     read_is n d (head_lines h ++ ls) ∙ (λ i. entity_by (read (below n)) (kind_at n (p.0 i).fields d) (p.0 i) (p.1 i))
 
-head_by : (f : Bool → List TextLine → Entity) (k : Kind) (h : Head) (ls : List TextLine) → entity_head (entity_by f k h ls) ≡ h
+pub head_by : (f : Bool → List TextLine → Entity) (k : Kind) (h : Head) (ls : List TextLine) → entity_head (entity_by f k h ls) ≡ h
 head_by f Leaf h ls = refl
 head_by f Message h ls = refl
 head_by f (Multi b digest) h ls = refl

@@ -1,5 +1,5 @@
 use Rattle.std.proofs.Common.{◌+◌, ◌++◌, ◌∷◌, [], ◌∙◌, ap, refl, arith, length, take, drop}
-use Rattle.mk_edit.specs.Splices.{spliced}
+use Rattle.mk_tree.specs.Splicing.{spliced}
 use Rattle.mk_edit.specs.Views.{steps_of}
 use Rattle.mk_edit.proofs.Moves.{put_within, put_moves, put_steps}
 use Rattle.mk_edit.proofs.session.Session.put.Goals as goal

@@ -1,4 +1,4 @@
-use Rattle.std.proofs.Common.{◌+◌, ℕ, ap, ◌∙◌, arith}
+use Rattle.std.proofs.Common.{◌+◌, ap, ◌∙◌, arith}
 use Rattle.mk_head.specs.Split.{head_lines}
 use Rattle.mk_tree.specs.Spans.{size}
 use Rattle.mk_tree.specs.Tree.{entity_head}

@@ -1,4 +1,4 @@
-use Rattle.std.proofs.Common.{◌≡◌, ◌+◌, ℕ, ap, ◌∙◌, length, arith}
+use Rattle.std.proofs.Common.{◌≡◌, ◌+◌, ap, ◌∙◌, length, arith}
 use Rattle.mk_tree.specs.Spans.{size}
 use Rattle.mk_tree.specs.Tree.{print}
 use Rattle.mk_tree.specs.Sections.{Placed}
