@@ -1,2 +1,7 @@
 pub mod Depths
 pub mod Sections
+pub mod Taken
+pub mod NamesKnown
+pub mod InTurn
+pub mod SafeNames
+pub mod Rows

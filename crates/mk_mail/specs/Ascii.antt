@@ -8,3 +8,7 @@ dot = 46
 -- b'/'
 abbrev pub slash : ℕ
 slash = 47
+
+-- b'_'
+abbrev pub underscore : ℕ
+underscore = 95

@@ -3,3 +3,7 @@ pub mod Ascii
 pub mod Listed
 pub mod Listing
 pub mod Extracts
+pub mod FileNames
+pub mod NameViews
+pub mod GivenNames
+pub mod Taken

@@ -1,6 +1,5 @@
 //! The content of a section, taken out of a document.
 ghost use Rattle.std.specs.Prelude.{◌≡◌, ◌↔◌, Err, None, IfErr, IfOk};
-ghost use Rattle.mk_mail.specs.declared.extracting.ExtractError.TheVariants.{Memory};
 ghost use Rattle.mk_tree.specs.Documents.{tree};
 ghost use Rattle.mk_tree.specs.Sections.{section_at};
 ghost use Rattle.mk_mail.specs.Extracts.{IsContentOf, IsExtract, IsExtractRefused, IsRefusedOf, extract_reason};
@@ -8,7 +7,7 @@ ghost use Rattle.mk_mail.specs.Extracts.{IsContentOf, IsExtract, IsExtractRefuse
 use crate::typing::transfer_encoding;
 use mk_code::{CodeError, decode};
 use mk_tree::{Doc, Kind, Section};
-use std::alloc::{AllocError, Global};
+use std::alloc::Global;
 use thiserror::Error;
 
 /// Why no content is taken out.
@@ -26,14 +25,6 @@ pub enum ExtractError {
     /// Memory ran out.
     #[error("out of memory")]
     Memory,
-}
-
-impl From<AllocError> for ExtractError {
-    ghost from_gives = { λ _ error. error ≡ Memory };
-
-    fn from(_error: AllocError) -> ExtractError {
-        ExtractError::Memory
-    }
 }
 
 /// Takes out the content of the section at a path: that of a leaf decoded by its Content-Transfer-Encoding (RFC 2045, 6),

@@ -4,13 +4,16 @@
 
 mod device;
 mod extracting;
+mod giving;
 mod listing;
+mod naming;
 mod typing;
 mod writing;
 
 pub use device::{Fault, Sink, Source};
 pub use extracting::{ExtractError, extract};
 pub use listing::list;
+pub use naming::names;
 pub use writing::push_path;
 
 #[cfg(test)]

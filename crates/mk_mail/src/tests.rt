@@ -1,5 +1,5 @@
 //! Rows of listings and of contents.
-use crate::{ExtractError, extract, list};
+use crate::{ExtractError, extract, list, names};
 use mk_tree::Doc;
 use std::alloc::Global;
 
@@ -87,4 +87,41 @@ fn refuses_what_it_cannot_take_out(rt: HostRuntime) {
     assert!(rt; gives(alloc, UUENCODED, &[1, 9], Err(ExtractError::NoSuchSection)));
     assert!(rt; gives(alloc, MIXED, &[2], Err(ExtractError::NoSuchSection)));
     assert!(rt; gives(alloc, MIXED, &[], Err(ExtractError::NoSuchSection)));
+}
+
+const FOUR_LEAVES: &[u8] =
+    b"Content-Type: multipart/mixed; boundary=b\n\n--b\nContent-Type: text/plain\n\nx\n--b\nContent-Type: application/pdf; name=\"../a b.pdf\"\n\nx\n--b\nContent-Type: image/png\nContent-Disposition: attachment; filename=\"a b.pdf\"\n\nx\n--b\nContent-Type: image/gif\n\nx\n--b--\n";
+
+// The paths and the names of the leaves that are stored, of which texts without a name are some or aren't.
+const NAMES: [(bool, &[(&[u32], &[u8])]); 2] = [
+    (
+        false,
+        &[
+            (&[1, 2], b"a_b.pdf"),
+            (&[1, 3], b"a_b.pdf.1"),
+            (&[1, 4], b"part-1.4"),
+        ],
+    ),
+    (
+        true,
+        &[
+            (&[1, 1], b"part-1.1"),
+            (&[1, 2], b"a_b.pdf"),
+            (&[1, 3], b"a_b.pdf.1"),
+            (&[1, 4], b"part-1.4"),
+        ],
+    ),
+];
+
+#[test]
+fn names_the_leaves(rt: HostRuntime) {
+    let doc = doc(rt.alloc(), FOUR_LEAVES).expect(&rt, "memory");
+    for (texts, want) in NAMES {
+        let named = names(rt.alloc(), &doc, texts).expect(&rt, "memory");
+        assert_eq!(rt; named.len(), want.len());
+        for (given, wanted) in named.iter().zip(want) {
+            assert_eq!(rt; given.0.as_slice(), wanted.0);
+            assert_eq!(rt; given.1.as_slice(), wanted.1);
+        }
+    }
 }

@@ -14,16 +14,17 @@ pub fn push_path(text: &mut Vec<u8>, path: &[u32]) -> Result<(), AllocError>
     ensures { OnOk result (text.new.items ≡ text.old.items ++ path_text path.now) }
 {
     if let Some((first, others)) = path.split_first() {
-        push_number(text, *first as usize)?;
+        push_number(text, u64::from(*first))?;
         for number in others {
             text.push(DOT)?;
-            push_number(text, *number as usize)?;
+            push_number(text, u64::from(*number))?;
         }
     }
     Ok(())
 }
 
-fn push_number(text: &mut Vec<u8>, number: usize) -> Result<(), AllocError>
+/// Writes a number.
+pub(crate) fn push_number(text: &mut Vec<u8>, number: u64) -> Result<(), AllocError>
     ensures { OnOk result (text.new.items ≡ text.old.items ++ decimal number) }
 {
     let mut buffer = Buffer::new();
@@ -43,5 +44,5 @@ pub(crate) fn push_number_column(text: &mut Vec<u8>, number: usize) -> Result<()
     ensures { OnOk result (text.new.items ≡ text.old.items ++ column (decimal number)) }
 {
     text.push(SPACE)?;
-    push_number(text, number)
+    push_number(text, number as u64)
 }

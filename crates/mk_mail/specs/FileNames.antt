@@ -1,0 +1,96 @@
+-- The names under which the leaves of a document are stored as files (own).
+use Rattle.std.specs.Prelude.{◌==◌, ◌++◌, ◌||◌, if◌then◌else◌, ℕ, Bool, true, not, Option, None, Some, List, [], ◌∷◌, codes, map, take}
+use Rattle.std.specs.Char.{is_ascii_alphanumeric}
+use Rattle.std.specs.List.{flat_map}
+use Rattle.std.specs.Str.{bytes_eq}
+use Rattle.mk_line.specs.Ascii.{hyphen}
+use Rattle.mk_line.specs.Lines.{is_nil}
+use Rattle.mk_head.specs.Values.{MediaType, backslash, content_type_of, param_of}
+use Rattle.mk_head.specs.Types.{field_value}
+use Rattle.mk_tree.specs.declared.shapes.Kind.{Kind}
+use Rattle.mk_tree.specs.declared.shapes.Kind.TheVariants.{Leaf, Multi, Message}
+use Rattle.mk_tree.specs.Tree.{field_lines}
+use Rattle.mk_tree.specs.Forms.{kind_in}
+use Rattle.mk_tree.specs.Sections.{Placed}
+use Rattle.mk_tree.specs.Documents.{Document}
+use Rattle.mk_mail.specs.Ascii.{dot, slash, underscore}
+use Rattle.mk_mail.specs.Listed.{Listed, listed}
+use Rattle.mk_mail.specs.Listing.{path_text, type_of}
+
+-- the parameter of a disposition, where there is one
+abbrev pub disposed_name : Option (List ℕ) → Option (List ℕ)
+disposed_name None = None
+disposed_name (Some value) = param_of (codes "filename") (content_type_of value).params
+
+abbrev pub first_some : Option (List ℕ) → Option (List ℕ) → Option (List ℕ)
+first_some None other = other
+first_some (Some name) other = Some name
+
+-- the name that a section's fields say: `filename` of Content-Disposition, else `name` of Content-Type
+abbrev pub raw_name : Placed → Option (List ℕ)
+raw_name p = first_some (disposed_name (field_value (codes "Content-Disposition") (field_lines p.entity))) (param_of (codes "name") (type_of p).params)
+
+abbrev pub is_divider : ℕ → Bool
+is_divider byte = byte == slash || byte == backslash
+
+-- what stands behind the last divider, where the other bytes are those behind the last one so far
+abbrev pub behind_last : List ℕ → List ℕ → List ℕ
+behind_last kept [] = kept
+behind_last kept (byte ∷ bytes) = if is_divider byte then behind_last bytes bytes else behind_last kept bytes
+
+-- letters, digits, dots, underscores and hyphens stay in a name, and an underscore stands for any other byte
+abbrev pub is_plain_byte : ℕ → Bool
+is_plain_byte byte = is_ascii_alphanumeric byte || byte == dot || byte == underscore || byte == hyphen
+
+abbrev pub plain : ℕ → ℕ
+plain byte = if is_plain_byte byte then byte else underscore
+
+-- the first byte of a name is no dot and no hyphen
+abbrev pub leading : ℕ → ℕ
+leading byte = if byte == dot || byte == hyphen then underscore else byte
+
+abbrev pub led : List ℕ → List ℕ
+led [] = []
+led (byte ∷ bytes) = leading byte ∷ bytes
+
+-- how many bytes of a name are kept
+abbrev pub most_bytes : ℕ
+most_bytes = 100
+
+-- what is left of a name that a message says
+abbrev pub cleaned : List ℕ → List ℕ
+cleaned raw = take most_bytes (led (map plain (behind_last raw raw)))
+
+-- the name of a section that has no other
+abbrev pub part_name : List ℕ → List ℕ
+part_name path = codes "part-" ++ path_text path
+
+abbrev pub name_or : List ℕ → List ℕ → List ℕ
+name_or other name = if is_nil name then other else name
+
+-- the name that a section would get by itself
+abbrev pub name_by : List ℕ → Option (List ℕ) → List ℕ
+name_by path None = part_name path
+name_by path (Some raw) = name_or (part_name path) (cleaned raw)
+
+-- a text that has no name is stored only where texts are wanted
+abbrev pub is_stored_by : Bool → MediaType → Option (List ℕ) → Bool
+is_stored_by texts t None = texts || not (bytes_eq t.main (codes "text"))
+is_stored_by texts t (Some raw) = true
+
+-- a path and a name
+abbrev pub Named : Type 0
+Named = List ℕ × List ℕ
+
+-- a leaf is stored, and nothing else
+abbrev pub stored_by : Bool → Kind → List ℕ → MediaType → Option (List ℕ) → List Named
+stored_by texts Leaf path t raw = if is_stored_by texts t raw then (path, name_by path raw) ∷ [] else []
+stored_by texts Multi path t raw = []
+stored_by texts Message path t raw = []
+
+unfoldable pub stored : Bool → Listed → List Named
+stored texts s = stored_by texts (kind_in s.section.entity) s.path (type_of s.section) (raw_name s.section)
+
+-- the leaves that are stored, in the document's order, with the names that they would get by themselves
+abbrev pub all_stored : Bool → Document → List Named
+all_stored texts t = flat_map (stored texts) (listed t)

@@ -1,0 +1,99 @@
+//! File names, told apart.
+ghost use Rattle.std.specs.Prelude.{◌≡◌, ◌<◌, ◌≤◌, ◌+◌, ◌^◌, [], ◌∷◌, ℕ, List, None, Some, true, if◌then◌else◌, is_some, map, IfOk, OnOk};
+ghost use Rattle.std.specs.Str.{bytes_eq};
+ghost use Rattle.mk_mail.specs.GivenNames.{AreGiven, IsGiven, numbered as numbered_by};
+ghost use Rattle.mk_mail.specs.NameViews.{named_view};
+ghost use Rattle.mk_mail.specs.Taken.{Knows, number_at};
+
+use crate::writing::push_number;
+use std::alloc::{AllocError, Global};
+use std::collections::BTreeMap;
+
+const DOT: u8 = b'.';
+
+// The names that were given so far, each with the number that is tried first behind it.
+type Taken = BTreeMap<Vec<u8>, u64>;
+
+/// Gives sections their names in turn, from those that they would get by themselves.
+pub(crate) fn give_all(
+    alloc: Global,
+    list: Vec<(Vec<u32>, Vec<u8>)>,
+) -> Result<Vec<(Vec<u32>, Vec<u8>)>, AllocError>
+    ensures { IfOk result (λ names. AreGiven [] (map named_view list.items) (map named_view names.items)) }
+{
+    let mut taken = Taken::new(alloc);
+    let mut names = Vec::new(alloc);
+    for (path, own) in list {
+        let given = give(alloc, &mut taken, own)?;
+        names.push((path, given))?;
+    }
+    Ok(names)
+}
+
+// Gives a name that is none of those given so far: the own one, or that with a number behind it.
+fn give(alloc: Global, taken: &mut Taken, own: Vec<u8>) -> Result<Vec<u8>, AllocError>
+    ensures { IfOk result (λ given. (names : List (List ℕ)) → Knows (number_at taken.old) names → IsGiven names own.items given.items × Knows (number_at taken.new) (given.items ∷ names)) }
+{
+    match first_number(taken, &own) {
+        None => {
+            let given = Vec::from_slice(alloc, &own)?;
+            put(taken, own, 1)?;
+            Ok(given)
+        }
+        Some(first) => {
+            let (given, number) = free_name(alloc, taken, &own, first)?;
+            let copy = Vec::from_slice(alloc, &given)?;
+            put(taken, copy, 1)?;
+            put(taken, own, number + 1)?;
+            Ok(given)
+        }
+    }
+}
+
+// The number that is tried first behind a name, where the name was given.
+fn first_number(taken: &Taken, name: &[u8]) -> Option<u64>
+    ensures { result ≡ number_at taken.now name.now }
+{
+    taken.get(name).copied()
+}
+
+// Keeps the number that is tried first behind a name.
+fn put(taken: &mut Taken, name: Vec<u8>, number: u64) -> Result<(), AllocError>
+    ensures { OnOk result ((other : List ℕ) → number_at taken.new other ≡ (if bytes_eq name.items other then Some number else number_at taken.old other)) }
+{
+    taken.insert(name, number)?;
+    Ok(())
+}
+
+// The first number from one on that makes a name which wasn't given, and that name. All memory is too little for the names
+// of all numbers.
+fn free_name(
+    alloc: Global,
+    taken: &Taken,
+    own: &[u8],
+    first: u64,
+) -> Result<(Vec<u8>, u64), AllocError>
+    ensures name { IfOk result (λ r. r.0.items ≡ numbered_by own.now r.1) }
+    ensures free { IfOk result (λ r. number_at taken.now (numbered_by own.now r.1) ≡ None) }
+    ensures from_first { IfOk result (λ r. first ≤ r.1) }
+    ensures fits { IfOk result (λ r. r.1 + 1 < 2 ^ 64) }
+    ensures tried { IfOk result (λ r. (n : ℕ) → first ≤ n → n < r.1 → is_some (number_at taken.now (numbered_by own.now n)) ≡ true) }
+{
+    for number in first..u64::MAX {
+        let name = numbered(alloc, own, number)?;
+        if first_number(taken, &name).is_none() {
+            return Ok((name, number));
+        }
+    }
+    Err(AllocError)
+}
+
+// A name with a number behind it.
+fn numbered(alloc: Global, name: &[u8], number: u64) -> Result<Vec<u8>, AllocError>
+    ensures { IfOk result (λ text. text.items ≡ numbered_by name.now number) }
+{
+    let mut text = Vec::from_slice(alloc, name)?;
+    text.push(DOT)?;
+    push_number(&mut text, number)?;
+    Ok(text)
+}

@@ -1,0 +1,238 @@
+//! Names for the leaves of a document that are stored as files.
+ghost use Rattle.std.specs.Prelude.{◌≡◌, ◌++◌, [], codes, map, IfOk, OnOk};
+ghost use Rattle.std.specs.List.{flat_map};
+ghost use Rattle.std.specs.Option.{option_map};
+ghost use Rattle.mk_head.specs.Types.{field_value};
+ghost use Rattle.mk_head.specs.Values.{param_of};
+ghost use Rattle.mk_head.specs.ValueViews.{media_type_of};
+ghost use Rattle.mk_tree.specs.declared.shapes.Kind.TheVariants.{Leaf};
+ghost use Rattle.mk_tree.specs.Tree.{field_lines};
+ghost use Rattle.mk_tree.specs.Documents.{tree};
+ghost use Rattle.mk_mail.specs.GivenNames.{AreDistinct, AreGiven, AreSafe};
+ghost use Rattle.mk_mail.specs.Listed.{listed_from};
+ghost use Rattle.mk_mail.specs.Listing.{type_of};
+ghost use Rattle.mk_mail.specs.FileNames.{all_stored, behind_last, cleaned as cleaned_of, is_divider as divides, is_stored_by, leading as leading_of, name_by, part_name as name_of_part, plain as plain_of, raw_name as raw_name_of, stored, stored_by, disposed_name};
+ghost use Rattle.mk_mail.specs.NameViews.{named_view};
+
+use crate::giving::give_all;
+use crate::listing::path_below;
+use crate::typing::media_type;
+use crate::writing::push_path;
+use mk_head::{ContentType, content_type};
+use mk_tree::{Doc, Kind, Section};
+use std::alloc::{AllocError, Global};
+
+const DOT: u8 = b'.';
+
+const HYPHEN: u8 = b'-';
+
+const UNDERSCORE: u8 = b'_';
+
+const SLASH: u8 = b'/';
+
+const BACKSLASH: u8 = b'\\';
+
+/// How many bytes of a name that a message says are kept.
+const MOST_BYTES: usize = 100;
+
+const TEXT: &[u8] = b"text";
+
+/// Names the leaves of a document, in its order, for storing them as files: the path of each and its name. The name is the
+/// parameter `filename` of Content-Disposition, else `name` of Content-Type (RFC 2183, 2.3; RFC 2045, 5.1), of which what
+/// could lead elsewhere is taken off; without one it is `part-` and the path. A leaf of a text type without a name is left
+/// out unless `texts`. Where an earlier leaf has the name, a number is put behind it.
+pub fn names(alloc: Global, doc: &Doc, texts: bool) -> Result<Vec<(Vec<u32>, Vec<u8>)>, AllocError>
+    ensures given { IfOk result (λ names. AreGiven [] (all_stored texts (tree doc.now)) (map named_view names.items)) }
+    ensures distinct { IfOk result (λ names. AreDistinct [] (map named_view names.items)) }
+    ensures safe { IfOk result (λ names. AreSafe (map named_view names.items)) }
+{
+    let mut list = Vec::new(alloc);
+    push_stored(alloc, texts, &mut list, &[1], &doc.root())?;
+    give_all(alloc, list)
+}
+
+// Puts the leaves that are stored, from a section on, behind others, with the names that they would get by themselves.
+fn push_stored(
+    alloc: Global,
+    texts: bool,
+    list: &mut Vec<(Vec<u32>, Vec<u8>)>,
+    path: &[u32],
+    section: &Section<'_>,
+) -> Result<(), AllocError>
+    ensures { OnOk result (map named_view list.new.items ≡ map named_view list.old.items ++ flat_map (stored texts) (listed_from path.now section.now)) }
+{
+    push_own(alloc, texts, list, path, section)?;
+    let mut number = 1u32;
+    for child in section.children() {
+        let child_path = path_below(alloc, path, number)?;
+        push_stored(alloc, texts, list, &child_path, &child)?;
+        let Some(next) = number.checked_add(1) else {
+            return Ok(());
+        };
+        number = next;
+    }
+    Ok(())
+}
+
+// Puts a section itself behind others, if it is stored.
+#[tactic(auto, unfolding(crate::specs::FileNames::stored))]
+fn push_own(
+    alloc: Global,
+    texts: bool,
+    list: &mut Vec<(Vec<u32>, Vec<u8>)>,
+    path: &[u32],
+    section: &Section<'_>,
+) -> Result<(), AllocError>
+    ensures { OnOk result (map named_view list.new.items ≡ map named_view list.old.items ++ stored texts (record { path = path.now; section = section.now })) }
+{
+    match section.kind() {
+        Kind::Leaf => push_leaf(alloc, texts, list, path, section),
+        Kind::Multi | Kind::Message => Ok(()),
+    }
+}
+
+// Puts a leaf behind others, if it is stored.
+fn push_leaf(
+    alloc: Global,
+    texts: bool,
+    list: &mut Vec<(Vec<u32>, Vec<u8>)>,
+    path: &[u32],
+    section: &Section<'_>,
+) -> Result<(), AllocError>
+    ensures { OnOk result (map named_view list.new.items ≡ map named_view list.old.items ++ stored_by texts Leaf path.now (type_of section.now) (raw_name_of section.now)) }
+{
+    let media = media_type(alloc, section)?;
+    let raw = raw_name(alloc, section, &media)?;
+    if !is_stored(texts, &media, &raw) {
+        return Ok(());
+    }
+    let name = own_name(alloc, path, &raw)?;
+    let path = Vec::from_slice(alloc, path)?;
+    list.push((path, name))?;
+    Ok(())
+}
+
+// Whether a leaf of a type, with the name that its fields say, is stored.
+fn is_stored(texts: bool, media: &ContentType, raw: &Option<Vec<u8>>) -> bool
+    ensures { result ≡ is_stored_by texts (media_type_of media.now) (option_map (λ name. name.items) raw.now) }
+{
+    match raw {
+        Some(_) => true,
+        None => texts || media.main.as_slice() != TEXT,
+    }
+}
+
+// The name that the fields of a section with this content type say.
+fn raw_name(
+    alloc: Global,
+    section: &Section<'_>,
+    media: &ContentType,
+) -> Result<Option<Vec<u8>>, AllocError>
+    requires { media_type_of media.now ≡ type_of section.now }
+    ensures { IfOk result (λ raw. option_map (λ name. name.items) raw ≡ raw_name_of section.now) }
+{
+    match file_name(alloc, section)? {
+        Some(name) => Ok(Some(name)),
+        None => parameter(alloc, media, b"name"),
+    }
+}
+
+// The name that the disposition of a section says (RFC 2183, 2.3).
+fn file_name(alloc: Global, section: &Section<'_>) -> Result<Option<Vec<u8>>, AllocError>
+    ensures { IfOk result (λ raw. option_map (λ name. name.items) raw ≡ disposed_name (field_value (codes "Content-Disposition") (field_lines section.now.entity))) }
+{
+    match section.value(alloc, b"Content-Disposition")? {
+        Some(value) => parameter(alloc, &content_type(alloc, &value)?, b"filename"),
+        None => Ok(None),
+    }
+}
+
+// A copy of the value of a parameter.
+fn parameter(alloc: Global, media: &ContentType, name: &[u8]) -> Result<Option<Vec<u8>>, AllocError>
+    ensures { IfOk result (λ found. option_map (λ value. value.items) found ≡ param_of name.now (media_type_of media.now).params) }
+{
+    match media.param(name) {
+        Some(value) => Ok(Some(Vec::from_slice(alloc, value)?)),
+        None => Ok(None),
+    }
+}
+
+// The name that a section at a path would get by itself.
+fn own_name(alloc: Global, path: &[u32], raw: &Option<Vec<u8>>) -> Result<Vec<u8>, AllocError>
+    ensures { IfOk result (λ name. name.items ≡ name_by path.now (option_map (λ name. name.items) raw.now)) }
+{
+    if let Some(raw) = raw {
+        let name = cleaned(alloc, raw)?;
+        if !name.is_empty() {
+            return Ok(name);
+        }
+    }
+    part_name(alloc, path)
+}
+
+fn part_name(alloc: Global, path: &[u32]) -> Result<Vec<u8>, AllocError>
+    ensures { IfOk result (λ name. name.items ≡ name_of_part path.now) }
+{
+    let mut name = Vec::from_slice(alloc, b"part-")?;
+    push_path(&mut name, path)?;
+    Ok(name)
+}
+
+// What is left of a name that a message says.
+fn cleaned(alloc: Global, raw: &[u8]) -> Result<Vec<u8>, AllocError>
+    ensures { IfOk result (λ name. name.items ≡ cleaned_of raw.now) }
+{
+    let Some((first, others)) = last_piece(raw).split_first() else {
+        return Ok(Vec::new(alloc));
+    };
+    let mut name = Vec::new(alloc);
+    name.push(leading(plain(*first)))?;
+    for byte in others {
+        name.push(plain(*byte))?;
+    }
+    name.truncate(MOST_BYTES);
+    Ok(name)
+}
+
+// What stands behind the last slash or backslash.
+fn last_piece(raw: &[u8]) -> &[u8]
+    ensures { result.now ≡ behind_last raw.now raw.now }
+{
+    let mut piece = raw;
+    let mut rest = raw;
+    'each: while let [byte, behind @ ..] = rest {
+        if is_divider(*byte) {
+            piece = behind;
+        }
+        rest = behind;
+    }
+    piece
+}
+
+fn is_divider(byte: u8) -> bool
+    ensures { result ≡ divides byte }
+{
+    byte == SLASH || byte == BACKSLASH
+}
+
+// A byte that may stand in a name, in the place of any.
+fn plain(byte: u8) -> u8
+    ensures { result ≡ plain_of byte }
+{
+    if byte.is_ascii_alphanumeric() || byte == DOT || byte == UNDERSCORE || byte == HYPHEN {
+        byte
+    } else {
+        UNDERSCORE
+    }
+}
+
+// A byte that a name may begin with, in the place of any that may stand in it.
+fn leading(byte: u8) -> u8
+    ensures { result ≡ leading_of byte }
+{
+    if byte == DOT || byte == HYPHEN {
+        UNDERSCORE
+    } else {
+        byte
+    }
+}
