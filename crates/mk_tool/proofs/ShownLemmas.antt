@@ -13,13 +13,17 @@ pub Shows-written : (R : Run → Type 0) (run : Run) (status : Status) (input in
 Shows-written R run Well input input_after out out_after err err_after r e w = (run, r, record { status_is = w.0; written = record { output = w.1; errors = w.2 }; read = e })
 Shows-written R run Refused input input_after out out_after err err_after r e w = (run, r, record { status_is = w.0; written = record { output = w.1; errors = w.2 }; read = e })
 Shows-written R run Usage input input_after out out_after err err_after r e w = w
-Shows-written R run Fault input input_after out out_after err err_after r e w = inr (run, r, record {
-  output = w.output;
-  cause = Write;
-  status_is = refl;
-  between = w.between;
-  errors = w.errors;
-  line = w.line;
-  silent = λ q. cc;
-})
+Shows-written R run Fault input input_after out out_after err err_after r e w = inr (
+  run,
+  r,
+  record {
+    output = w.output;
+    cause = Write;
+    status_is = refl;
+    between = w.between;
+    errors = w.errors;
+    line = w.line;
+    silent = λ q. cc;
+  },
+)
 Shows-written R run Memory input input_after out out_after err err_after r e w = absurd w

@@ -9,9 +9,11 @@ use std::alloc::Global;
 use std::process::Abort;
 use std::test::Fail;
 
-const MIXED: &[u8] = b"Subject: t\nContent-Type: multipart/mixed; boundary=\"b\"\n\npre\n--b\n\none\n--b \t\nContent-Type: text/html\n\ntwo\n--b--\nepi\n";
+const MIXED: &[u8] =
+    b"Subject: t\nContent-Type: multipart/mixed; boundary=\"b\"\n\npre\n--b\n\none\n--b \t\nContent-Type: text/html\n\ntwo\n--b--\nepi\n";
 
-const LISTING: &[u8] = b"1 multi multipart/mixed identity 0 56 114 2 10\n1.1 leaf text/plain identity 64 65 69 0 1\n1.2 leaf text/html identity 75 100 104 1 1\n";
+const LISTING: &[u8] =
+    b"1 multi multipart/mixed identity 0 56 114 2 10\n1.1 leaf text/plain identity 64 65 69 0 1\n1.2 leaf text/html identity 75 100 104 1 1\n";
 
 const SIZES: [usize; 3] = [1, 7, 1_000];
 
@@ -24,14 +26,62 @@ struct Shown {
 }
 
 const CONTENTS: [Shown; 8] = [
-    Shown { message: MIXED, path: b"1.1", output: b"one", errors: b"", status: Status::Well },
-    Shown { message: MIXED, path: b"1.2", output: b"two", errors: b"", status: Status::Well },
-    Shown { message: MIXED, path: b"1.3", output: b"", errors: b"1.3: NoSuchSection\n", status: Status::Refused },
-    Shown { message: b"Content-Type: message/global\n\nA: b\n\nx\n", path: b"1.1", output: b"x\n", errors: b"", status: Status::Well },
-    Shown { message: b"Content-Transfer-Encoding: base64\n\naGk\n", path: b"1", output: b"hi", errors: b"", status: Status::Well },
-    Shown { message: b"Content-Transfer-Encoding: base64\n\naGl=\n", path: b"1", output: b"", errors: b"1: BadBase64\n", status: Status::Refused },
-    Shown { message: b"Content-Transfer-Encoding: x-uuencode\n\nx\n", path: b"1", output: b"", errors: b"1: UnknownEncoding\n", status: Status::Refused },
-    Shown { message: b"Content-Transfer-Encoding: x-uuencode\n\nx\n", path: b"1.9", output: b"", errors: b"1.9: NoSuchSection\n", status: Status::Refused },
+    Shown {
+        message: MIXED,
+        path: b"1.1",
+        output: b"one",
+        errors: b"",
+        status: Status::Well,
+    },
+    Shown {
+        message: MIXED,
+        path: b"1.2",
+        output: b"two",
+        errors: b"",
+        status: Status::Well,
+    },
+    Shown {
+        message: MIXED,
+        path: b"1.3",
+        output: b"",
+        errors: b"1.3: NoSuchSection\n",
+        status: Status::Refused,
+    },
+    Shown {
+        message: b"Content-Type: message/global\n\nA: b\n\nx\n",
+        path: b"1.1",
+        output: b"x\n",
+        errors: b"",
+        status: Status::Well,
+    },
+    Shown {
+        message: b"Content-Transfer-Encoding: base64\n\naGk\n",
+        path: b"1",
+        output: b"hi",
+        errors: b"",
+        status: Status::Well,
+    },
+    Shown {
+        message: b"Content-Transfer-Encoding: base64\n\naGl=\n",
+        path: b"1",
+        output: b"",
+        errors: b"1: BadBase64\n",
+        status: Status::Refused,
+    },
+    Shown {
+        message: b"Content-Transfer-Encoding: x-uuencode\n\nx\n",
+        path: b"1",
+        output: b"",
+        errors: b"1: UnknownEncoding\n",
+        status: Status::Refused,
+    },
+    Shown {
+        message: b"Content-Transfer-Encoding: x-uuencode\n\nx\n",
+        path: b"1.9",
+        output: b"",
+        errors: b"1.9: NoSuchSection\n",
+        status: Status::Refused,
+    },
 ];
 
 fn check_content(rt: &impl Abort, alloc: Global, case: &Shown, size: usize) -> Result<(), Fail> {
@@ -101,7 +151,16 @@ fn a_path_may_have_any_length(rt: HostRuntime) -> Result<(), Fail> {
         text.extend_from_slice(b".1")?;
     }
     assert_eq!(rt; numbers(alloc, &text)?.expect(&rt, "a path").len(), 201);
-    for bad in [b"".as_slice(), b"0", b"01", b"1.", b".1", b"1..1", b"1.x", b"4294967296"] {
+    for bad in [
+        b"".as_slice(),
+        b"0",
+        b"01",
+        b"1.",
+        b".1",
+        b"1..1",
+        b"1.x",
+        b"4294967296",
+    ] {
         assert!(rt; numbers(alloc, bad)?.is_none(), "{bad:?}");
     }
     Ok(())

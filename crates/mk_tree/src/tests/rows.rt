@@ -2,7 +2,8 @@
 
 use crate::Kind;
 
-pub const MIXED: &[u8] = b"Subject: t\nContent-Type: multipart/mixed; boundary=\"b\"\n\npre\n--b\n\none\n--b \t\nContent-Type: text/html\n\ntwo\n--b--\nepi\n";
+pub const MIXED: &[u8] =
+    b"Subject: t\nContent-Type: multipart/mixed; boundary=\"b\"\n\npre\n--b\n\none\n--b \t\nContent-Type: text/html\n\ntwo\n--b--\nepi\n";
 
 pub struct Place {
     pub path: &'static [u32],
