@@ -25,21 +25,21 @@ run_again inside [] h = refl
 run_again inside (l ∷ ls) h = rw h.0 (ap (λ xs. l ∷ xs) (run_again true ls h.1))
 
 -- what stands behind the fields in the lines of an entity
-abbrev behind_fields : Entity → List TextLine
+abbrev pub behind_fields : Entity → List TextLine
 behind_fields e = option_line (entity_head e).separator ++ body_lines e
 
-entity_lines : (e : Entity) → print e ≡ field_lines e ++ behind_fields e
+pub entity_lines : (e : Entity) → print e ≡ field_lines e ++ behind_fields e
 entity_lines (leaf h ls) = append_assoc h.fields (option_line h.separator) ls
 entity_lines (message h e) = append_assoc h.fields (option_line h.separator) (print e)
 entity_lines (multi h b pre ps t) = append_assoc h.fields (option_line h.separator) (pre ++ (print_parts ps ++ tail_lines t))
 
-changed_lines : (fields : List TextLine) (e : Entity) → print (with_fields fields e) ≡ fields ++ behind_fields e
+pub changed_lines : (fields : List TextLine) (e : Entity) → print (with_fields fields e) ≡ fields ++ behind_fields e
 changed_lines fields (leaf h ls) = append_assoc fields (option_line h.separator) ls
 changed_lines fields (message h e) = append_assoc fields (option_line h.separator) (print e)
 changed_lines fields (multi h b pre ps t) = append_assoc fields (option_line h.separator) (pre ++ (print_parts ps ++ tail_lines t))
 
 -- all lines of a document, parted around the fields of a section
-apart : (envelope : Option TextLine) (fs : List Frame) (e : Entity) (fields rest : List TextLine) → print e ≡ fields ++ rest
+pub apart : (envelope : Option TextLine) (fs : List Frame) (e : Entity) (fields rest : List TextLine) → print e ≡ fields ++ rest
     → document_lines (put envelope fs e) ≡ (option_line envelope ++ lines_before fs) ++ (fields ++ (rest ++ lines_after fs))
 apart envelope fs e fields rest p =
     ap (λ ls. option_line envelope ++ ls) (print_plug fs e)

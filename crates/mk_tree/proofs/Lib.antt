@@ -26,3 +26,4 @@ pub mod FieldsChanged
 pub mod HeadChanged
 pub mod Spliced
 pub mod EntityRead
+pub mod WithinText

@@ -35,7 +35,7 @@ map_same f g e None = refl
 map_same f g e (Some a) = ap (λ x. Some x) (e a)
 
 -- a section below another, by what stands between them
-abbrev placed_in : Placed → List Frame → Entity → Placed
+abbrev pub placed_in : Placed → List Frame → Entity → Placed
 placed_in p fs s = record {
   start = p.start + size (lines_before fs);
   followed = has_line (lines_after fs) || p.followed;
@@ -119,7 +119,7 @@ message_in p h e (suc zero) = λ i. Some (record { start = p.start + size (sym (
 message_in p h e (suc (suc k)) = refl
 
 -- one step down
-step_placed : (k : ℕ) (p : Placed) (e : Entity) → counted k (children_of p e) ≡ option_map (λ (r : Frame × Entity). placed_in p (r.0 ∷ []) r.1) (step_to k e)
+pub step_placed : (k : ℕ) (p : Placed) (e : Entity) → counted k (children_of p e) ≡ option_map (λ (r : Frame × Entity). placed_in p (r.0 ∷ []) r.1) (step_to k e)
 step_placed k p (leaf h ls) = refl
 step_placed k p (message h e) = message_in p h e k
 step_placed k p (multi h b pre ps t) =

@@ -34,7 +34,7 @@ pub enum Described {
 }
 
 /// What the fields in front of a text say of the body below them, in a digest or not.
-pub(crate) fn describe(alloc: Global, head: &[u8], digest: bool) -> Result<Described, AllocError>
+pub fn describe(alloc: Global, head: &[u8], digest: bool) -> Result<Described, AllocError>
     ensures { IfOk result (λ d. kind_described d ≡ kind (fields_from false (lines_of head.now)) digest) }
 {
     let encoding = encoding_in(alloc, head)?;

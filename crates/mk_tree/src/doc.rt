@@ -14,7 +14,7 @@ use std::alloc::{AllocError, Global};
 use std::marker::Model;
 
 /// How many levels may stand below the root.
-pub(crate) const LEVELS: u8 = 100;
+pub const LEVELS: u8 = 100;
 
 /// A text that was read, and the tree of its sections.
 #[derive(Drop)]

@@ -16,7 +16,8 @@ mod shapes;
 mod splicing;
 
 pub use children::Children;
-pub use doc::Doc;
+pub use describing::{Described, describe};
+pub use doc::{Doc, LEVELS};
 pub use section::Section;
 pub use shapes::Kind;
 pub use splicing::{Change, replace};

@@ -12,16 +12,84 @@ use crate::section::Section;
 use crate::shapes::Kind;
 use std::alloc::{AllocError, Global};
 
-/// A change of the bytes of a section.
+/// A change of the bytes of a section: `text` in the place of `count` bytes at `place`, an offset in bytes from 0 in the
+/// document.
 #[derive(Debug, Drop)]
 pub enum Change {
-    /// Puts `text` in the place of `count` bytes at `place`, an offset in bytes from 0 in the document, among the lines of
-    /// the section's fields.
+    /// Among the lines of the section's fields.
     Header {
         place: usize,
         count: usize,
         text: Vec<u8>,
     },
+    /// The body of a leaf, with the empty line before it where the head has none.
+    Body {
+        place: usize,
+        count: usize,
+        text: Vec<u8>,
+    },
+    /// The whole section.
+    Entity {
+        place: usize,
+        count: usize,
+        text: Vec<u8>,
+    },
+    /// A part more, with its delimiter, between the parts of a multipart.
+    Part {
+        place: usize,
+        count: usize,
+        text: Vec<u8>,
+    },
+    /// A part less: nothing in the place of it and its delimiter.
+    NoPart {
+        place: usize,
+        count: usize,
+        text: Vec<u8>,
+    },
+}
+
+impl Change {
+    ghost use Rattle.std.specs.Prelude.{◌≡◌};
+    ghost use Rattle.mk_tree.specs.ChangeViews.{count_of, new_of, place_of};
+
+    /// Where it begins, in bytes from 0 in the document.
+    pub fn place(&self) -> usize
+        ensures { result ≡ place_of self.now }
+    {
+        match self {
+            Change::Header { place, .. }
+            | Change::Body { place, .. }
+            | Change::Entity { place, .. }
+            | Change::Part { place, .. }
+            | Change::NoPart { place, .. } => *place,
+        }
+    }
+
+    /// How many bytes go.
+    pub fn count(&self) -> usize
+        ensures { result ≡ count_of self.now }
+    {
+        match self {
+            Change::Header { count, .. }
+            | Change::Body { count, .. }
+            | Change::Entity { count, .. }
+            | Change::Part { count, .. }
+            | Change::NoPart { count, .. } => *count,
+        }
+    }
+
+    /// The bytes that come.
+    pub fn text(&self) -> &[u8]
+        ensures { result.now ≡ new_of self.now }
+    {
+        match self {
+            Change::Header { text, .. }
+            | Change::Body { text, .. }
+            | Change::Entity { text, .. }
+            | Change::Part { text, .. }
+            | Change::NoPart { text, .. } => text,
+        }
+    }
 }
 
 /// Puts `text` in the place of `count` bytes at `place`. Where there is no memory, nothing changes.
@@ -84,7 +152,7 @@ fn digest_after(
 }
 
 impl Doc {
-    ghost use Rattle.std.specs.Prelude.{◌≡◌, IfOk, IfErr, OnOk, OnErr};
+    ghost use Rattle.std.specs.Prelude.{◌≡◌, ◌+◌, ◌≤◌, length, IfOk, IfErr, OnOk, OnErr};
     ghost use Rattle.mk_tree.specs.Documents.{tree};
     ghost use Rattle.mk_tree.specs.Splicing.{spliced, ChangesFields, DigestsBelow};
     ghost use Rattle.mk_tree.specs.ChangeViews.{Changes, changed_text};
@@ -97,13 +165,38 @@ impl Doc {
         ensures same { OnErr result (self.new ≡ self.old) }
         ensures change { IfErr result (λ e. e.0 ≡ change) }
     {
-        match change {
-            Change::Header { place, count, text } => {
-                match self.change_fields(path, place, count, &text) {
-                    Ok(()) => Ok(()),
-                    Err(error) => Err((Change::Header { place, count, text }, error)),
-                }
+        let (place, count) = (change.place(), change.count());
+        let changed = match &change {
+            Change::Header { .. } => self.change_fields(path, place, count, change.text()),
+            Change::Body { .. }
+            | Change::Entity { .. }
+            | Change::Part { .. }
+            | Change::NoPart { .. } => self.read_changed(place, count, change.text()),
+        };
+        match changed {
+            Ok(()) => Ok(()),
+            Err(error) => Err((change, error)),
+        }
+    }
+
+    // Reads the changed text anew.
+    fn read_changed(&mut self, place: usize, count: usize, text: &[u8]) -> Result<(), AllocError>
+        requires { place + count ≤ length self.old }
+        ensures ok { OnOk result (self.new ≡ spliced place count text.now self.old) }
+        ensures err { OnErr result (self.new ≡ self.old) }
+    {
+        let alloc = *self.text.allocator();
+        let size = self.text.len() - count + text.len();
+        let mut changed = Vec::with_capacity(alloc, size)?;
+        changed.extend_from_slice(&self.text[..place])?;
+        changed.extend_from_slice(text)?;
+        changed.extend_from_slice(&self.text[place + count..])?;
+        match Doc::read(alloc, changed) {
+            Ok(doc) => {
+                *self = doc;
+                Ok(())
             }
+            Err((_, error)) => Err(error),
         }
     }
 

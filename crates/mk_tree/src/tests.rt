@@ -1,5 +1,6 @@
 //! What no clause says: that reading succeeds, and that the clauses mean what users of messages expect. Expected values
 //! are from the RFCs and our own rules.
+mod changes;
 mod rows;
 
 use super::*;
