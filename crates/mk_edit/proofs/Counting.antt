@@ -61,7 +61,7 @@ apart_lem name k fields = apart_by fields (field_at name k fields) (field_is nam
 one_more : (n : ℕ) → 1 + n ≡ suc n
 one_more n = omega arith
 
-name_before : (cs : List ℕ) → take (prefix_len is_name_byte cs) cs ++ behind_name cs ≡ cs
+pub name_before : (cs : List ℕ) → take (prefix_len is_name_byte cs) cs ++ behind_name cs ≡ cs
 name_before [] = refl
 name_before (c ∷ cs) =
     elim (cases_Bool (is_name_byte c)) [

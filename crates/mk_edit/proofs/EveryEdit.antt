@@ -89,7 +89,7 @@ closed_open Crlf = refl
 closed_open Lf = refl
 closed_open Missing = refl
 
-eol_closed : (ls : List TextLine) → is_open (eol_of ls) ≡ false
+pub eol_closed : (ls : List TextLine) → is_open (eol_of ls) ≡ false
 eol_closed [] = refl
 eol_closed (l ∷ ls) = closed_open l.ending
 

@@ -50,7 +50,7 @@ marks_fields c fields (leaf h ls) v u = body_marks c fields h.fields ls (option_
 marks_fields c fields (message h x) v u = body_marks c fields h.fields (print x) (option_line h.separator) u v
 marks_fields c fields (multi h b pre ps t) v u = body_marks c fields h.fields (pre ++ (print_parts ps ++ tail_lines t)) (option_line h.separator) u v
 
-fields_same : (fields : List TextLine) (s : Entity) → field_lines (with_fields fields s) ≡ fields
+pub fields_same : (fields : List TextLine) (s : Entity) → field_lines (with_fields fields s) ≡ fields
 fields_same fields (leaf h ls) = refl
 fields_same fields (message h e) = refl
 fields_same fields (multi h b pre ps t) = refl
@@ -105,7 +105,7 @@ add_new s top text h = record {
 before_each : (ls : List TextLine) (f : Found) → IsFound ls f → Each ls → Each f.before
 before_each ls f h e = each_front f.before (f.start ∷ (f.more ++ f.after)) (subst Each (sym h.whole) e)
 
-behind_each : (ls : List TextLine) (f : Found) → IsFound ls f → Each ls → Each (f.start ∷ (f.more ++ f.after))
+pub behind_each : (ls : List TextLine) (f : Found) → IsFound ls f → Each ls → Each (f.start ∷ (f.more ++ f.after))
 behind_each ls f h e = each_back f.before (f.start ∷ (f.more ++ f.after)) (subst Each (sym h.whole) e)
 
 after_each : (ls : List TextLine) (f : Found) → IsFound ls f → Each ls → Each f.after

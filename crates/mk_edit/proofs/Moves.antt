@@ -1,16 +1,17 @@
 -- Steps in memory: what a session's fields are when it goes back, forth, or takes one more.
-use Rattle.std.proofs.Common.{◌≡◌, ◌+◌, ◌-◌, ◌≤◌, ◌<◌, ◌++◌, ℕ, suc, zero, Result, Ok, Err, List, [], ◌∷◌, refl, ap, sym, ◌∙◌, subst, length, take, drop, map, get_or, arith}
+use Rattle.std.proofs.Common.{◌≡◌, ◌+◌, ◌-◌, ◌≤◌, ◌<◌, ◌++◌, ℕ, suc, zero, Option, None, Some, Result, Ok, Err, List, [], ◌∷◌, refl, ap, sym, ◌∙◌, subst, length, take, drop, map, get_or, arith}
 use Rattle.std.proofs.lemmas.List.{length-map, take_more, map-append, length-take-le, length-drop, drop-drop, take-append-drop}
 use Rattle.std.proofs.lemmas.Bool.{lt-ltb}
 use Rattle.std.specs.Global.{Vec}
-use Rattle.mk_edit.specs.declared.errors.EditError.{EditError}
 use Rattle.mk_edit.specs.declared.splicing.Splice.{Splice as SpliceIn}
-use Rattle.mk_tree.specs.Documents.{Document, printed}
-use Rattle.mk_edit.specs.Leaves.{leaf_tree}
-use Rattle.mk_edit.specs.Accepted.{IsAccepted}
-use Rattle.mk_edit.specs.Answers.{Answers}
-use Rattle.mk_edit.specs.Reasons.{outcome, splices_of, given_text}
-use Rattle.mk_edit.specs.Changes.{Change, Do, Undo, Redo}
+use Rattle.mk_tree.specs.Documents.{Document, tree, printed}
+use Rattle.mk_edit.specs.Answers.{IsAccepted, IsRefusedBy}
+use Rattle.mk_edit.specs.Counts.{edit_lines}
+use Rattle.mk_edit.specs.Decided.{ChangesBy, IsDecided}
+use Rattle.mk_edit.specs.Edits.{PlainEdit, Refusal, Do, Undo, Redo}
+use Rattle.mk_edit.specs.EditSplices.{splices_of}
+use Rattle.mk_edit.specs.LocalAnswers.{PlainSplice}
+use Rattle.mk_edit.specs.Outcomes.{edited}
 use Rattle.mk_edit.specs.Splices.{Splice, Stands, back_one, back_step, forth_step, GoesBack, GoesForth}
 use Rattle.mk_tree.specs.Splicing.{spliced}
 use Rattle.mk_edit.specs.Rooms.{olds}
@@ -165,29 +166,32 @@ put_steps h x y new ss rs n place count f e q m =
     ∙ (ap (λ g. with_step g (spliced place count new x) (record { place = place; old = take count (drop place x); new = new } ∷ [])) e
     ∙ ap (λ z. with_step h (spliced place count new z) (record { place = place; old = take count (drop place z); new = new } ∷ [])) (put_text h x ss n f e)))
 
-ok_err : (t : Document) (e : EditError) → ◌≡◌ {A = Result Document EditError} (Ok t) (Err e) → ⊥
-ok_err t e h = cc
+-- a refusal of the edit is one of the order
+pub step_refused : (e : PlainEdit) (h : History) (x : List ℕ) (o : Option Refusal) → x ≡ text_now h → IsRefusedBy o (edited e (tree x)) → IsRefusedBy o (step (Do e) h)
+step_refused e h x None q r = tt
+step_refused e h x (Some f) q r = ap (edited_by h (splices_of e (tree (text_now h)))) (ap (λ y. edited e (tree y)) (sym q) ∙ r)
 
-err_same : (f e : EditError) → ◌≡◌ {A = Result Document EditError} (Err f) (Err e) → e ≡ f
-err_same f e h = cc
+-- an edit that is accepted is a step
+pub step_accepted : (e : PlainEdit) (h g : History) (r : PlainSplice) → IsDecided e (text_now h) r
+    → g ≡ with_step h (spliced r.place r.count r.new (text_now h)) (record { place = r.place; old = take r.count (drop r.place (text_now h)); new = r.new } ∷ []) → step (Do e) h ≡ Ok g
+step_accepted e h g r d m =
+    ap (edited_by h (splices_of e (tree (text_now h)))) d.accepted
+    ∙ (ap (λ ss. Ok (with_step h (printed d.document) ss)) d.splices
+    ∙ (ap (λ y. Ok (with_step h y (record { place = r.place; old = take r.count (drop r.place (text_now h)); new = r.new } ∷ []))) d.printed_so ∙ ap (λ k. Ok k) (sym m)))
 
 -- what a decision says of the answer
-pub answers_err : (r : Result Document EditError) (e : EditError) → r ≡ Err e → Answers {X = Unit {0}} (Err e) r
-answers_err (Ok t) e h = absurd (ok_err t e h)
-answers_err (Err f) e h = err_same f e h
+pub is_accepted : (r : Result Document Refusal) (t : Document) → r ≡ Ok t → IsAccepted r
+is_accepted (Ok s) t h = tt
+is_accepted (Err f) t h = cc
 
-pub answers_ok : (r : Result Document EditError) (t : Document) → r ≡ Ok t → Answers {X = Unit {0}} (Ok tt) r
-answers_ok (Ok s) t h = tt
-answers_ok (Err f) t h = absurd (ok_err t f (sym h))
+pub refused_at : (e : PlainEdit) (x y : List ℕ) (o : Option Refusal) → x ≡ y → IsRefusedBy o (edited e (tree x)) → IsRefusedBy o (edited e (tree y))
+refused_at e x y o q r = subst (λ z. IsRefusedBy o (edited e (tree z))) q r
 
-pub step_err : (c : Change) (h : History) (x : List ℕ) (e : EditError) → x ≡ text_now h → outcome c (leaf_tree x) ≡ Err e → step (Do c) h ≡ Err e
-step_err c h x e q o = ap (edited_by h (splices_of c (leaf_tree (text_now h)))) (sym (ap (λ y. outcome c (leaf_tree y)) q) ∙ o)
+pub changes_at : (e : PlainEdit) (x y : List ℕ) (place count : ℕ) (new text : List ℕ) → x ≡ y → text ≡ new → ChangesBy e (record { place = place; count = count; new = new }) (tree y) → ChangesBy e (record { place = place; count = count; new = text }) (tree x)
+changes_at e x y place count new text q t h = subst (λ b. ChangesBy e (record { place = place; count = count; new = b }) (tree x)) (sym t) (subst (λ z. ChangesBy e (record { place = place; count = count; new = new }) (tree z)) (sym q) h)
 
-pub step_ok : (c : Change) (h g : History) (x new : List ℕ) (place : ℕ) → x ≡ text_now h → IsAccepted c x place → new ≡ given_text c
-    → g ≡ with_step h (spliced place 0 new (text_now h)) (record { place = place; old = take 0 (drop place (text_now h)); new = new } ∷ []) → step (Do c) h ≡ Ok g
-step_ok c h g x new place q a n m =
-    ap (λ y. edited_by h (splices_of c (leaf_tree y)) (outcome c (leaf_tree y))) (sym q)
-    ∙ (ap (edited_by h (splices_of c (leaf_tree x))) a.accepted
-    ∙ (ap (λ s. Ok (with_step h (printed a.document) s)) a.splices
-    ∙ (ap (λ y. Ok (with_step h y (record { place = place; old = []; new = given_text c } ∷ []))) (a.printed_so ∙ ap (spliced place 0 (given_text c)) q)
-    ∙ (ap (λ b. Ok (with_step h (spliced place 0 b (text_now h)) (record { place = place; old = []; new = b } ∷ []))) (sym n) ∙ ap (λ k. Ok k) (sym m)))))
+pub lines_same : (e : PlainEdit) (x y : List ℕ) → x ≡ y → edit_lines e (tree x) ≡ edit_lines e (tree y)
+lines_same e x y q = ap (λ z. edit_lines e (tree z)) q
+
+pub decided_at : (e : PlainEdit) (x y : List ℕ) (r : PlainSplice) → x ≡ y → IsDecided e x r → IsDecided e y r
+decided_at e x y r q d = subst (λ z. IsDecided e z r) q d

@@ -70,7 +70,7 @@ open_text l [] h = ap ends_open (append_nil (printed_line l)) ∙ open_line l.co
 open_text l (m ∷ ls) h = behind_some (printed_line l) (text_of (m ∷ ls)) (some_text m ls h.2.0) ∙ open_text m ls h.2
 
 -- an open line that isn't the last, in two lists one behind the other
-or_assoc : (a b c : Bool) → ((a || b) || c) ≡ (a || (b || c))
+pub or_assoc : (a b c : Bool) → ((a || b) || c) ≡ (a || (b || c))
 or_assoc true b c = refl
 or_assoc false b c = refl
 
@@ -105,7 +105,7 @@ has_more : (g ys : List TextLine) → has_line g ≡ true → has_line (g ++ ys)
 has_more [] ys h = cc
 has_more (l ∷ g) ys h = refl
 
-or_none : (a : Bool) → (a || false) ≡ a
+pub or_none : (a : Bool) → (a || false) ≡ a
 or_none true = refl
 or_none false = refl
 

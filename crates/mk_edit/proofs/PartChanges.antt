@@ -83,7 +83,7 @@ body_edit eol fs (leaf h ls) text c =
     )
 
 -- parts on both sides of a place are the parts
-abbrev Sides : Parts → Option (Parts × Parts) → Type 0
+abbrev pub Sides : Parts → Option (Parts × Parts) → Type 0
 Sides ps None = Unit {0}
 Sides ps (Some q) = append_parts q.0 q.1 ≡ ps
 
@@ -91,17 +91,17 @@ sides_later : (l : TextLine) (e : Entity) (ps : Parts) (o : Option (Parts × Par
 sides_later l e ps None h = tt
 sides_later l e ps (Some q) h = ap (λ qs. part l e qs) h
 
-sides : (k : ℕ) (ps : Parts) → Sides ps (parts_at k ps)
+pub sides : (k : ℕ) (ps : Parts) → Sides ps (parts_at k ps)
 sides zero ps = refl
 sides (suc k) no_parts = tt
 sides (suc k) (part l e ps) = sides_later l e ps (parts_at k ps) (sides k ps)
 
 -- the lines of a multipart with a part more, and without it
-print_added : (h : Head) (b : List ℕ) (pre : List TextLine) (before : Parts) (l : TextLine) (x : Entity) (after : Parts) (t : Option (TextLine × List TextLine))
+pub print_added : (h : Head) (b : List ℕ) (pre : List TextLine) (before : Parts) (l : TextLine) (x : Entity) (after : Parts) (t : Option (TextLine × List TextLine))
     → print (multi h b pre (append_parts before (part l x after)) t) ≡ (head_lines h ++ (pre ++ print_parts before)) ++ ((l ∷ print x) ++ (print_parts after ++ tail_lines t))
 print_added h b pre before l x after t = rw (print_append before (part l x after)) (simp append_assoc refl)
 
-print_sides : (h : Head) (b : List ℕ) (pre : List TextLine) (before after : Parts) (t : Option (TextLine × List TextLine))
+pub print_sides : (h : Head) (b : List ℕ) (pre : List TextLine) (before after : Parts) (t : Option (TextLine × List TextLine))
     → print (multi h b pre (append_parts before after) t) ≡ (head_lines h ++ (pre ++ print_parts before)) ++ (print_parts after ++ tail_lines t)
 print_sides h b pre before after t = rw (print_append before after) (simp append_assoc refl)
 

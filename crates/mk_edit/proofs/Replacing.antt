@@ -16,7 +16,7 @@ use Rattle.mk_edit.proofs.Removing.{IsRemoved, removed_is, stable_there}
 use Rattle.mk_edit.proofs.EveryEdit.{plan_there, shown_there, locality_lem}
 
 -- the removal of a part
-abbrev LastWithout : List Frame → Option (List Frame × Entity) → Type 0
+abbrev pub LastWithout : List Frame → Option (List Frame × Entity) → Type 0
 LastWithout fs None = Unit {0}
 LastWithout fs (Some q) = (f : Frame) × (fs ≡ q.0 ++ (f ∷ [])) × (without f ≡ Some q.1)
 
@@ -24,7 +24,7 @@ without_later : (f : Frame) (fs : List Frame) (o : Option (List Frame × Entity)
 without_later f fs None h = tt
 without_later f fs (Some q) h = (h.0, ap (λ gs. f ∷ gs) h.1, h.2)
 
-without_is : (fs : List Frame) → LastWithout fs (last_without fs)
+pub without_is : (fs : List Frame) → LastWithout fs (last_without fs)
 without_is [] = tt
 without_is (in_message h ∷ []) = tt
 without_is (in_multi h b pre before l after t ∷ []) = (in_multi h b pre before l after t, refl, refl)

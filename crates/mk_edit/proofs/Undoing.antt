@@ -1,49 +1,15 @@
--- Orders one after another; undoing all and redoing all.
-use Rattle.std.proofs.Common.{◌≡◌, ◌+◌, ◌-◌, ◌≤◌, ◌<◌, ◌++◌, ℕ, suc, zero, Bool, true, false, nat_lt, if◌then◌else◌, Option, Some, Result, Ok, Err, List, [], ◌∷◌, refl, ap, sym, ◌∙◌, length, take, drop, map, get_or, arith, append_assoc, length-append}
+-- Undoing all that is done, and redoing all of it.
+use Rattle.std.proofs.Common.{◌≡◌, ◌+◌, ◌-◌, ◌≤◌, ◌<◌, ◌++◌, ℕ, suc, zero, Bool, true, false, nat_lt, if◌then◌else◌, Some, Result, Ok, Err, List, [], ◌∷◌, refl, ap, ◌∙◌, length, take, get_or, arith, length-append}
 use Rattle.std.proofs.lemmas.Bool.{lt-ltb, ltb-true}
-use Rattle.std.proofs.lemmas.List.{length-take-le, drop_more, take_more, length-map}
-use Rattle.mk_tree.specs.Documents.{Document, printed}
-use Rattle.mk_edit.specs.Leaves.{leaf_tree}
-use Rattle.mk_edit.specs.declared.errors.EditError.{EditError}
-use Rattle.mk_edit.specs.declared.errors.EditError.TheVariants.{NothingToUndo, NothingToRedo}
-use Rattle.mk_edit.specs.Changes.{Order, Do, Undo, Redo}
-use Rattle.mk_edit.specs.Reasons.{outcome, splices_of}
+use Rattle.std.proofs.lemmas.List.{length-take-le}
+use Rattle.mk_tree.specs.Documents.{Document, tree, printed}
+use Rattle.mk_edit.specs.Edits.{Order, Do, Undo, Redo, Refusal, NothingToUndo, NothingToRedo}
+use Rattle.mk_edit.specs.Outcomes.{edited}
+use Rattle.mk_edit.specs.EditSplices.{splices_of}
 use Rattle.mk_edit.specs.Splices.{Splice}
 use Rattle.mk_edit.specs.History.{History}
-use Rattle.mk_edit.specs.Histories.{text_now, started, with_step, edited_by, step, left_by, after, after_all, refusal, replies, next_by, repeated}
+use Rattle.mk_edit.specs.Histories.{text_now, started, with_step, edited_by, step, left_by, after, after_all, next_by, repeated}
 use Rattle.mk_edit.specs.Laws.{Restores, UndoingRestores}
-
--- one order more
-after_more : (xs : List Order) (o : Order) (h : History) → after_all (xs ++ o ∷ []) h ≡ after o (after_all xs h)
-after_more [] o h = refl
-after_more (x ∷ xs) o h = after_more xs o (after x h)
-
--- one turn of obeying orders from a list by its places
-rest_orders : {X : Type 0} (f : X → Order) (cs : List X) (i : ℕ) (d : X) → i < length cs → map f (drop i cs) ≡ f (get_or cs i d) ∷ map f (drop (i + 1) cs)
-rest_orders f cs i d l = ap (map f) (drop_more cs i d l)
-
-pub told_next : {X : Type 0} (f : X → Order) (cs : List X) (i : ℕ) (d : X) (all more rs : List (Option EditError)) (r : Option EditError) (h g : History) → i < length cs
-    → r ≡ refusal (step (f (get_or cs i d)) h) → g ≡ after (f (get_or cs i d)) h → more ≡ all ++ r ∷ [] → all ++ replies (map f (drop i cs)) h ≡ rs → more ++ replies (map f (drop (i + 1) cs)) g ≡ rs
-told_next f cs i d all more rs r h g l e q m t =
-    ap (λ xs. xs ++ replies (map f (drop (i + 1) cs)) g) m
-    ∙ (append_assoc all (r ∷ []) (replies (map f (drop (i + 1) cs)) g)
-    ∙ (ap (λ x. all ++ x ∷ replies (map f (drop (i + 1) cs)) g) e
-    ∙ (ap (λ k. all ++ refusal (step (f (get_or cs i d)) h) ∷ replies (map f (drop (i + 1) cs)) k) q
-    ∙ (ap (λ os. all ++ replies os h) (sym (rest_orders f cs i d l)) ∙ t))))
-
-pub rest_next : {X : Type 0} (f : X → Order) (cs : List X) (i : ℕ) (d : X) (h g k : History) → i < length cs → g ≡ after (f (get_or cs i d)) h → after_all (map f (drop i cs)) h ≡ k → after_all (map f (drop (i + 1) cs)) g ≡ k
-rest_next f cs i d h g k l q t =
-    ap (after_all (map f (drop (i + 1) cs))) q ∙ (ap (λ os. after_all os h) (sym (rest_orders f cs i d l)) ∙ t)
-
-map_at : {X Y : Type 0} (f : X → Y) (cs : List X) (i : ℕ) (d : X) → get_or (map f cs) i (f d) ≡ f (get_or cs i d)
-map_at f [] i d = refl
-map_at f (c ∷ cs) zero d = refl
-map_at f (c ∷ cs) (suc i) d = map_at f cs i d
-
-pub front_next : {X : Type 0} (f : X → Order) (cs : List X) (i : ℕ) (d : X) (h g k : History) → i < length cs → g ≡ after (f (get_or cs i d)) h → h ≡ after_all (take i (map f cs)) k → g ≡ after_all (take (i + 1) (map f cs)) k
-front_next f cs i d h g k l q t =
-    q ∙ (ap (after (f (get_or cs i d))) t ∙ (sym (after_more (take i (map f cs)) (f (get_or cs i d)) k)
-    ∙ ap (λ os. after_all os k) (sym (take_more (map f cs) i (f d) (omega (arith, l, length-map cs f)) ∙ ap (λ o. take i (map f cs) ++ o ∷ []) (map_at f cs i d)))))
 
 -- a history at another place
 abbrev pub at : List (List ℕ) → List (List Splice) → ℕ → History
@@ -87,7 +53,7 @@ begun_step text h y s b = record {
   within = omega (arith, length-append (take h.place h.steps) (s ∷ []), length-take-le h.place h.steps b.within);
 }
 
-begun_edit : (text : List ℕ) (h : History) (s : List Splice) (r : Result Document EditError) → Begun text h → Begun text (left_by h (edited_by h s r))
+begun_edit : (text : List ℕ) (h : History) (s : List Splice) (r : Result Document Refusal) → Begun text h → Begun text (left_by h (edited_by h s r))
 begun_edit text h s (Ok t) b = begun_step text h (printed t) s b
 begun_edit text h s (Err e) b = b
 
@@ -100,7 +66,7 @@ begun_redo text h true e b = record { others = b.others; texts = b.texts; size =
 begun_redo text h false e b = b
 
 begun_after : (text : List ℕ) (o : Order) (h : History) → Begun text h → Begun text (after o h)
-begun_after text (Do c) h b = begun_edit text h (splices_of c (leaf_tree (text_now h))) (outcome c (leaf_tree (text_now h))) b
+begun_after text (Do e) h b = begun_edit text h (splices_of e (tree (text_now h))) (edited e (tree (text_now h))) b
 begun_after text Undo h b = begun_undo text h (nat_lt 0 h.place) b
 begun_after text Redo h b = begun_redo text h (nat_lt h.place (length h.steps)) refl b
 

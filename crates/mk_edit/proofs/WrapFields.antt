@@ -188,7 +188,7 @@ skip_others name inside (l ∷ ls) ys d =
     ]
 
 -- its lines stay together
-start_more : (l : TextLine) → is_start l ≡ true → is_more l ≡ false
+pub start_more : (l : TextLine) → is_start l ≡ true → is_more l ≡ false
 start_more l s =
     elim (cases_Bool (is_more l)) [
       | inl h ↦ true_false (sym s ∙ more_start l h)

@@ -36,7 +36,7 @@ use Rattle.mk_edit.proofs.WrapLevels.{level_multi}
 use Rattle.mk_edit.proofs.WrapParts.{inner_each, inner_may, inner_marks, inner_free, inner_read, inner_fits, inner_kind}
 
 -- the made lines are lines
-ends_front : (xs ys : List ℕ) → is_nil ys ≡ false → ends_in_return (xs ++ ys) ≡ ends_in_return ys
+pub ends_front : (xs ys : List ℕ) → is_nil ys ≡ false → ends_in_return (xs ++ ys) ≡ ends_in_return ys
 ends_front xs [] h = cc
 ends_front xs (y ∷ ys) h = ends_after xs y ys
 
@@ -51,7 +51,7 @@ type_ends subtype b =
     ∙ (ends_front (codes "; boundary=\"") (b ++ codes "\"") (some_join b (codes "\"") refl)
     ∙ ends_front b (codes "\"") refl))
 
-type_is : (eol : Ending) (subtype b : List ℕ) → is_open eol ≡ false → is_token subtype ≡ true → MayBound b → IsLine (type_line eol subtype b)
+pub type_is : (eol : Ending) (subtype b : List ℕ) → is_open eol ≡ false → is_token subtype ≡ true → MayBound b → IsLine (type_line eol subtype b)
 type_is eol subtype b c h k =
     made_line eol (codes "Content-Type: multipart/" ++ (subtype ++ (codes "; boundary=\"" ++ (b ++ codes "\"")))) c
     (feed_join (codes "Content-Type: multipart/") (subtype ++ (codes "; boundary=\"" ++ (b ++ codes "\""))) refl
@@ -59,14 +59,14 @@ type_is eol subtype b c h k =
     (feed_join (codes "; boundary=\"") (b ++ codes "\"") refl (feed_join b (codes "\"") (feed_tested is_boundary_byte b refl k.bytes) refl))))
     (type_ends subtype b)
 
-close_is : (eol : Ending) (b : List ℕ) → is_open eol ≡ false → IsBound b → IsLine (close_line eol b)
+pub close_is : (eol : Ending) (b : List ℕ) → is_open eol ≡ false → IsBound b → IsLine (close_line eol b)
 close_is eol b c h = made_line eol (dashed b ++ codes "--") c (feed_join (dashed b) (codes "--") h.no_feed refl) (ends_front (dashed b) (codes "--") refl)
 
 version_by : (eol : Ending) (t : Bool) → is_open eol ≡ false → Each (if t then [] else text_line (codes "MIME-Version: 1.0") eol ∷ [])
 version_by eol true c = tt
 version_by eol false c = (made_line eol (codes "MIME-Version: 1.0") c refl refl, tt)
 
-version_each : (eol : Ending) (fs : List Frame) (others : List TextLine) → is_open eol ≡ false → Each (version_lines eol fs others)
+pub version_each : (eol : Ending) (fs : List Frame) (others : List TextLine) → is_open eol ≡ false → Each (version_lines eol fs others)
 version_each eol [] others c = version_by eol (names_field (codes "MIME-Version") others) c
 version_each eol (f ∷ fs) others c = tt
 
@@ -79,7 +79,7 @@ version_run : (eol : Ending) (fs : List Frame) (others : List TextLine) → IsRu
 version_run eol [] others = version_run_by eol (names_field (codes "MIME-Version") others)
 version_run eol (f ∷ fs) others = tt
 
-outer_run : (eol : Ending) (fs : List Frame) (fields : List TextLine) (subtype b : List ℕ) → IsRun false fields → IsRun false (outer_fields eol fs (other_fields false fields) subtype b)
+pub outer_run : (eol : Ending) (fs : List Frame) (fields : List TextLine) (subtype b : List ℕ) → IsRun false fields → IsRun false (outer_fields eol fs (other_fields false fields) subtype b)
 outer_run eol fs fields subtype b r =
     run_join false (other_fields false fields) (version_lines eol fs (other_fields false fields) ++ (type_line eol subtype b ∷ [])) ((are_runs fields).others_out false r)
     (run_join false (version_lines eol fs (other_fields false fields)) (type_line eol subtype b ∷ []) (version_run eol fs (other_fields false fields)) (refl, tt))

@@ -1,4 +1,4 @@
--- The nine edits of a message, and the reasons against them, as plain data (own).
+-- The nine edits of a message, what may be asked of a session, and the reasons against it, as plain data (own).
 use Rattle.std.specs.Prelude.{ℕ, Bool, List}
 
 -- an edit at the section of a path, whose numbers count from 1 and whose first is the root's
@@ -62,3 +62,13 @@ pub data Refusal : Type 0 where
   HoldsBoundary : (level : ℕ) → Refusal
   -- the edited document would be read in another way
   Recut : Refusal
+  -- no step is done that could be taken back
+  NothingToUndo : Refusal
+  -- no step was taken back that could be made again
+  NothingToRedo : Refusal
+
+-- what may be asked of a session: an edit, to take the last step back, to make it again
+pub data Order : Type 0 where
+  Do : PlainEdit → Order
+  Undo : Order
+  Redo : Order

@@ -1,11 +1,9 @@
 -- What edits, undoing and redoing make of a history (own).
 use Rattle.std.specs.Prelude.{◌≡◌, ◌+◌, ◌-◌, ◌≤◌, ◌++◌, if◌then◌else◌, ℕ, Option, None, Some, Result, Ok, Err, List, [], ◌∷◌, length, take, slice_index_or, nat_lt, suc, zero}
-use Rattle.mk_tree.specs.Documents.{Document, printed}
-use Rattle.mk_edit.specs.Leaves.{leaf_tree}
-use Rattle.mk_edit.specs.declared.errors.EditError.{EditError}
-use Rattle.mk_edit.specs.declared.errors.EditError.TheVariants.{NothingToUndo, NothingToRedo}
-use Rattle.mk_edit.specs.Changes.{Order, Do, Undo, Redo}
-use Rattle.mk_edit.specs.Reasons.{outcome, splices_of}
+use Rattle.mk_tree.specs.Documents.{Document, tree, printed}
+use Rattle.mk_edit.specs.Edits.{Order, Do, Undo, Redo, Refusal, NothingToUndo, NothingToRedo}
+use Rattle.mk_edit.specs.Outcomes.{edited}
+use Rattle.mk_edit.specs.EditSplices.{splices_of}
 use Rattle.mk_edit.specs.Splices.{Splice, forth_step, back_step}
 use Rattle.mk_edit.specs.History.{History}
 
@@ -37,18 +35,18 @@ abbrev pub with_step : History → List ℕ → List Splice → History
 with_step h text step = record { texts = take (h.place + 1) h.texts ++ text ∷ []; steps = take h.place h.steps ++ step ∷ []; place = h.place + 1 }
 
 -- what an accepted or refused edit makes of a history
-abbrev pub edited_by : History → List Splice → Result Document EditError → Result History EditError
+abbrev pub edited_by : History → List Splice → Result Document Refusal → Result History Refusal
 edited_by h step (Ok t) = Ok (with_step h (printed t) step)
 edited_by h step (Err e) = Err e
 
 -- what an order makes of a history, or the reason why it is refused
-abbrev pub step : Order → History → Result History EditError
-step (Do c) h = edited_by h (splices_of c (leaf_tree (text_now h))) (outcome c (leaf_tree (text_now h)))
+abbrev pub step : Order → History → Result History Refusal
+step (Do e) h = edited_by h (splices_of e (tree (text_now h))) (edited e (tree (text_now h)))
 step Undo h = if nat_lt 0 h.place then Ok (record h { place = h.place - 1 }) else Err NothingToUndo
 step Redo h = if nat_lt h.place (length h.steps) then Ok (record h { place = h.place + 1 }) else Err NothingToRedo
 
 -- a refused order changes nothing
-abbrev pub left_by : History → Result History EditError → History
+abbrev pub left_by : History → Result History Refusal → History
 left_by h (Ok g) = g
 left_by h (Err e) = h
 
@@ -56,12 +54,12 @@ abbrev pub after : Order → History → History
 after o h = left_by h (step o h)
 
 -- the reason, where there is one
-abbrev pub refusal : Result History EditError → Option EditError
+abbrev pub refusal : Result History Refusal → Option Refusal
 refusal (Ok h) = None
 refusal (Err e) = Some e
 
 -- what is answered to orders, one after another, and what they leave
-abbrev pub replies : List Order → History → List (Option EditError)
+abbrev pub replies : List Order → History → List (Option Refusal)
 replies [] h = []
 replies (o ∷ os) h = refusal (step o h) ∷ replies os (after o h)
 
@@ -70,7 +68,7 @@ after_all [] h = h
 after_all (o ∷ os) h = after_all os (after o h)
 
 -- an order given so often, where it is never refused
-abbrev pub next_by : (History → Option History) → Result History EditError → Option History
+abbrev pub next_by : (History → Option History) → Result History Refusal → Option History
 next_by f (Ok h) = f h
 next_by f (Err e) = None
 

@@ -1,9 +1,9 @@
--- The laws of edits and histories.
+-- The laws of histories, and of the splices of edits.
 use Rattle.std.specs.Prelude.{◌≡◌, ℕ, Some, Ok, List}
-use Rattle.mk_tree.specs.Documents.{Document, printed}
-use Rattle.mk_edit.specs.Leaves.{leaf_tree}
-use Rattle.mk_edit.specs.Changes.{Change, Order, Undo, Redo}
-use Rattle.mk_edit.specs.Reasons.{outcome, splices_of}
+use Rattle.mk_tree.specs.Documents.{Document, tree, printed}
+use Rattle.mk_edit.specs.Edits.{PlainEdit, Order, Undo, Redo}
+use Rattle.mk_edit.specs.Outcomes.{edited}
+use Rattle.mk_edit.specs.EditSplices.{splices_of}
 use Rattle.mk_edit.specs.Splices.{forth_step, back_step}
 use Rattle.mk_edit.specs.History.{History}
 use Rattle.mk_edit.specs.Histories.{IsHistory, text_now, started, after_all, repeated}
@@ -20,12 +20,12 @@ UndoingRestores = (text : List ℕ) (orders : List Order) → Restores text (aft
 
 -- the splices of an accepted edit lead from the text before to the text after, and back
 abbrev pub SplicesLead : Type 0
-SplicesLead = (c : Change) (text : List ℕ) (t : Document) → outcome c (leaf_tree text) ≡ Ok t →
-    (forth_step (splices_of c (leaf_tree text)) text ≡ printed t) × (back_step (splices_of c (leaf_tree text)) (printed t) ≡ text)
+SplicesLead = (e : PlainEdit) (text : List ℕ) (t : Document) → edited e (tree text) ≡ Ok t →
+    (forth_step (splices_of e (tree text)) text ≡ printed t) × (back_step (splices_of e (tree text)) (printed t) ≡ text)
 
 -- an accepted edit gives a document that is read as itself
 abbrev pub EditsReadBack : Type 0
-EditsReadBack = (c : Change) (text : List ℕ) (t : Document) → outcome c (leaf_tree text) ≡ Ok t → leaf_tree (printed t) ≡ t
+EditsReadBack = (e : PlainEdit) (text : List ℕ) (t : Document) → edited e (tree text) ≡ Ok t → tree (printed t) ≡ t
 
 -- what orders leave is a history
 abbrev pub HistoriesStay : Type 0

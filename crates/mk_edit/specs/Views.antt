@@ -2,18 +2,26 @@
 use Rattle.std.specs.Prelude.{List, map}
 use Rattle.std.specs.Global.{Vec}
 use Rattle.mk_edit.specs.declared.edits.Edit.{Edit}
-use Rattle.mk_edit.specs.declared.edits.Edit.TheVariants.{AddField as AddFieldIn}
+use Rattle.mk_edit.specs.declared.edits.Edit.TheVariants as edit
 use Rattle.mk_edit.specs.declared.edits.Command.{Command}
 use Rattle.mk_edit.specs.declared.edits.Command.TheVariants.{Do as DoIn, Undo as UndoIn, Redo as RedoIn}
 use Rattle.mk_edit.specs.declared.splicing.Splice.{Splice as SpliceIn}
-use Rattle.mk_edit.specs.Changes.{Change, AddField, Order, Do, Undo, Redo}
+use Rattle.mk_edit.specs.Edits.{PlainEdit, AddField, RemoveField, RenameField, SetField, SetBody, SetSection, InsertPart, RemovePart, Wrap, Order, Do, Undo, Redo}
 use Rattle.mk_edit.specs.Splices.{Splice}
 
-abbrev pub change_of : Edit → Change
-change_of (AddFieldIn path top text) = AddField path.items top text.items
+abbrev pub edit_of : Edit → PlainEdit
+edit_of (edit.AddField path top text) = AddField path.items top text.items
+edit_of (edit.RemoveField path name k) = RemoveField path.items name.items k
+edit_of (edit.RenameField path name k to) = RenameField path.items name.items k to.items
+edit_of (edit.SetField path name k text) = SetField path.items name.items k text.items
+edit_of (edit.SetBody path text) = SetBody path.items text.items
+edit_of (edit.SetSection path text) = SetSection path.items text.items
+edit_of (edit.InsertPart path place text) = InsertPart path.items place text.items
+edit_of (edit.RemovePart path) = RemovePart path.items
+edit_of (edit.Wrap path subtype boundary) = Wrap path.items subtype.items boundary.items
 
 abbrev pub order_of : Command → Order
-order_of (DoIn edit) = Do (change_of edit)
+order_of (DoIn edit) = Do (edit_of edit)
 order_of UndoIn = Undo
 order_of RedoIn = Redo
 

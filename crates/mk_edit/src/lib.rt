@@ -4,13 +4,23 @@
 //! names the first reason.
 #![tactic(auto)]
 
+mod around;
 mod deciding;
 pub mod edit_laws;
 mod edits;
 mod errors;
+mod field_answers;
+mod field_edits;
+mod kinds_kept;
 pub mod laws;
+mod looking;
+mod part_edits;
+mod section_edits;
 mod session;
 mod splicing;
+mod stepping;
+mod wrap_edits;
+mod wrapped_text;
 
 pub use edits::{Command, Edit};
 pub use errors::EditError;

@@ -1,26 +1,30 @@
-//! A text under edit, and its history.
-ghost use Rattle.std.specs.Prelude.{◌≡◌, ◌+◌, ◌≤◌, ◌∷◌, [], ℕ, IfOk, IfErr, OnOk, OnErr, length, take, drop, map};
-ghost use Rattle.mk_edit.specs.Leaves.{leaf_tree};
-ghost use Rattle.mk_edit.specs.Changes.{Do, Undo, Redo};
-ghost use Rattle.mk_edit.specs.Reasons.{outcome};
-ghost use Rattle.mk_edit.specs.Answers.{Answers, Does};
-ghost use Rattle.mk_tree.specs.Splicing.{spliced};
-ghost use Rattle.mk_edit.specs.Histories.{IsHistory, after, after_all, refusal, replies, started, step, text_now, with_step};
-ghost use Rattle.mk_edit.specs.Views.{change_of, order_of};
+//! A message under edit, and its history.
+ghost use Rattle.std.specs.Prelude.{◌≡◌, ◌+◌, ◌*◌, ◌≤◌, ℕ, Ok, Some, IfOk, IfErr, OnOk, OnErr, length, take, map};
+ghost use Rattle.mk_tree.specs.Documents.{tree};
+ghost use Rattle.mk_edit.specs.Edits.{Do, Undo, Redo};
+ghost use Rattle.mk_edit.specs.Outcomes.{edited};
+ghost use Rattle.mk_edit.specs.Answers.{reply_of, Answers, Does};
+ghost use Rattle.mk_edit.specs.Counts.{edit_lines};
+ghost use Rattle.mk_edit.specs.Decided.{IsDecided};
+ghost use Rattle.mk_edit.specs.LocalAnswers.{plain_splice};
+ghost use Rattle.mk_edit.specs.Splices.{forth_step, back_step};
+ghost use Rattle.mk_edit.specs.Histories.{IsHistory, after, after_all, refusal, replies, started, step, text_now};
+ghost use Rattle.mk_edit.specs.Views.{edit_of, order_of, splice_of};
 
 use crate::deciding::decide;
 use crate::edits::{Command, Edit};
 use crate::errors::EditError;
-use crate::splicing::{Splice, copied, make_again, take_back};
+use crate::splicing::{Replacement, Splice, copied};
+use crate::stepping::{change, made_again, taken_back};
 use mk_line::Meter;
-use mk_tree::replace;
+use mk_tree::Doc;
 use std::alloc::{AllocError, Global};
 use std::marker::Model;
 
-/// A text under edit. Of earlier texts it keeps the bytes that each step replaced, and nothing else.
+/// A message under edit. Of earlier texts it keeps the bytes that each step replaced, and nothing else.
 #[derive(Drop)]
 pub struct Session {
-    text: Vec<u8>,
+    doc: Doc,
     steps: Vec<Vec<Splice>>,
     done: usize,
 }
@@ -34,19 +38,20 @@ impl Model for Session {
     ghost use Rattle.mk_edit.specs.Fits.{history_of, Fit};
     ghost use Rattle.mk_edit.specs.Views.{steps_of};
 
-    ghost view = { λ s. history_of s.text.items (steps_of s.steps.items) s.done };
+    ghost view = { λ s. history_of s.doc (steps_of s.steps.items) s.done };
 
-    ghost invariant = { λ s. Fit s.text.items (steps_of s.steps.items) s.done };
+    ghost invariant = { λ s. Fit s.doc (steps_of s.steps.items) s.done };
 }
 
 impl Session {
-    /// Begins with a text. Where there is no memory, the text comes back.
+    /// Begins with a text, which is read in one pass. Where there is no memory, the text comes back.
     pub fn start(alloc: Global, text: Vec<u8>) -> Result<Session, (Vec<u8>, AllocError)>
         ensures ok { IfOk result (λ s. s ≡ started text.items) }
         ensures back { IfErr result (λ e. e.0.items ≡ text.items) }
     {
+        let doc = Doc::read(alloc, text)?;
         Ok(Session {
-            text,
+            doc,
             steps: Vec::new(alloc),
             done: 0,
         })
@@ -57,7 +62,14 @@ impl Session {
         ensures now { result.now ≡ text_now self.now }
         ensures valid { IsHistory self.now }
     {
-        &self.text
+        self.doc.text()
+    }
+
+    /// The text as it stands, and the tree that it is read as.
+    pub fn doc(&self) -> &Doc
+        ensures { result.now ≡ text_now self.now }
+    {
+        &self.doc
     }
 
     /// How many steps are done.
@@ -76,9 +88,10 @@ impl Session {
 
     /// What `edit` would answer, short of memory. Nothing changes.
     pub fn check(&self, edit: &Edit, meter: &mut Meter) -> Result<(), EditError>
-        ensures { Answers result (outcome (change_of edit.now) (leaf_tree (text_now self.now))) }
+        ensures answers { Answers result (edited (edit_of edit.now) (tree (text_now self.now))) }
+        ensures most { meter.new ≤ meter.old + 2 * edit_lines (edit_of edit.now) (tree (text_now self.now)) + 2 }
     {
-        decide(&self.text, edit, meter)?;
+        decide(*self.steps.allocator(), &self.doc, edit, meter)?;
         Ok(())
     }
 
@@ -90,7 +103,7 @@ impl Session {
         commands: &[Command],
         meter: &mut Meter,
     ) -> Result<Vec<Option<EditError>>, AllocError>
-        ensures replies { IfOk result (λ all. all.items ≡ replies (map order_of commands.now) self.old) }
+        ensures replies { IfOk result (λ all. map reply_of all.items ≡ map (λ r. Some r) (replies (map order_of commands.now) self.old)) }
         ensures history { OnOk result (self.new ≡ after_all (map order_of commands.now) self.old) }
         ensures front { OnErr result ((n : ℕ) × (self.new ≡ after_all (take n (map order_of commands.now)) self.old)) }
     {
@@ -108,7 +121,7 @@ impl Session {
         command: &Command,
         meter: &mut Meter,
     ) -> Result<Option<EditError>, AllocError>
-        ensures reply { IfOk result (λ r. r ≡ refusal (step (order_of command.now) self.old)) }
+        ensures reply { IfOk result (λ r. reply_of r ≡ Some (refusal (step (order_of command.now) self.old))) }
         ensures history { OnOk result (self.new ≡ after (order_of command.now) self.old) }
         ensures err { OnErr result (self.new ≡ self.old) }
     {
@@ -135,12 +148,13 @@ impl Session {
         }
     }
 
-    /// Makes an edit, and drops the steps that were undone. A refused edit changes nothing.
+    /// Makes an edit, and drops the steps that were undone. A refused edit changes nothing, and so does want of memory.
     pub fn edit(&mut self, edit: &Edit, meter: &mut Meter) -> Result<(), EditError>
-        ensures { Does result (step (Do (change_of edit.now)) self.old) self.old self.new }
+        ensures does { Does result (step (Do (edit_of edit.now)) self.old) self.old self.new }
+        ensures most { meter.new ≤ meter.old + 2 * edit_lines (edit_of edit.now) (tree (text_now self.old)) + 2 }
     {
-        let place = decide(&self.text, edit, meter)?;
-        self.put(place, 0, edit.given())?;
+        let made = decide(*self.steps.allocator(), &self.doc, edit, meter)?;
+        self.put(edit, made)?;
         Ok(())
     }
 
@@ -151,7 +165,12 @@ impl Session {
         if self.done == 0 {
             return Err(EditError::NothingToUndo);
         }
-        take_back(&mut self.text, &self.steps[self.done - 1])?;
+        let doc = taken_back(
+            *self.steps.allocator(),
+            &self.doc,
+            &self.steps[self.done - 1],
+        )?;
+        self.doc = doc;
         self.done -= 1;
         Ok(())
     }
@@ -163,26 +182,28 @@ impl Session {
         if self.done == self.steps.len() {
             return Err(EditError::NothingToRedo);
         }
-        make_again(&mut self.text, &self.steps[self.done])?;
+        let doc = made_again(*self.steps.allocator(), &self.doc, &self.steps[self.done])?;
+        self.doc = doc;
         self.done += 1;
         Ok(())
     }
 
-    // Puts `new` in the place of `count` bytes at `place`, as a step. Where there is no memory, nothing changes.
-    fn put(&mut self, place: usize, count: usize, new: &[u8]) -> Result<(), AllocError>
-        requires { place + count ≤ length (text_now self.old) }
-        ensures ok { OnOk result (self.new ≡ with_step self.old (spliced place count new.now (text_now self.old)) (record { place = place; old = take count (drop place (text_now self.old)); new = new.now } ∷ [])) }
+    // Makes an edit that was accepted, as a step. Where there is no memory, nothing changes.
+    fn put(&mut self, edit: &Edit, made: Replacement) -> Result<(), AllocError>
+        requires { IsDecided (edit_of edit.now) (text_now self.old) (plain_splice made) }
+        ensures ok { OnOk result (step (Do (edit_of edit.now)) self.old ≡ Ok self.new) }
         ensures err { OnErr result (self.new ≡ self.old) }
     {
         let alloc = *self.steps.allocator();
-        let old = copied(alloc, &self.text, place, count)?;
-        let new = Vec::from_slice(alloc, new)?;
-        let mut made = Vec::with_capacity(alloc, 1)?;
+        let Replacement { place, count, new } = made;
+        let old = copied(alloc, self.doc.text(), place, count)?;
+        let text = Vec::from_slice(alloc, &new)?;
+        let mut step = Vec::with_capacity(alloc, 1)?;
         self.steps.reserve(1)?;
-        replace(&mut self.text, place, count, &new)?;
-        made.push_reserved(Splice { place, old, new });
+        change(&mut self.doc, edit, place, count, text)?;
+        step.push_reserved(Splice { place, old, new });
         self.steps.truncate(self.done);
-        self.steps.push_reserved(made);
+        self.steps.push_reserved(step);
         self.done += 1;
         Ok(())
     }

@@ -16,6 +16,15 @@ pub struct Splice {
     pub new: Vec<u8>,
 }
 
+/// Bytes in the place of others.
+#[derive(Debug, Drop)]
+pub(crate) struct Replacement {
+    /// Where they stand in the document, in bytes from 0.
+    pub place: usize,
+    pub count: usize,
+    pub new: Vec<u8>,
+}
+
 /// A copy of `count` bytes at `place`.
 pub fn copied(alloc: Global, text: &[u8], place: usize, count: usize) -> Result<Vec<u8>, AllocError>
     requires { place + count ≤ length text.now }

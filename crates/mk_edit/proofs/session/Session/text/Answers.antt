@@ -5,9 +5,7 @@ use Rattle.mk_edit.proofs.Steps.{fit_history, fit_text}
 use Rattle.mk_edit.proofs.session.Session.text.Goals as goal
 
 pub returns-clause-now : goal.returns-clause-now
-returns-clause-now c =
-    c.deref.ensures.value
-    ∙ (sym (fit_text c.self.inside.text.items (steps_of c.self.inside.steps.items) c.self.inside.done c.self.invariant) ∙ ap text_now c.self.view_is)
+returns-clause-now c = c.text.ensures ∙ (sym (fit_text c.self.inside.doc (steps_of c.self.inside.steps.items) c.self.inside.done c.self.invariant) ∙ ap text_now c.self.view_is)
 
 pub returns-clause-valid : goal.returns-clause-valid
-returns-clause-valid c = subst IsHistory c.self.view_is (fit_history c.self.inside.text.items (steps_of c.self.inside.steps.items) c.self.inside.done c.self.invariant)
+returns-clause-valid c = subst IsHistory c.self.view_is (fit_history c.self.inside.doc (steps_of c.self.inside.steps.items) c.self.inside.done c.self.invariant)

@@ -1,0 +1,19 @@
+use Rattle.std.proofs.Common.{Ok, not, ◌++◌, refl, ap, sym, ◌∙◌}
+use Rattle.mk_line.specs.Lines.{cut}
+use Rattle.mk_head.specs.Views.{field_view}
+use Rattle.mk_edit.specs.Edits.{BadName}
+use Rattle.mk_edit.specs.FieldEdits.{is_name, field_at}
+use Rattle.mk_edit.specs.FieldPuts.{name_put, put_unless, renames}
+use Rattle.mk_edit.proofs.FieldPutting.{put_by, may_put, found_put, put_renamed}
+use Rattle.mk_edit.proofs.field_edits.put_name.Goals as goal
+
+pub returns-in_ok-extend_from_slice-in-Some-clause-ok : goal.returns-in_ok-extend_from_slice-in-Some-clause-ok
+returns-in_ok-extend_from_slice-in-Some-clause-ok c =
+    let to = c.args.to.now in
+    let ls = cut c.args.head.now in
+    let a = c.in-Some.ensures.some in
+    let o = field_at c.args.name.now c.args.k ls in
+    put_by _ (Ok (name_put to a.found)) (renames to o)
+    (found_put o a.found (λ f. put_unless (not (is_name to)) BadName (name_put to f)) a.is ∙ may_put (is_name to) BadName (name_put to a.found) (sym c.is_name.ensures ∙ c.if-not-is_name.false))
+    (put_renamed _ to c.args.name.now c.args.k ls c.in-Some.from (field_view c.in-Some.field) c.behind_name-behind.result.now a c.behind_name-behind.ensures refl refl
+    (c.in_ok-extend_from_slice-in-Some.ensures.items ∙ ap (λ xs. xs ++ c.behind_name-behind.result.now) c.in_ok-lines-in-Some.ensures.items) refl)
