@@ -4,5 +4,10 @@ mod PathLemmas
 mod PieceLemmas
 mod RunLemmas
 mod Slices
+mod TargetLemmas
+mod WordLemmas
+mod ScriptTurns
+mod RefusalLemmas
 mod WrittenLemmas
 pub mod ShownLemmas
+pub mod PieceWords

@@ -1,6 +1,7 @@
 -- What the engine's exits leave.
-use Rattle.std.proofs.Common.{◌≡◌, ℕ, Bool, true, false, not, if◌then◌else◌, List, [], Option, Ok, refl, ap, ◌∙◌, inl, inr}
+use Rattle.std.proofs.Common.{◌≡◌, ℕ, Bool, true, false, not, if◌then◌else◌, List, [], Option, Ok, refl, sym, ap, ◌∙◌, inl, inr}
 use Rattle.std.proofs.lemmas.Bool.{cases_Bool}
+use Rattle.std.proofs.lemmas.List.{append-nil}
 use Rattle.std.specs.Io.KnownBytes.{Appends, IsAtEnd, Keeps}
 use Rattle.std.proofs.KnownBytes.{Appends-nil}
 use Rattle.mk_line.specs.Lines.{is_nil}
@@ -11,9 +12,11 @@ use Rattle.mk_tool.specs.declared.status.Status.{Status}
 use Rattle.mk_tool.specs.declared.status.Status.TheVariants.{Well, Refused}
 use Rattle.mk_tool.specs.declared.status.Cause.{Cause}
 use Rattle.mk_tool.specs.declared.status.Cause.TheVariants.{Read, Write, Memory}
+use Rattle.mk_tool.specs.declared.transfer.Stop.{Stop}
+use Rattle.mk_tool.specs.declared.transfer.Stop.TheVariants.{Fault as Stopped, Memory as Wanting}
 use Rattle.mk_tool.specs.Script.{ScriptWord}
 use Rattle.mk_tool.specs.Runs.{Run, run_words, history_after, errors_of}
-use Rattle.mk_tool.specs.RunClauses.{Held, Leaves, cause_line, status_of}
+use Rattle.mk_tool.specs.RunClauses.{Held, Leaves, WritesFronts, cause_line, cause_of_writing, status_of}
 
 -- where nothing went out, a front did
 pub AppendsFront-none : (known : Option (List ℕ)) (bytes : List ℕ) → AppendsFront known known bytes
@@ -28,17 +31,17 @@ status_at errors refused status r s = elim (cases_Bool (is_nil errors)) [
 ]
 
 -- all words were done and all went out
-pub Leaves-done : (words : List (ℕ × ScriptWord)) (message text : List ℕ) (first last : History) (refused : Bool) (status : Status) (before after : Held)
-    → first ≡ started message → last ≡ history_after words first → text ≡ text_now last
-    → refused ≡ not (is_nil (errors_of words first)) → status ≡ (if refused then Refused else Well)
-    → IsAtEnd after.input → Appends before.output after.output text → Appends before.errors after.errors (errors_of words first)
-    → Leaves status (run_words message (Ok words)) before after
-Leaves-done words message text first last refused status before after begun done printed told ended end output errors =
-    let text_is : text ≡ text_now (history_after words (started message)) = printed ∙ ap text_now done ∙ ap (λ h. text_now (history_after words h)) begun in
+pub Leaves-done : (pieces : List (List ℕ)) (words : List (ℕ × ScriptWord)) (message text : List ℕ) (first last : History) (refused : Bool) (status : Status) (before after : Held)
+    → first ≡ started message → last ≡ history_after pieces words first → text ≡ text_now last
+    → refused ≡ not (is_nil (errors_of pieces words first)) → status ≡ (if refused then Refused else Well)
+    → IsAtEnd after.input → Appends before.output after.output text → Appends before.errors after.errors (errors_of pieces words first)
+    → Leaves status (run_words pieces message (Ok words)) before after
+Leaves-done pieces words message text first last refused status before after begun done printed told ended end output errors =
+    let text_is : text ≡ text_now (history_after pieces words (started message)) = printed ∙ ap text_now done ∙ ap (λ h. text_now (history_after pieces words h)) begun in
     let all_output = rw text_is at output in
     let all_errors = rw begun at errors in
-    let status_is : status ≡ (if is_nil (errors_of words (started message)) then Well else Refused) = status_at _ refused status (rw begun at told) ended in
-    elim (cases_Bool (is_nil (errors_of words (started message)))) [
+    let status_is : status ≡ (if is_nil (errors_of pieces words (started message)) then Well else Refused) = status_at _ refused status (rw begun at told) ended in
+    elim (cases_Bool (is_nil (errors_of pieces words (started message)))) [
       | inl t ↦
           let well : status ≡ Well = rw t at status_is in
           rw well (record { status_is = rw t refl; written = record { output = all_output; errors = all_errors }; read = end })
@@ -55,3 +58,22 @@ pub Leaves-given_up : (cause : Cause) (run : Run) (before after : Held) (between
 Leaves-given_up Read run before after between output errors line silent = record { output = output; cause = Read; status_is = refl; between = between; errors = errors; line = line; silent = silent }
 Leaves-given_up Write run before after between output errors line silent = record { output = output; cause = Write; status_is = refl; between = between; errors = errors; line = line; silent = silent }
 Leaves-given_up Memory run before after between output errors line silent = record { output = output; cause = Memory; status_is = refl; between = between; errors = errors; line = line; silent = silent }
+
+-- no cause of writing is one of reading
+writing-not_read : (stop : Stop) → cause_of_writing stop ≡ Read → ⊥
+writing-not_read Stopped e = cc
+writing-not_read Wanting e = cc
+
+-- the errors went out whole, and of the text a front
+pub WritesFronts-unsent : (pieces : List (List ℕ)) (words : List (ℕ × ScriptWord)) (message text : List ℕ) (first last : History) (stop : Stop) (cause : Cause) (before after : Held)
+    → cause ≡ cause_of_writing stop → first ≡ started message → last ≡ history_after pieces words first → text ≡ text_now last
+    → AppendsFront before.output after.output text → Appends before.errors after.errors (errors_of pieces words first)
+    → WritesFronts cause (run_words pieces message (Ok words)) before after
+WritesFronts-unsent pieces words message text first last stop cause before after wrote begun done printed output errors =
+    let text_is : text ≡ text_now (history_after pieces words (started message)) = printed ∙ ap text_now done ∙ ap (λ h. text_now (history_after pieces words h)) begun in
+    let all_errors = rw begun at errors in
+    record {
+      output = rw text_is at output;
+      errors = (errors_of pieces words (started message), [], sym (append-nil (errors_of pieces words (started message))), all_errors);
+      silent = λ e. absurd (writing-not_read stop (sym wrote ∙ e));
+    }

@@ -1,8 +1,10 @@
 pub mod Paths
+pub mod Reports
 pub mod RunClauses
 pub mod Runs
 pub mod Script
 pub mod ScriptViews
 pub mod Statuses
+pub mod Targets
 pub mod Written
 pub mod Shown

@@ -131,12 +131,12 @@ LeavesSoFar (Ok status) = Leaves status
 LeavesSoFar (Err cause) = WritesFronts cause
 
 -- what a run of words leaves is what is defined for the bytes that it read
-abbrev pub LeavesWords : Result Status Cause → Result (List (ℕ × ScriptWord)) ℕ → Held → Held → Type 0
-LeavesWords result words before after = (message : List ℕ) × Consumes before.input after.input message × LeavesSoFar result (run_words message words) before after
+abbrev pub LeavesWords : Result Status Cause → List (List ℕ) → Result (List (ℕ × ScriptWord)) ℕ → Held → Held → Type 0
+LeavesWords result pieces words before after = (message : List ℕ) × Consumes before.input after.input message × LeavesSoFar result (run_words pieces message words) before after
 
 -- what a run of a script leaves is what is defined for the bytes that it read
-abbrev pub LeavesRun : Status → List ℕ → Held → Held → Type 0
-LeavesRun status script before after = (message : List ℕ) × Consumes before.input after.input message × Leaves status (run_of message script) before after
+abbrev pub LeavesRun : Status → List (List ℕ) → List ℕ → Held → Held → Type 0
+LeavesRun status pieces script before after = (message : List ℕ) × Consumes before.input after.input message × Leaves status (run_of pieces message script) before after
 
 -- the device failed that a cause speaks of
 abbrev pub IsBlamed : Cause → Counts → Counts → Type 0

@@ -1,10 +1,11 @@
 -- What a script says (own): one word a line, with what it is given, parted by one space.
-use Rattle.std.specs.Prelude.{◌==◌, ◌+◌, if◌then◌else◌, ℕ, Bool, true, false, List, [], ◌∷◌, ◌++◌, Option, None, Some, Result, Ok, Err, codes}
+use Rattle.std.specs.Prelude.{◌==◌, ◌+◌, if◌then◌else◌, ℕ, Bool, true, false, List, [], ◌∷◌, ◌++◌, Option, None, Some, Result, Ok, Err, codes, nat_le}
 use Rattle.std.specs.Option.{option_map, option_and_then}
 use Rattle.std.specs.Str.{bytes_eq}
 use Rattle.mk_line.specs.Ascii.{space}
 use Rattle.mk_line.specs.Lines.{TextLine, cut}
-use Rattle.mk_tool.specs.Paths.{parted, path_of}
+use Rattle.mk_tool.specs.Paths.{parted, number_of, path_of}
+use Rattle.mk_tool.specs.Targets.{Target, is_name, count_of, whole_target, target_front}
 
 -- b'#'
 abbrev pub number_sign : ℕ
@@ -13,6 +14,14 @@ number_sign = 35
 -- what one line of a script says; the field is still without its line ending
 pub data ScriptWord : Type 0 where
   Adds : (path : List ℕ) (top : Bool) (field : List ℕ) → ScriptWord
+  Deletes : (target : Target) → ScriptWord
+  Renames : (target : Target) (to : List ℕ) → ScriptWord
+  Sets : (target : Target) (field : List ℕ) → ScriptWord
+  Bodies : (path : List ℕ) (piece : ℕ) → ScriptWord
+  Replaces : (path : List ℕ) (piece : ℕ) → ScriptWord
+  Inserts : (path : List ℕ) (place piece : ℕ) → ScriptWord
+  Removes : (path : List ℕ) → ScriptWord
+  Wraps : (path subtype boundary : List ℕ) → ScriptWord
   Undoes : ScriptWord
   Redoes : ScriptWord
 
@@ -20,18 +29,85 @@ pub data ScriptWord : Type 0 where
 abbrev pub adding : Bool → List ℕ → Option ScriptWord
 adding top rest = option_and_then (λ p. option_map (λ path. Adds path top p.1) (path_of p.0)) (parted space rest)
 
--- a word that is given something
-abbrev pub word_with : List ℕ × List ℕ → Option ScriptWord
-word_with p =
-    if bytes_eq p.0 (codes "add") then adding false p.1
-    else (if bytes_eq p.0 (codes "top") then adding true p.1 else None)
+-- `del` is given the field to take out
+abbrev pub deleting : List ℕ → Option ScriptWord
+deleting rest = option_map (λ target. Deletes target) (whole_target rest)
 
--- the word that a line says, where it is one
-abbrev pub word_of : List ℕ → Option ScriptWord
-word_of line =
+-- `ren` is given a field and its new name
+abbrev pub renaming : List ℕ → Option ScriptWord
+renaming rest = option_and_then (λ p. if is_name p.1 then Some (Renames p.0 p.1) else None) (target_front rest)
+
+-- `set` is given a field and the one for its place, which may hold spaces and may be empty
+abbrev pub setting : List ℕ → Option ScriptWord
+setting rest = option_map (λ p. Sets p.0 p.1) (target_front rest)
+
+-- the number of a piece that a text writes, where there are so many
+abbrev pub within : ℕ → Option ℕ → Option ℕ
+within count number = option_and_then (λ k. if nat_le k count then Some k else None) number
+
+abbrev pub piece_of : ℕ → List ℕ → Option ℕ
+piece_of count text = within count (number_of text)
+
+-- a word that is given a path and a piece
+abbrev pub with_piece : ℕ → (List ℕ → ℕ → ScriptWord) → List ℕ × List ℕ → Option ScriptWord
+with_piece count word p = option_and_then (λ path. option_map (word path) (piece_of count p.1)) (path_of p.0)
+
+-- `body` and `replace` are given a path and a piece
+abbrev pub placing : ℕ → (List ℕ → ℕ → ScriptWord) → List ℕ → Option ScriptWord
+placing count word rest = option_and_then (with_piece count word) (parted space rest)
+
+-- `insert` is given a path, how many parts stand before the new one, and a piece
+abbrev pub with_place : ℕ → List ℕ → List ℕ × List ℕ → Option ScriptWord
+with_place count path p = option_and_then (λ place. option_map (λ piece. Inserts path place piece) (piece_of count p.1)) (count_of p.0)
+
+abbrev pub with_places : ℕ → List ℕ × List ℕ → Option ScriptWord
+with_places count p = option_and_then (λ path. option_and_then (with_place count path) (parted space p.1)) (path_of p.0)
+
+abbrev pub inserting : ℕ → List ℕ → Option ScriptWord
+inserting count rest = option_and_then (with_places count) (parted space rest)
+
+-- `remove` is given a path
+abbrev pub removing : List ℕ → Option ScriptWord
+removing rest = option_map (λ path. Removes path) (path_of rest)
+
+-- `wrap` is given a path, a subtype, and a boundary, which may hold spaces and may be empty
+abbrev pub with_subtype : List ℕ → List ℕ × List ℕ → Option ScriptWord
+with_subtype path p = if is_name p.0 then Some (Wraps path p.0 p.1) else None
+
+abbrev pub with_wrapping : List ℕ × List ℕ → Option ScriptWord
+with_wrapping p = option_and_then (λ path. option_and_then (with_subtype path) (parted space p.1)) (path_of p.0)
+
+abbrev pub wrapping : List ℕ → Option ScriptWord
+wrapping rest = option_and_then with_wrapping (parted space rest)
+
+-- a word that changes more than fields, where there are so many pieces
+abbrev pub word_on : ℕ → List ℕ × List ℕ → Option ScriptWord
+word_on count p =
+    if bytes_eq p.0 (codes "body") then placing count (λ path piece. Bodies path piece) p.1
+    else (if bytes_eq p.0 (codes "replace") then placing count (λ path piece. Replaces path piece) p.1
+    else (if bytes_eq p.0 (codes "insert") then inserting count p.1
+    else (if bytes_eq p.0 (codes "remove") then removing p.1
+    else (if bytes_eq p.0 (codes "wrap") then wrapping p.1 else None))))
+
+-- a word that changes a field which is there
+abbrev pub word_at : ℕ → List ℕ × List ℕ → Option ScriptWord
+word_at count p =
+    if bytes_eq p.0 (codes "del") then deleting p.1
+    else (if bytes_eq p.0 (codes "ren") then renaming p.1
+    else (if bytes_eq p.0 (codes "set") then setting p.1 else word_on count p))
+
+-- a word that is given something
+abbrev pub word_with : ℕ → List ℕ × List ℕ → Option ScriptWord
+word_with count p =
+    if bytes_eq p.0 (codes "add") then adding false p.1
+    else (if bytes_eq p.0 (codes "top") then adding true p.1 else word_at count p)
+
+-- the word that a line says, where it is one and there are so many pieces
+abbrev pub word_of : ℕ → List ℕ → Option ScriptWord
+word_of count line =
     if bytes_eq line (codes "undo") then Some Undoes
     else (if bytes_eq line (codes "redo") then Some Redoes
-    else option_and_then word_with (parted space line))
+    else option_and_then (word_with count) (parted space line))
 
 -- an empty line and one that begins with a number sign say nothing
 abbrev pub is_skipped : List ℕ → Bool
@@ -49,12 +125,13 @@ with_word number None more = Err number
 with_word number (Some word) more = with_front ((number, word) ∷ []) more
 
 -- the words of lines that are numbered from here on, or the number of the first line that is no word
-abbrev pub words_from : ℕ → List TextLine → Result (List (ℕ × ScriptWord)) ℕ
-words_from number [] = Ok []
-words_from number (line ∷ lines) =
-    if is_skipped line.content then words_from (number + 1) lines
-    else with_word number (word_of line.content) (words_from (number + 1) lines)
+abbrev pub words_from : (count number : ℕ) → List TextLine → Result (List (ℕ × ScriptWord)) ℕ
+words_from count number [] = Ok []
+words_from count number (line ∷ lines) =
+    if is_skipped line.content then words_from count (number + 1) lines
+    else with_word number (word_of count line.content) (words_from count (number + 1) lines)
 
--- the words of a script with the numbers of their lines, or the number of the first line that is no word
-abbrev pub script_of : List ℕ → Result (List (ℕ × ScriptWord)) ℕ
-script_of script = words_from 1 (cut script)
+-- the words of a script that is given so many pieces, with the numbers of their lines, or the number of the first line
+-- that is no word
+abbrev pub script_of : ℕ → List ℕ → Result (List (ℕ × ScriptWord)) ℕ
+script_of count script = words_from count 1 (cut script)

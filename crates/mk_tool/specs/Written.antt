@@ -1,9 +1,10 @@
 -- How the words of a script are written. A line says a word exactly where it is the word as it is written (`laws`).
-use Rattle.std.specs.Prelude.{◌≡◌, ◌<◌, ◌≤◌, ◌^◌, ◌↔◌, if◌then◌else◌, ℕ, List, [], ◌∷◌, ◌++◌, Some, length, map, codes, decimal}
+use Rattle.std.specs.Prelude.{◌≡◌, ◌<◌, ◌≤◌, ◌^◌, ◌↔◌, if◌then◌else◌, true, ℕ, List, [], ◌∷◌, ◌++◌, Some, length, map, codes, decimal}
 use Rattle.std.specs.List.{join_with_byte}
 use Rattle.mk_line.specs.Ascii.{space}
 use Rattle.mk_tool.specs.Paths.{dot, max_components}
-use Rattle.mk_tool.specs.Script.{ScriptWord, Adds, Undoes, Redoes, word_of}
+use Rattle.mk_tool.specs.Targets.{Target, is_name}
+use Rattle.mk_tool.specs.Script.{ScriptWord, Adds, Deletes, Renames, Sets, Bodies, Replaces, Inserts, Removes, Wraps, Undoes, Redoes, word_of}
 
 -- numbers from 1 on that fit 32 bits
 abbrev pub AreComponents : List ℕ → Type 0
@@ -20,18 +21,54 @@ pub record IsPath (path : List ℕ) : Type 0 where
 abbrev pub written_path : List ℕ → List ℕ
 written_path path = join_with_byte dot (map decimal path)
 
--- a word that may be written: where it has a path, that is one
-abbrev pub IsWord : ScriptWord → Type 0
-IsWord (Adds path top field) = IsPath path
-IsWord Undoes = Unit {0}
-IsWord Redoes = Unit {0}
+-- a field that may be picked
+pub record IsTarget (target : Target) : Type 0 where
+  pub path : IsPath target.path
+  pub name : is_name target.name ≡ true
+  pub fits : target.k < 2 ^ 32
+
+-- it is written as its path, its name and its number, parted by one space
+abbrev pub written_target : Target → List ℕ
+written_target target = written_path target.path ++ (space ∷ (target.name ++ (space ∷ decimal target.k)))
+
+-- a piece of so many, by its number from 1 on
+pub record IsPiece (count piece : ℕ) : Type 0 where
+  pub some : 0 < piece
+  pub fits : piece < 2 ^ 32
+  pub there : piece ≤ count
+
+-- a word that may be written where there are so many pieces: what it is given may be
+abbrev pub IsWord : ℕ → ScriptWord → Type 0
+IsWord count (Adds path top field) = IsPath path
+IsWord count (Deletes target) = IsTarget target
+IsWord count (Renames target to) = IsTarget target × (is_name to ≡ true)
+IsWord count (Sets target field) = IsTarget target
+IsWord count (Bodies path piece) = IsPath path × IsPiece count piece
+IsWord count (Replaces path piece) = IsPath path × IsPiece count piece
+IsWord count (Inserts path place piece) = IsPath path × (place < 2 ^ 32) × IsPiece count piece
+IsWord count (Removes path) = IsPath path
+IsWord count (Wraps path subtype boundary) = IsPath path × (is_name subtype ≡ true)
+IsWord count Undoes = Unit {0}
+IsWord count Redoes = Unit {0}
+
+-- a path and a number behind it
+abbrev pub written_place : List ℕ → ℕ → List ℕ
+written_place path number = written_path path ++ (space ∷ decimal number)
 
 -- a word is written as its name and what it is given, parted by one space; a field is written as it is
 abbrev pub written : ScriptWord → List ℕ
 written (Adds path top field) = (if top then codes "top" else codes "add") ++ (space ∷ (written_path path ++ (space ∷ field)))
+written (Deletes target) = codes "del" ++ (space ∷ written_target target)
+written (Renames target to) = codes "ren" ++ (space ∷ (written_target target ++ (space ∷ to)))
+written (Sets target field) = codes "set" ++ (space ∷ (written_target target ++ (space ∷ field)))
+written (Bodies path piece) = codes "body" ++ (space ∷ written_place path piece)
+written (Replaces path piece) = codes "replace" ++ (space ∷ written_place path piece)
+written (Inserts path place piece) = codes "insert" ++ (space ∷ (written_path path ++ (space ∷ (decimal place ++ (space ∷ decimal piece)))))
+written (Removes path) = codes "remove" ++ (space ∷ written_path path)
+written (Wraps path subtype boundary) = codes "wrap" ++ (space ∷ (written_path path ++ (space ∷ (subtype ++ (space ∷ boundary)))))
 written Undoes = codes "undo"
 written Redoes = codes "redo"
 
 -- the lines that say a word are those that write it
 abbrev pub WordsAreWritten : Type 0
-WordsAreWritten = (line : List ℕ) (word : ScriptWord) → (word_of line ≡ Some word) ↔ (IsWord word × (line ≡ written word))
+WordsAreWritten = (count : ℕ) (line : List ℕ) (word : ScriptWord) → (word_of count line ≡ Some word) ↔ (IsWord count word × (line ≡ written word))

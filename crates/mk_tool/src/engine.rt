@@ -1,9 +1,9 @@
 //! The run of a script on a message, over any devices.
 
-ghost use Rattle.std.specs.Prelude.{◌≡◌, ◌≤◌, ◌⊎◌, true, map, Ok, IfOk, IfErr, OnOk};
+ghost use Rattle.std.specs.Prelude.{◌≡◌, ◌≤◌, ◌⊎◌, true, length, map, Ok, IfOk, IfErr, OnOk};
 ghost use Rattle.mk_mail.specs.Devices.{AppendsFront};
 ghost use Rattle.mk_tool.specs.Script.{script_of};
-ghost use Rattle.mk_tool.specs.ScriptViews.{numbered};
+ghost use Rattle.mk_tool.specs.ScriptViews.{numbered, texts_of};
 ghost use Rattle.mk_tool.specs.RunClauses.{held, counts, SameFailures, ReadFailed, WriteFailed, IsBlamed, LeavesRun, LeavesWords, cause_line as line_of, cause_of_reading, cause_of_writing, status_of as status_for, ends_itself};
 
 use crate::report::{cause_line, report_syntax};
@@ -25,7 +25,7 @@ pub fn run_edit<S: Source, O: Sink, E: Sink>(
     script: &[u8],
     pieces: &[Vec<u8>],
 ) -> Status
-    ensures leaves { LeavesRun result script.now
+    ensures leaves { LeavesRun result (texts_of pieces.now) script.now
         (held (S.remaining input.old) (O.contents out.old) (E.contents err.old))
         (held (S.remaining input.new) (O.contents out.new) (E.contents err.new)) }
 
@@ -40,8 +40,7 @@ pub fn run_edit<S: Source, O: Sink, E: Sink>(
         (counts (S.failures input.old) (S.read_count input.old) (O.failures out.old) (E.failures err.old))
         (counts (S.failures input.new) (S.read_count input.new) (O.failures out.new) (E.failures err.new)) }
 {
-    let _ = pieces;
-    match run_script(alloc, input, out, err, script) {
+    match run_script(alloc, input, out, err, script, pieces) {
         Ok(status) => status,
         Err(cause) => give_up(err, cause),
     }
@@ -67,8 +66,9 @@ fn run_script<S: Source, O: Sink, E: Sink>(
     out: &mut O,
     err: &mut E,
     script: &[u8],
+    pieces: &[Vec<u8>],
 ) -> Result<Status, Cause>
-    ensures leaves { LeavesWords result (script_of script.now)
+    ensures leaves { LeavesWords result (texts_of pieces.now) (script_of (length pieces.now) script.now)
         (held (S.remaining input.old) (O.contents out.old) (E.contents err.old))
         (held (S.remaining input.new) (O.contents out.new) (E.contents err.new)) }
     ensures ended { IfOk result (λ status. ends_itself status ≡ true) }
@@ -79,8 +79,8 @@ fn run_script<S: Source, O: Sink, E: Sink>(
         (counts (S.failures input.old) (S.read_count input.old) (O.failures out.old) (E.failures err.old))
         (counts (S.failures input.new) (S.read_count input.new) (O.failures out.new) (E.failures err.new))) }
 {
-    match words(alloc, script) {
-        Ok(words) => run_words(alloc, input, out, err, words),
+    match words(alloc, script, pieces.len()) {
+        Ok(words) => run_words(alloc, input, out, err, words, pieces),
         Err(ScriptError::Syntax(number)) => match report_syntax(alloc, err, number) {
             Ok(()) => Ok(Status::Usage),
             Err(stop) => Err(writing(stop)),
@@ -96,8 +96,9 @@ fn run_words<S: Source, O: Sink, E: Sink>(
     out: &mut O,
     err: &mut E,
     words: Vec<NumberedWord>,
+    pieces: &[Vec<u8>],
 ) -> Result<Status, Cause>
-    ensures leaves { LeavesWords result (Ok (map numbered words.items))
+    ensures leaves { LeavesWords result (texts_of pieces.now) (Ok (map numbered words.items))
         (held (S.remaining input.old) (O.contents out.old) (E.contents err.old))
         (held (S.remaining input.new) (O.contents out.new) (E.contents err.new)) }
     ensures ended { IfOk result (λ status. ends_itself status ≡ true) }
@@ -116,7 +117,7 @@ fn run_words<S: Source, O: Sink, E: Sink>(
         Ok(session) => session,
         Err(_) => return Err(Cause::Memory),
     };
-    let refused = match do_words(alloc, &mut session, err, words) {
+    let refused = match do_words(alloc, &mut session, err, words, pieces) {
         Ok(refused) => refused,
         Err(stop) => return Err(writing(stop)),
     };

@@ -7,12 +7,14 @@ mod engine;
 pub mod laws;
 mod options;
 mod path;
+mod pieces;
 mod program;
 mod report;
 mod script;
 mod showing;
 mod status;
 mod steps;
+mod targets;
 mod transfer;
 
 use device::{Input, Output};

@@ -56,7 +56,7 @@ fn extract_command<'a>(alloc: Global) -> Result<Command<'a>, AllocError> {
 fn edit_command<'a>(alloc: Global) -> Result<Command<'a>, AllocError> {
     let script = Arg::new(alloc, SCRIPT)
         .help(
-            "The file with the script: one word a line, as `add 1 Subject: hello`, `undo` or `redo`",
+            "The file with the script: one word a line, as `add 1 Subject: hello`, `del 1 Subject 2` or `undo`",
         )
         .required(true)
         .action(ArgAction::Set);

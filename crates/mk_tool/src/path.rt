@@ -4,6 +4,7 @@ ghost use Rattle.std.specs.Prelude.{◌≡◌, ◌<◌, ◌==◌, ◌∷◌, len
 ghost use Rattle.std.specs.List.{position};
 ghost use Rattle.std.specs.Option.{option_map};
 ghost use Rattle.mk_tool.specs.Paths.{dot, parted as parted_at, pieces_of, pieces_behind, number_of, numbers_of, path_of};
+ghost use Rattle.mk_tool.specs.Targets.{count_of};
 
 use std::alloc::{AllocError, Global};
 
@@ -78,8 +79,18 @@ fn first_piece(text: &[u8]) -> (&[u8], Option<&[u8]>)
     }
 }
 
-// The number that a text writes, from 1 on and without leading zeros, where it fits 32 bits.
-fn number(text: &[u8]) -> Option<u32>
+/// The number that a text writes: 0, or one from 1 on without leading zeros, where it fits 32 bits.
+pub fn count(text: &[u8]) -> Option<u32>
+    ensures { result ≡ count_of text.now }
+{
+    if text == b"0".as_slice() {
+        return Some(0);
+    }
+    number(text)
+}
+
+/// The number that a text writes, from 1 on and without leading zeros, where it fits 32 bits.
+pub fn number(text: &[u8]) -> Option<u32>
     ensures { result ≡ number_of text.now }
 {
     if *text.first()? == ZERO_DIGIT {

@@ -1,30 +1,61 @@
 //! The lines that a run writes to the errors.
 
-ghost use Rattle.std.specs.Prelude.{◌≡◌, codes};
-ghost use Rattle.mk_tool.specs.Runs.{refusal_name as name_of, error_line, syntax_line};
+ghost use Rattle.std.specs.Prelude.{◌≡◌, ◌++◌, codes, IfOk, OnOk, IfSome};
+ghost use Rattle.mk_edit.specs.Answers.{refusal_of};
+ghost use Rattle.mk_tool.specs.Reports.{reason_name as name_of, behind_name, error_line, syntax_line};
 ghost use Rattle.mk_tool.specs.RunClauses.{Sends, cause_line as line_of};
 
 use crate::status::Cause;
+use crate::targets::SPACE;
 use crate::transfer::{Stop, send};
 use mk_edit::EditError;
-use mk_mail::Sink;
-use std::alloc::Global;
+use mk_mail::{Sink, push_path};
+use std::alloc::{AllocError, Global};
 
-/// Reports a refusal, with the number of its line in the script.
+const LINE_FEED: u8 = b'\n';
+
+/// Reports a refusal of an edit at a path, with the number of its line in the script.
 pub fn report_refusal<E: Sink>(
     alloc: Global,
     err: &mut E,
     number: usize,
+    path: &[u32],
     reason: EditError,
 ) -> Result<(), Stop>
-    ensures { Sends result (error_line number reason)
-        (E.contents err.old) (E.contents err.new) (E.failures err.old) (E.failures err.new) }
+    ensures { IfSome (refusal_of reason) (λ refusal. Sends result (error_line number path.now refusal)
+        (E.contents err.old) (E.contents err.new) (E.failures err.old) (E.failures err.new)) }
 {
-    let name = refusal_name(reason);
-    match format!(in alloc; "line {number}: {name}\n") {
-        Ok(line) => send(err, line.as_bytes()),
+    match refusal_line(alloc, number, path, reason) {
+        Ok(line) => send(err, &line),
         Err(_) => Err(Stop::Memory),
     }
+}
+
+// The line that reports a refusal.
+fn refusal_line(
+    alloc: Global,
+    number: usize,
+    path: &[u32],
+    reason: EditError,
+) -> Result<Vec<u8>, AllocError>
+    ensures { IfOk result (λ line. IfSome (refusal_of reason) (λ refusal. line.items ≡ error_line number path.now refusal)) }
+{
+    let name = refusal_name(reason);
+    let mut line = format!(in alloc; "line {number}: {name}")?.into_bytes();
+    push_place(&mut line, path, reason)?;
+    line.push(LINE_FEED)?;
+    Ok(line)
+}
+
+// Writes what stands behind the name: the path of the multipart of which a line would be a delimiter.
+fn push_place(line: &mut Vec<u8>, path: &[u32], reason: EditError) -> Result<(), AllocError>
+    ensures { OnOk result (IfSome (refusal_of reason) (λ refusal. line.new.items ≡ line.old.items ++ behind_name path.now refusal)) }
+{
+    if let EditError::HoldsBoundary { level } = reason {
+        line.push(SPACE)?;
+        push_path(line, &path[..level.min(path.len())])?;
+    }
+    Ok(())
 }
 
 /// Reports a line of the script that is no word.
@@ -51,12 +82,21 @@ pub fn cause_line(cause: Cause) -> &'static [u8]
 
 // The name under which a refusal is reported.
 fn refusal_name(reason: EditError) -> &'static str
-    ensures { result.now ≡ name_of reason }
+    ensures { IfSome (refusal_of reason) (λ refusal. result.now ≡ name_of refusal) }
 {
     match reason {
         EditError::NoSuchSection => "NoSuchSection",
+        EditError::NotMultipart => "NotMultipart",
+        EditError::NotLeaf => "NotLeaf",
+        EditError::NotPart => "NotPart",
+        EditError::NoSuchField => "NoSuchField",
+        EditError::BadPlace => "BadPlace",
+        EditError::BadBoundary => "BadBoundary",
+        EditError::BadSubtype => "BadSubtype",
         EditError::BadField => "BadField",
+        EditError::BadName => "BadName",
         EditError::OpenLine => "OpenLine",
+        EditError::HoldsBoundary { .. } => "HoldsBoundary",
         EditError::Recut => "Recut",
         EditError::NothingToUndo => "NothingToUndo",
         EditError::NothingToRedo => "NothingToRedo",

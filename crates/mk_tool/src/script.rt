@@ -2,15 +2,15 @@
 
 ghost use Rattle.std.specs.Prelude.{◌≡◌, ◌+◌, map, Ok, Some, IfOk, IfErr};
 ghost use Rattle.std.specs.Option.{option_map};
-ghost use Rattle.mk_tool.specs.Script.{adding, word_of, is_skipped as skips, script_of, with_front, with_word};
+ghost use Rattle.mk_tool.specs.Script.{adding, deleting, renaming, setting, word_at, word_with, word_of, is_skipped as skips, script_of, with_front, with_word};
 ghost use Rattle.mk_tool.specs.ScriptViews.{said_by, numbered, Explains};
 ghost use Rattle.mk_tool.specs.declared.script.ScriptError.TheVariants.{Memory};
 
 use crate::path::{parted, path};
+use crate::pieces::read_on;
+use crate::targets::{SPACE, Target, is_name, target_front, whole_target};
 use mk_line::cut;
 use std::alloc::{AllocError, AllocFailed, Global};
-
-const SPACE: u8 = b' ';
 
 const NUMBER_SIGN: u8 = b'#';
 
@@ -23,6 +23,44 @@ pub enum Word {
         path: Vec<u32>,
         top: bool,
         field: Vec<u8>,
+    },
+    /// `del PATH NAME K`.
+    Delete(Target),
+    /// `ren PATH NAME K NEW`.
+    Rename {
+        target: Target,
+        to: Vec<u8>,
+    },
+    /// `set PATH NAME K FIELD`. The field is still without its line ending.
+    Set {
+        target: Target,
+        field: Vec<u8>,
+    },
+    /// `body PATH PIECE`. Pieces count from 1.
+    Body {
+        path: Vec<u32>,
+        piece: u32,
+    },
+    /// `replace PATH PIECE`.
+    Replace {
+        path: Vec<u32>,
+        piece: u32,
+    },
+    /// `insert PATH PLACE PIECE`. So many parts stand before the new one.
+    Insert {
+        path: Vec<u32>,
+        place: u32,
+        piece: u32,
+    },
+    /// `remove PATH`.
+    Remove {
+        path: Vec<u32>,
+    },
+    /// `wrap PATH SUBTYPE BOUNDARY`.
+    Wrap {
+        path: Vec<u32>,
+        subtype: Vec<u8>,
+        boundary: Vec<u8>,
     },
     Undo,
     Redo,
@@ -59,11 +97,11 @@ impl<T: Drop> From<AllocFailed<T>> for ScriptError {
     }
 }
 
-/// Reads the words of a script. Empty lines, and those that begin with `#`, are skipped, but count
-/// in line numbers.
-pub fn words(alloc: Global, script: &[u8]) -> Result<Vec<NumberedWord>, ScriptError>
-    ensures read { IfOk result (λ all. script_of script.now ≡ Ok (map numbered all.items)) }
-    ensures refused { IfErr result (λ e. Explains e (script_of script.now)) }
+/// Reads the words of a script that is given so many pieces. Empty lines, and those that begin with `#`, are skipped,
+/// but count in line numbers.
+pub fn words(alloc: Global, script: &[u8], pieces: usize) -> Result<Vec<NumberedWord>, ScriptError>
+    ensures read { IfOk result (λ all. script_of pieces script.now ≡ Ok (map numbered all.items)) }
+    ensures refused { IfErr result (λ e. Explains e (script_of pieces script.now)) }
 {
     let mut all = Vec::new(alloc);
     let mut number = 0;
@@ -71,7 +109,7 @@ pub fn words(alloc: Global, script: &[u8]) -> Result<Vec<NumberedWord>, ScriptEr
     for line in cut(script) {
         number += 1;
         if !is_skipped(line.content) {
-            match read_word(alloc, line.content)? {
+            match read_word(alloc, line.content, pieces)? {
                 Some(word) => all.push(NumberedWord { number, word })?,
                 None => return Err(ScriptError::Syntax(number)),
             }
@@ -91,8 +129,8 @@ fn is_skipped(line: &[u8]) -> bool
 }
 
 // The word that a line says, or `None` where it is none.
-fn read_word(alloc: Global, line: &[u8]) -> Result<Option<Word>, AllocError>
-    ensures { IfOk result (λ word. option_map said_by word ≡ word_of line.now) }
+fn read_word(alloc: Global, line: &[u8], pieces: usize) -> Result<Option<Word>, AllocError>
+    ensures { IfOk result (λ word. option_map said_by word ≡ word_of pieces line.now) }
 {
     if line == b"undo".as_slice() {
         return Ok(Some(Word::Undo));
@@ -100,16 +138,84 @@ fn read_word(alloc: Global, line: &[u8]) -> Result<Option<Word>, AllocError>
     if line == b"redo".as_slice() {
         return Ok(Some(Word::Redo));
     }
-    let Some((name, rest)) = parted(line, SPACE) else {
-        return Ok(None);
-    };
+    match parted(line, SPACE) {
+        Some((name, rest)) => read_given(alloc, name, rest, pieces),
+        None => Ok(None),
+    }
+}
+
+// The word of a name that is given something.
+fn read_given(
+    alloc: Global,
+    name: &[u8],
+    rest: &[u8],
+    pieces: usize,
+) -> Result<Option<Word>, AllocError>
+    ensures { IfOk result (λ word. option_map said_by word ≡ word_with pieces (name.now, rest.now)) }
+{
     if name == b"add".as_slice() {
         return read_add(alloc, false, rest);
     }
     if name == b"top".as_slice() {
         return read_add(alloc, true, rest);
     }
-    Ok(None)
+    read_at(alloc, name, rest, pieces)
+}
+
+// The word of a name that changes a field which is there.
+fn read_at(
+    alloc: Global,
+    name: &[u8],
+    rest: &[u8],
+    pieces: usize,
+) -> Result<Option<Word>, AllocError>
+    ensures { IfOk result (λ word. option_map said_by word ≡ word_at pieces (name.now, rest.now)) }
+{
+    if name == b"del".as_slice() {
+        return read_delete(alloc, rest);
+    }
+    if name == b"ren".as_slice() {
+        return read_rename(alloc, rest);
+    }
+    if name == b"set".as_slice() {
+        return read_set(alloc, rest);
+    }
+    read_on(alloc, name, rest, pieces)
+}
+
+// The word that takes a field out, which is given the field.
+fn read_delete(alloc: Global, rest: &[u8]) -> Result<Option<Word>, AllocError>
+    ensures { IfOk result (λ word. option_map said_by word ≡ deleting rest.now) }
+{
+    match whole_target(alloc, rest)? {
+        Some(target) => Ok(Some(Word::Delete(target))),
+        None => Ok(None),
+    }
+}
+
+// The word for another name, which is given a field and that name.
+fn read_rename(alloc: Global, rest: &[u8]) -> Result<Option<Word>, AllocError>
+    ensures { IfOk result (λ word. option_map said_by word ≡ renaming rest.now) }
+{
+    let Some((target, to)) = target_front(alloc, rest)? else {
+        return Ok(None);
+    };
+    if !is_name(to) {
+        return Ok(None);
+    }
+    let to = Vec::from_slice(alloc, to)?;
+    Ok(Some(Word::Rename { target, to }))
+}
+
+// The word for another field, which is given a field and the one for its place.
+fn read_set(alloc: Global, rest: &[u8]) -> Result<Option<Word>, AllocError>
+    ensures { IfOk result (λ word. option_map said_by word ≡ setting rest.now) }
+{
+    let Some((target, field)) = target_front(alloc, rest)? else {
+        return Ok(None);
+    };
+    let field = Vec::from_slice(alloc, field)?;
+    Ok(Some(Word::Set { target, field }))
 }
 
 // The word for a new field, which is given a path and the field.

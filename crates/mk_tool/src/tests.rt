@@ -2,7 +2,9 @@
 
 mod devices;
 mod faults;
+mod fields;
 mod memory;
+mod pieces;
 mod shown;
 
 use crate::engine::run_edit;
@@ -158,11 +160,25 @@ const SIZES: [usize; 3] = [1, 7, 1_000];
 
 // Runs the case over devices that give and take so many bytes at once.
 fn check_case(rt: &impl Abort, alloc: Global, case: &Case, size: usize) -> Result<(), Fail> {
+    check_with(rt, alloc, case, &[], size)
+}
+
+// The same with pieces.
+fn check_with(
+    rt: &impl Abort,
+    alloc: Global,
+    case: &Case,
+    texts: &[&[u8]],
+    size: usize,
+) -> Result<(), Fail> {
     let shows = case.shows;
     let mut input = Text::new(case.message, size);
     let mut out = Page::new(alloc, size)?;
     let mut err = Page::new(alloc, size)?;
-    let pieces = Vec::new(alloc);
+    let mut pieces = Vec::new(alloc);
+    for text in texts {
+        pieces.push(Vec::from_slice(alloc, text)?)?;
+    }
     let status = run_edit(alloc, &mut input, &mut out, &mut err, case.script, &pieces);
     assert_eq!(rt; status, case.status, "{shows}");
     assert_eq!(rt; out.bytes(), case.output, "{shows}");
@@ -212,7 +228,7 @@ const SCRIPTS: [(&[u8], usize); 24] = [
 fn the_first_line_that_is_no_word_is_named(rt: HostRuntime) -> Result<(), Fail> {
     let alloc = rt.alloc();
     for (script, line) in SCRIPTS {
-        let found = match crate::script::words(alloc, script) {
+        let found = match crate::script::words(alloc, script, 0) {
             Ok(_) => 0,
             Err(crate::script::ScriptError::Syntax(number)) => number,
             Err(crate::script::ScriptError::Memory) => usize::MAX,

@@ -10,13 +10,16 @@ use crate::transfer::{Stop, read_all};
 use std::alloc::Global;
 use std::process::Abort;
 
-const MESSAGE: &[u8] = b"A: b\n\nx\n";
+const MESSAGE: &[u8] =
+    b"A: b\nContent-Type: multipart/mixed; boundary=\"a:b\"\n\n--a:b\n\nx\n--a:b--\n";
 
-const SCRIPT: &[u8] = b"undo\nadd 1 C: d\n";
+const SCRIPT: &[u8] =
+    b"add 1.1 --a:b\nadd 1 C: d\nset 1 A 1 E: f\nren 1 E 1 G\ndel 1 C 1\nundo\nredo\n";
 
-const OUTPUT: &[u8] = b"A: b\nC: d\n\nx\n";
+const OUTPUT: &[u8] =
+    b"G: f\nContent-Type: multipart/mixed; boundary=\"a:b\"\n\n--a:b\n\nx\n--a:b--\n";
 
-const ERRORS: &[u8] = b"line 1: NothingToUndo\n";
+const ERRORS: &[u8] = b"line 1: HoldsBoundary 1\n";
 
 const SIZE: usize = 1_000;
 
@@ -33,11 +36,11 @@ fn memory_for_a_path(rt: HostRuntime) {
 #[test]
 fn memory_for_words(rt: HostRuntime) {
     let alloc = rt.alloc();
-    match words(alloc, SCRIPT) {
-        Ok(all) => assert_eq!(rt; all.len(), 2),
+    match words(alloc, SCRIPT, 0) {
+        Ok(all) => assert_eq!(rt; all.len(), 7),
         Err(error) => {
             assert_eq!(rt; error, ScriptError::Memory);
-            assert!(rt; words(alloc, SCRIPT).is_ok());
+            assert!(rt; words(alloc, SCRIPT, 0).is_ok());
         }
     }
 }

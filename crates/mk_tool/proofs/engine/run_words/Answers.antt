@@ -1,8 +1,9 @@
 use Rattle.std.proofs.Common.{◌≡◌, if◌then◌else◌, map}
+use Rattle.std.proofs.KnownBytes.{Keeps-refl}
 use Rattle.mk_tool.specs.declared.status.Status.TheVariants.{Well, Refused}
 use Rattle.mk_tool.specs.RunClauses.{held}
-use Rattle.mk_tool.specs.ScriptViews.{numbered}
-use Rattle.mk_tool.proofs.RunLemmas.{Leaves-done}
+use Rattle.mk_tool.specs.ScriptViews.{numbered, texts_of}
+use Rattle.mk_tool.proofs.RunLemmas.{AppendsFront-none, Leaves-done, WritesFronts-unsent}
 use Rattle.mk_tool.proofs.engine.run_words.Goals as goal
 use Rattle.mk_tool.proofs.engine.run_words.Goals.{then-refused, else-refused}
 
@@ -18,6 +19,24 @@ returns-in-Ok-send-clause-leaves g c =
     let after = held (g.S.Source.remaining c.read_all.new.input) (g.O.Sink.contents c.send.new.out) (g.E.Sink.contents c.do_words.new.err) in (
       c.in-Ok.message.items,
       c.in-Ok.ensures.all,
-      Leaves-done words c.in-Ok.message.items c.text.result.now c.in-Ok-start.session c.do_words.new.session c.in-Ok-do_words.refused c.if-refused.result before after
+      Leaves-done (texts_of c.args.pieces.now) words c.in-Ok.message.items c.text.result.now c.in-Ok-start.session c.do_words.new.session c.in-Ok-do_words.refused c.if-refused.result before after
           c.in-Ok-start.ensures.ok done.done c.text.ensures.now done.refused status_is c.in-Ok.ensures.ended c.in-Ok-send.ensures.whole done.sends.whole,
+    )
+
+pub returns-in-Err-do_words-clause-leaves : goal.returns-in-Err-do_words-clause-leaves
+returns-in-Err-do_words-clause-leaves g c = (
+  c.in-Ok.message.items,
+  c.in-Ok.ensures.all,
+  record { output = AppendsFront-none _ _; errors = rw c.in-Ok-start.ensures.ok at c.in-Err-do_words.ensures.sends.front; silent = λ _. Keeps-refl _ },
+)
+
+pub returns-clause-leaves : goal.returns-clause-leaves
+returns-clause-leaves g c =
+    let done = c.in-Ok-do_words.ensures in
+    let before = held (g.S.Source.remaining c.args.input.now) (g.O.Sink.contents c.args.out.now) (g.E.Sink.contents c.args.err.now) in
+    let after = held (g.S.Source.remaining c.read_all.new.input) (g.O.Sink.contents c.send.new.out) (g.E.Sink.contents c.do_words.new.err) in (
+      c.in-Ok.message.items,
+      c.in-Ok.ensures.all,
+      WritesFronts-unsent (texts_of c.args.pieces.now) (map numbered c.args.words.items) c.in-Ok.message.items c.text.result.now c.in-Ok-start.session c.do_words.new.session c.in-Err-send.stop c.writing-in-Err-send.result before after
+          c.writing-in-Err-send.ensures c.in-Ok-start.ensures.ok done.done c.text.ensures.now c.in-Err-send.ensures.front done.sends.whole,
     )

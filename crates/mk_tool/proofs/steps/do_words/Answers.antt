@@ -1,8 +1,8 @@
 use Rattle.std.proofs.Common.{◌++◌, ◌∙◌, map, ap, sym, append_assoc}
 use Rattle.std.proofs.lemmas.Result.{err_from_is_err_and}
 use Rattle.std.proofs.KnownBytes.{Appends-trans}
-use Rattle.mk_tool.specs.Runs.{report_of, outcome_of, errors_of, history_after}
-use Rattle.mk_tool.specs.ScriptViews.{said_by, numbered}
+use Rattle.mk_tool.specs.Runs.{reported, errors_of, history_after}
+use Rattle.mk_tool.specs.ScriptViews.{said_by, numbered, texts_of}
 use Rattle.mk_tool.proofs.Fronts.{AppendsFront-behind, not-is_nil-append}
 use Rattle.mk_tool.proofs.steps.do_words.Goals as goal
 
@@ -11,7 +11,7 @@ returns-in_err-refused-clause-sends g c =
     let stopped = err_from_is_err_and c.from_residual.result c.from_residual.ensures.1 in
     let sent = c.loop-word.invariant.sent in
     let part = c.in_err-refused.ensures.sends in
-    let rest = ap (λ items. sent.0 ++ errors_of (map numbered items) c.loop-word.session) c.in-Some.ensures.steps.0 in
+    let rest = ap (λ items. sent.0 ++ errors_of (texts_of c.args.pieces.now) (map numbered items) c.loop-word.session) c.in-Some.ensures.steps.0 in
     rw (stopped.1, stopped.2) (record {
       front = AppendsFront-behind _ _ _ sent.0 _ _ _ sent.2 part.front (sent.1 ∙ rest);
       fault = λ h. rw c.loop-word.invariant.well at (part.fault h);
@@ -24,12 +24,12 @@ loop-word-preserved g c =
     let part = c.in_ok-refused.ensures.sends in
     let items = c.in-Some.ensures.steps.0 in
     let word = c.in-Some.word in
-    let report = report_of word.number (outcome_of (said_by word.word) c.loop-word.session) in
+    let report = reported (texts_of c.args.pieces.now) word.number (said_by word.word) c.loop-word.session in
     record {
-      done = rw c.in_ok-refused.ensures.done (sym (ap (λ words. history_after (map numbered words) c.loop-word.session) items) ∙ c.loop-word.invariant.done);
+      done = rw c.in_ok-refused.ensures.done (sym (ap (λ words. history_after (texts_of c.args.pieces.now) (map numbered words) c.loop-word.session) items) ∙ c.loop-word.invariant.done);
       sent = (
         sent.0 ++ report,
-        rw c.in_ok-refused.ensures.done (sent.1 ∙ ap (λ words. sent.0 ++ errors_of (map numbered words) c.loop-word.session) items ∙ sym (append_assoc sent.0 report _)),
+        rw c.in_ok-refused.ensures.done (sent.1 ∙ ap (λ words. sent.0 ++ errors_of (texts_of c.args.pieces.now) (map numbered words) c.loop-word.session) items ∙ sym (append_assoc sent.0 report _)),
         Appends-trans _ _ _ sent.0 report sent.2 part.whole,
         rw (sent.3, c.in_ok-refused.ensures.refused) (sym (not-is_nil-append sent.0 report)),
       );

@@ -3,13 +3,13 @@ use Rattle.std.specs.Vec.Iter.{into_iter_items}
 use Rattle.std.specs.Io.KnownBytes.{Appends}
 use Rattle.mk_line.specs.Lines.{is_nil}
 use Rattle.mk_tool.specs.Runs.{history_after, errors_of}
-use Rattle.mk_tool.specs.ScriptViews.{numbered}
+use Rattle.mk_tool.specs.ScriptViews.{numbered, texts_of}
 use Rattle.mk_tool.proofs.steps.do_words.Given as goal
 
 abbrev pub invariant-loop-word : goal.invariant-loop-word
 invariant-loop-word g l = record {
-  done : history_after (map numbered (into_iter_items l.word-iterator)) l.session ≡ history_after (map numbered l.fn.words.items) l.fn.session;
-  sent : (front : List ℕ) × (errors_of (map numbered l.fn.words.items) l.fn.session ≡ front ++ errors_of (map numbered (into_iter_items l.word-iterator)) l.session)
+  done : history_after (texts_of l.pieces) (map numbered (into_iter_items l.word-iterator)) l.session ≡ history_after (texts_of l.pieces) (map numbered l.fn.words.items) l.fn.session;
+  sent : (front : List ℕ) × (errors_of (texts_of l.pieces) (map numbered l.fn.words.items) l.fn.session ≡ front ++ errors_of (texts_of l.pieces) (map numbered (into_iter_items l.word-iterator)) l.session)
       × Appends (g.E.Sink.contents l.fn.err) (g.E.Sink.contents l.err) front × (l.refused ≡ not (is_nil front));
   well : g.E.Sink.failures l.err ≡ g.E.Sink.failures l.fn.err;
 }

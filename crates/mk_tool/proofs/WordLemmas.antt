@@ -1,0 +1,140 @@
+-- The words of a script, as they are written.
+use Rattle.std.proofs.Common.{◌≡◌, ℕ, Bool, true, false, if◌then◌else◌, List, ◌∷◌, ◌++◌, Some, None, Option, codes, decimal, refl, ap, ◌∙◌, subst, inl, inr, arith}
+use Rattle.std.proofs.lemmas.Bool.{cases_Bool}
+use Rattle.std.proofs.lemmas.Slice.Eq.{bytes_eq-Decides}
+use Rattle.std.specs.Option.{option_map, option_and_then}
+use Rattle.std.specs.Str.{bytes_eq}
+use Rattle.mk_line.specs.Ascii.{space}
+use Rattle.mk_tool.specs.Paths.{parted, path_of}
+use Rattle.mk_tool.specs.Targets.{Target, is_name, whole_target, target_front}
+use Rattle.mk_tool.specs.Script.{ScriptWord, Adds, Deletes, Renames, Sets, Bodies, Replaces, Inserts, Removes, Wraps, Undoes, Redoes, adding, deleting, renaming, setting, word_at, word_with, word_of}
+use Rattle.mk_tool.specs.Written.{IsPath, written_path, written_target, written_place, IsWord, written}
+use Rattle.mk_tool.proofs.NumberLemmas.{some_same, none_some}
+use Rattle.mk_tool.proofs.PieceLemmas.{HoldsNo, parted-append, parted-joined}
+use Rattle.mk_tool.proofs.WrittenLemmas.{path_of-decimal, path_of-written}
+use Rattle.mk_tool.proofs.PieceWords.{named, word_on-parts, placing-written, inserting-written, wrapping-written}
+use Rattle.mk_tool.proofs.TargetLemmas.{and_then-some, map-some, path_holds, whole_target-read, whole_target-written, target_front-read, target_front-written}
+
+-- the name of a word that adds a field
+abbrev name_of : Bool → List ℕ
+name_of top = if top then codes "top" else codes "add"
+
+adding-path : (count : ℕ) (top : Bool) (rest : List ℕ) (word : ScriptWord) (p : List ℕ × List ℕ) (path : Option (List ℕ))
+    → rest ≡ p.0 ++ (space ∷ p.1) → path_of p.0 ≡ path → option_map (λ numbers. Adds numbers top p.1) path ≡ Some word
+    → IsWord count word × (name_of top ++ (space ∷ rest) ≡ written word)
+adding-path count top rest word p None parts e said = absurd (none_some said)
+adding-path count top rest word p (Some path) parts e said =
+    let same : Adds path top p.1 ≡ word = some_same said in
+    let read = path_of-decimal p.0 path e in
+    let is : rest ≡ written_path path ++ (space ∷ p.1) = parts ∙ ap (λ front. front ++ (space ∷ p.1)) read.1 in
+    subst (λ w. IsWord count w × (name_of top ++ (space ∷ rest) ≡ written w)) same (read.0, ap (λ l. name_of top ++ (space ∷ l)) is)
+
+adding-parts : (count : ℕ) (top : Bool) (rest : List ℕ) (word : ScriptWord) (parts : Option (List ℕ × List ℕ))
+    → parted space rest ≡ parts → option_and_then (λ p. option_map (λ path. Adds path top p.1) (path_of p.0)) parts ≡ Some word
+    → IsWord count word × (name_of top ++ (space ∷ rest) ≡ written word)
+adding-parts count top rest word None e said = absurd (none_some said)
+adding-parts count top rest word (Some p) e said = adding-path count top rest word p (path_of p.0) (parted-joined space rest p e) refl said
+
+deleting-read : (count : ℕ) (rest : List ℕ) (word : ScriptWord) → deleting rest ≡ Some word → IsWord count word × (codes "del" ++ (space ∷ rest) ≡ written word)
+deleting-read count rest word said =
+    let found = map-some (λ target. Deletes target) (whole_target rest) word said in
+    let read = whole_target-read rest found.0 found.1 in
+    subst (λ w. IsWord count w × (codes "del" ++ (space ∷ rest) ≡ written w)) found.2 (read.0, ap (λ l. codes "del" ++ (space ∷ l)) read.1)
+
+renaming-read : (count : ℕ) (rest : List ℕ) (word : ScriptWord) → renaming rest ≡ Some word → IsWord count word × (codes "ren" ++ (space ∷ rest) ≡ written word)
+renaming-read count rest word said =
+    let found = and_then-some (λ (p : Target × List ℕ). if is_name p.1 then Some (Renames p.0 p.1) else None) (target_front rest) word said in
+    elim (cases_Bool (is_name found.0.1)) [
+      | inr f ↦ absurd (none_some (rw f at found.2))
+      | inl t ↦
+          let same : Renames found.0.0 found.0.1 ≡ word = some_same (rw t at found.2) in
+          let read = target_front-read rest found.0 found.1 in
+          subst (λ w. IsWord count w × (codes "ren" ++ (space ∷ rest) ≡ written w)) same ((read.0, t), ap (λ l. codes "ren" ++ (space ∷ l)) read.1)
+    ]
+
+setting-read : (count : ℕ) (rest : List ℕ) (word : ScriptWord) → setting rest ≡ Some word → IsWord count word × (codes "set" ++ (space ∷ rest) ≡ written word)
+setting-read count rest word said =
+    let found = map-some (λ (p : Target × List ℕ). Sets p.0 p.1) (target_front rest) word said in
+    let read = target_front-read rest found.0 found.1 in
+    subst (λ w. IsWord count w × (codes "set" ++ (space ∷ rest) ≡ written w)) found.2 (read.0, ap (λ l. codes "set" ++ (space ∷ l)) read.1)
+
+word_at-parts : (count : ℕ) (line : List ℕ) (word : ScriptWord) (p : List ℕ × List ℕ) → line ≡ p.0 ++ (space ∷ p.1) → word_at count p ≡ Some word
+    → IsWord count word × (line ≡ written word)
+word_at-parts count line word p parts said = elim (cases_Bool (bytes_eq p.0 (codes "del"))) [
+  | inl del ↦ let read = deleting-read count p.1 word (rw del at said) in (read.0, named (codes "del") line word p parts del read.1)
+  | inr other ↦ elim (cases_Bool (bytes_eq p.0 (codes "ren"))) [
+    | inl ren ↦ let read = renaming-read count p.1 word (rw (other, ren) at said) in (read.0, named (codes "ren") line word p parts ren read.1)
+    | inr neither ↦ elim (cases_Bool (bytes_eq p.0 (codes "set"))) [
+      | inl set ↦ let read = setting-read count p.1 word (rw (other, neither, set) at said) in (read.0, named (codes "set") line word p parts set read.1)
+      | inr none ↦ word_on-parts count line word p parts (rw (other, neither, none) at said)
+    ]
+  ]
+]
+
+word_with-parts : (count : ℕ) (line : List ℕ) (word : ScriptWord) (p : List ℕ × List ℕ) → line ≡ p.0 ++ (space ∷ p.1) → word_with count p ≡ Some word
+    → IsWord count word × (line ≡ written word)
+word_with-parts count line word p parts said = elim (cases_Bool (bytes_eq p.0 (codes "add"))) [
+  | inl add ↦ let read = adding-parts count false p.1 word (parted space p.1) refl (rw add at said) in (read.0, named (codes "add") line word p parts add read.1)
+  | inr other ↦ elim (cases_Bool (bytes_eq p.0 (codes "top"))) [
+    | inl top ↦ let read = adding-parts count true p.1 word (parted space p.1) refl (rw (other, top) at said) in (read.0, named (codes "top") line word p parts top read.1)
+    | inr neither ↦ word_at-parts count line word p parts (rw (other, neither) at said)
+  ]
+]
+
+word_of-parts : (count : ℕ) (line : List ℕ) (word : ScriptWord) (parts : Option (List ℕ × List ℕ)) → parted space line ≡ parts
+    → option_and_then (word_with count) parts ≡ Some word → IsWord count word × (line ≡ written word)
+word_of-parts count line word None e said = absurd (none_some said)
+word_of-parts count line word (Some p) e said = word_with-parts count line word p (parted-joined space line p e) said
+
+-- a word that a line says is one, and the line is the word as it is written
+pub word_of-read : (count : ℕ) (line : List ℕ) (word : ScriptWord) → word_of count line ≡ Some word → IsWord count word × (line ≡ written word)
+word_of-read count line word said = elim (cases_Bool (bytes_eq line (codes "undo"))) [
+  | inl undo ↦
+      let same : Undoes ≡ word = some_same (rw undo at said) in
+      subst (λ w. IsWord count w × (line ≡ written w)) same (tt, (bytes_eq-Decides line (codes "undo")).0 undo)
+  | inr other ↦ elim (cases_Bool (bytes_eq line (codes "redo"))) [
+    | inl redo ↦
+        let same : Redoes ≡ word = some_same (rw (other, redo) at said) in
+        subst (λ w. IsWord count w × (line ≡ written w)) same (tt, (bytes_eq-Decides line (codes "redo")).0 redo)
+    | inr neither ↦ word_of-parts count line word (parted space line) refl (rw (other, neither) at said)
+  ]
+]
+
+adding-written : (top : Bool) (path field : List ℕ) → IsPath path → adding top (written_path path ++ (space ∷ field)) ≡ Some (Adds path top field)
+adding-written top path field h =
+    rw (parted-append space (written_path path) field (path_holds path h), path_of-written path h) refl
+
+-- a word that is written is said by the line
+pub word_of-written : (count : ℕ) (word : ScriptWord) → IsWord count word → word_of count (written word) ≡ Some word
+word_of-written count Undoes h = refl
+word_of-written count Redoes h = refl
+word_of-written count (Adds path false field) h =
+    let name : HoldsNo space (codes "add") = ((λ e. omega arith), ((λ e. omega arith), ((λ e. omega arith), tt))) in
+    rw (parted-append space (codes "add") (written_path path ++ (space ∷ field)) name) (adding-written false path field h)
+word_of-written count (Adds path true field) h =
+    let name : HoldsNo space (codes "top") = ((λ e. omega arith), ((λ e. omega arith), ((λ e. omega arith), tt))) in
+    rw (parted-append space (codes "top") (written_path path ++ (space ∷ field)) name) (adding-written true path field h)
+word_of-written count (Deletes target) h =
+    let name : HoldsNo space (codes "del") = ((λ e. omega arith), ((λ e. omega arith), ((λ e. omega arith), tt))) in
+    rw (parted-append space (codes "del") (written_target target) name, whole_target-written target h) refl
+word_of-written count (Renames target to) h =
+    let name : HoldsNo space (codes "ren") = ((λ e. omega arith), ((λ e. omega arith), ((λ e. omega arith), tt))) in
+    rw (parted-append space (codes "ren") (written_target target ++ (space ∷ to)) name, target_front-written target to h.0, h.1) refl
+word_of-written count (Sets target field) h =
+    let name : HoldsNo space (codes "set") = ((λ e. omega arith), ((λ e. omega arith), ((λ e. omega arith), tt))) in
+    rw (parted-append space (codes "set") (written_target target ++ (space ∷ field)) name, target_front-written target field h) refl
+word_of-written count (Bodies path piece) h =
+    let name : HoldsNo space (codes "body") = ((λ e. omega arith), ((λ e. omega arith), ((λ e. omega arith), ((λ e. omega arith), tt)))) in
+    rw (parted-append space (codes "body") (written_place path piece) name) (placing-written count (λ p k. Bodies p k) path piece h.0 h.1)
+word_of-written count (Replaces path piece) h =
+    let name : HoldsNo space (codes "replace") = ((λ e. omega arith), ((λ e. omega arith), ((λ e. omega arith), ((λ e. omega arith), ((λ e. omega arith), ((λ e. omega arith), ((λ e. omega arith), tt))))))) in
+    rw (parted-append space (codes "replace") (written_place path piece) name) (placing-written count (λ p k. Replaces p k) path piece h.0 h.1)
+word_of-written count (Inserts path place piece) h =
+    let name : HoldsNo space (codes "insert") = ((λ e. omega arith), ((λ e. omega arith), ((λ e. omega arith), ((λ e. omega arith), ((λ e. omega arith), ((λ e. omega arith), tt)))))) in
+    rw (parted-append space (codes "insert") (written_path path ++ (space ∷ (decimal place ++ (space ∷ decimal piece)))) name) (inserting-written count path place piece h.0 h.1 h.2)
+word_of-written count (Removes path) h =
+    let name : HoldsNo space (codes "remove") = ((λ e. omega arith), ((λ e. omega arith), ((λ e. omega arith), ((λ e. omega arith), ((λ e. omega arith), ((λ e. omega arith), tt)))))) in
+    rw (parted-append space (codes "remove") (written_path path) name, path_of-written path h) refl
+word_of-written count (Wraps path subtype boundary) h =
+    let name : HoldsNo space (codes "wrap") = ((λ e. omega arith), ((λ e. omega arith), ((λ e. omega arith), ((λ e. omega arith), tt)))) in
+    rw (parted-append space (codes "wrap") (written_path path ++ (space ∷ (subtype ++ (space ∷ boundary)))) name) (wrapping-written path subtype boundary h.0 h.1)

@@ -1,0 +1,139 @@
+//! Words of a script that change more than fields, most by a piece: a text that the script names by its number (own).
+
+ghost use Rattle.std.specs.Prelude.{◌≡◌, IfOk, IfSome};
+ghost use Rattle.std.specs.Option.{option_map};
+ghost use Rattle.mk_tool.specs.Script.{inserting, piece_of, placing, removing, word_on, wrapping, Bodies, Replaces};
+ghost use Rattle.mk_tool.specs.ScriptViews.{said_by};
+
+use crate::path::{count, number, parted, path};
+use crate::script::Word;
+use crate::targets::{SPACE, is_name};
+use std::alloc::{AllocError, Global};
+
+/// The word of a name that changes more than fields, where the script is given so many pieces.
+pub fn read_on(
+    alloc: Global,
+    name: &[u8],
+    rest: &[u8],
+    pieces: usize,
+) -> Result<Option<Word>, AllocError>
+    ensures { IfOk result (λ word. option_map said_by word ≡ word_on pieces (name.now, rest.now)) }
+{
+    if name == b"body".as_slice() {
+        return read_body(alloc, rest, pieces);
+    }
+    if name == b"replace".as_slice() {
+        return read_replace(alloc, rest, pieces);
+    }
+    if name == b"insert".as_slice() {
+        return read_insert(alloc, rest, pieces);
+    }
+    if name == b"remove".as_slice() {
+        return read_remove(alloc, rest);
+    }
+    if name == b"wrap".as_slice() {
+        return read_wrap(alloc, rest);
+    }
+    Ok(None)
+}
+
+// The number of a piece, from 1 on, where there are so many.
+fn piece(text: &[u8], pieces: usize) -> Option<u32>
+    ensures { result ≡ piece_of pieces text.now }
+{
+    let number = number(text)?;
+    if number as usize <= pieces {
+        Some(number)
+    } else {
+        None
+    }
+}
+
+// The word for another body, which is given a path and a piece.
+fn read_body(alloc: Global, rest: &[u8], pieces: usize) -> Result<Option<Word>, AllocError>
+    ensures { IfOk result (λ word. option_map said_by word ≡ placing pieces (λ path piece. Bodies path piece) rest.now) }
+{
+    let Some((place, number)) = parted(rest, SPACE) else {
+        return Ok(None);
+    };
+    let Some(path) = path(alloc, place)? else {
+        return Ok(None);
+    };
+    match piece(number, pieces) {
+        Some(piece) => Ok(Some(Word::Body { path, piece })),
+        None => Ok(None),
+    }
+}
+
+// The word for another section, which is given a path and a piece.
+fn read_replace(alloc: Global, rest: &[u8], pieces: usize) -> Result<Option<Word>, AllocError>
+    ensures { IfOk result (λ word. option_map said_by word ≡ placing pieces (λ path piece. Replaces path piece) rest.now) }
+{
+    let Some((place, number)) = parted(rest, SPACE) else {
+        return Ok(None);
+    };
+    let Some(path) = path(alloc, place)? else {
+        return Ok(None);
+    };
+    match piece(number, pieces) {
+        Some(piece) => Ok(Some(Word::Replace { path, piece })),
+        None => Ok(None),
+    }
+}
+
+// The word for a part more, which is given a path, a place and a piece.
+fn read_insert(alloc: Global, rest: &[u8], pieces: usize) -> Result<Option<Word>, AllocError>
+    ensures { IfOk result (λ word. option_map said_by word ≡ inserting pieces rest.now) }
+{
+    let Some((place, more)) = parted(rest, SPACE) else {
+        return Ok(None);
+    };
+    let Some(path) = path(alloc, place)? else {
+        return Ok(None);
+    };
+    let Some((before, number)) = parted(more, SPACE) else {
+        return Ok(None);
+    };
+    let Some(place) = count(before) else {
+        return Ok(None);
+    };
+    match piece(number, pieces) {
+        Some(piece) => Ok(Some(Word::Insert { path, place, piece })),
+        None => Ok(None),
+    }
+}
+
+// The word that takes a part out, which is given its path.
+fn read_remove(alloc: Global, rest: &[u8]) -> Result<Option<Word>, AllocError>
+    ensures { IfOk result (λ word. option_map said_by word ≡ removing rest.now) }
+{
+    match path(alloc, rest)? {
+        Some(path) => Ok(Some(Word::Remove { path })),
+        None => Ok(None),
+    }
+}
+
+// The word that wraps a section, which is given its path, a subtype and a boundary.
+fn read_wrap(alloc: Global, rest: &[u8]) -> Result<Option<Word>, AllocError>
+    ensures { IfOk result (λ word. option_map said_by word ≡ wrapping rest.now) }
+{
+    let Some((place, more)) = parted(rest, SPACE) else {
+        return Ok(None);
+    };
+    let Some(path) = path(alloc, place)? else {
+        return Ok(None);
+    };
+    let Some((subtype, boundary)) = parted(more, SPACE) else {
+        return Ok(None);
+    };
+    if !is_name(subtype) {
+        return Ok(None);
+    }
+    let subtype = Vec::from_slice(alloc, subtype)?;
+    let boundary = Vec::from_slice(alloc, boundary)?;
+    Ok(Some(Word::Wrap {
+        path,
+        subtype,
+        boundary,
+    }))
+}

@@ -1,0 +1,81 @@
+//! How a script picks a field (own).
+
+ghost use Rattle.std.specs.Prelude.{◌≡◌, IfOk};
+ghost use Rattle.std.specs.Option.{option_map};
+ghost use Rattle.mk_tool.specs.ScriptViews.{picked_by};
+ghost use Rattle.mk_tool.specs.Targets.{is_name as names, target_of, whole_target as whole_of, target_front as front_of};
+
+use crate::path::{count, parted, path};
+use std::alloc::{AllocError, Global};
+
+/// What parts the words of a line.
+pub const SPACE: u8 = b' ';
+
+/// A field of the section at a path: the k-th of a name, counted from 1.
+#[derive(Debug, PartialEq, Eq, Drop)]
+pub struct Target {
+    pub path: Vec<u32>,
+    pub name: Vec<u8>,
+    pub k: u32,
+}
+
+/// Whether the text may be a name in a line: it isn't empty and holds no space.
+pub fn is_name(text: &[u8]) -> bool
+    ensures { result ≡ names text.now }
+{
+    !text.is_empty() && !text.contains(&SPACE)
+}
+
+/// The field that a whole text picks.
+pub fn whole_target(alloc: Global, text: &[u8]) -> Result<Option<Target>, AllocError>
+    ensures { IfOk result (λ target. option_map picked_by target ≡ whole_of text.now) }
+{
+    let Some((place, more)) = parted(text, SPACE) else {
+        return Ok(None);
+    };
+    let Some((name, number)) = parted(more, SPACE) else {
+        return Ok(None);
+    };
+    picked(alloc, place, name, number)
+}
+
+/// The field that the front of a text picks, and what stands behind it.
+pub fn target_front(alloc: Global, text: &[u8]) -> Result<Option<(Target, &[u8])>, AllocError>
+    ensures { IfOk result (λ front. option_map (λ p. (picked_by p.0, p.1.now)) front ≡ front_of text.now) }
+{
+    let Some((place, more)) = parted(text, SPACE) else {
+        return Ok(None);
+    };
+    let Some((name, more)) = parted(more, SPACE) else {
+        return Ok(None);
+    };
+    let Some((number, rest)) = parted(more, SPACE) else {
+        return Ok(None);
+    };
+    match picked(alloc, place, name, number)? {
+        Some(target) => Ok(Some((target, rest))),
+        None => Ok(None),
+    }
+}
+
+// The field that the texts of a path, a name and a number pick.
+fn picked(
+    alloc: Global,
+    place: &[u8],
+    name: &[u8],
+    number: &[u8],
+) -> Result<Option<Target>, AllocError>
+    ensures { IfOk result (λ target. option_map picked_by target ≡ target_of place.now name.now number.now) }
+{
+    let Some(path) = path(alloc, place)? else {
+        return Ok(None);
+    };
+    if !is_name(name) {
+        return Ok(None);
+    }
+    let Some(k) = count(number) else {
+        return Ok(None);
+    };
+    let name = Vec::from_slice(alloc, name)?;
+    Ok(Some(Target { path, name, k }))
+}
