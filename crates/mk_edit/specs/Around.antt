@@ -24,6 +24,7 @@ glues (leaf h ls) = false
 glues (message h e) = not (has_separator h.separator)
 glues (multi h b pre ps t) = false
 
+-- what holds of a section, where there is one
 abbrev pub or_false : (Placed → Bool) → Option Placed → Bool
 or_false f None = false
 or_false f (Some p) = f p

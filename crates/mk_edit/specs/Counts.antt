@@ -52,6 +52,7 @@ abbrev pub planned_lines : PlainEdit → Bool → Entity → Result Plan Refusal
 planned_lines e digest s (Ok p) = length p.given + section_lines e digest s p
 planned_lines e digest s (Err r) = given_lines e + length (field_lines s)
 
+-- of an edit at a place, where it is there
 abbrev pub place_lines : PlainEdit → Ending → Option (List Frame × Entity) → ℕ
 place_lines e eol None = given_lines e
 place_lines e eol (Some q) = planned_lines e (default_at false q.0) q.1 (plan_at e eol q.0 q.1)

@@ -44,10 +44,12 @@ name_put to f = record {
   kept = behind_name f.start.content ++ ending_bytes f.start.ending;
 }
 
+-- what is put, unless a reason holds
 abbrev pub put_unless : Bool → Refusal → LinePut → Result LinePut Refusal
 put_unless true e p = Err e
 put_unless false e p = Ok p
 
+-- what is put for a field that is found
 abbrev pub put_found : Option Found → (Found → Result LinePut Refusal) → Result LinePut Refusal
 put_found None f = Err NoSuchField
 put_found (Some x) f = f x
@@ -56,15 +58,19 @@ put_found (Some x) f = f x
 abbrev pub adds : Bool → List ℕ → List TextLine → Result LinePut Refusal
 adds top text fields = put_unless (not (is_one_field (cut text))) BadField (add_put top (cut text) fields)
 
+-- nothing in the place of a field
 abbrev pub removes : Option Found → Result LinePut Refusal
 removes o = put_found o (λ f. Ok (set_put [] f))
 
+-- another name in the place of its own
 abbrev pub renames : List ℕ → Option Found → Result LinePut Refusal
 renames to o = put_found o (λ f. put_unless (not (is_name to)) BadName (name_put to f))
 
+-- a field in the place of another
 abbrev pub sets : List ℕ → Option Found → Result LinePut Refusal
 sets text o = put_found o (λ f. put_unless (not (is_one_field (cut text))) BadField (set_put (cut text) f))
 
+-- what each edit puts
 abbrev pub puts : FieldEdit → List TextLine → Result LinePut Refusal
 puts (Add top text) fields = adds top text.now fields
 puts (Remove name k) fields = removes (field_at name.now k fields)
@@ -78,6 +84,7 @@ pub record PutsLines (r : Put) (p : LinePut) : Type 0 where
   pub lines : r.lines.items ≡ text_of p.given
   pub kept : r.kept ≡ length p.kept
 
+-- what is put in memory is this
 abbrev pub IsPut : Put → Result LinePut Refusal → Type 0
 IsPut r (Ok p) = PutsLines r p
 IsPut r (Err e) = ⊥
@@ -89,6 +96,7 @@ placed_field name k place (f ∷ fs) =
     if is_named name f then (if k == 1 then Some (place, f) else placed_field name (k - 1) (place + length f.raw) fs)
     else placed_field name k (place + length f.raw) fs
 
+-- how many bytes the first line has
 abbrev pub first_line_size : List TextLine → ℕ
 first_line_size [] = 0
 first_line_size (l ∷ ls) = length (printed_line l)

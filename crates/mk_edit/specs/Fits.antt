@@ -18,13 +18,16 @@ abbrev pub texts_behind : List ℕ → List (List Splice) → List (List ℕ)
 texts_behind x [] = []
 texts_behind x (s ∷ ss) = forth_step s x ∷ texts_behind (forth_step s x) ss
 
+-- the same with the first text
 abbrev pub texts_from : List ℕ → List (List Splice) → List (List ℕ)
 texts_from x ss = x ∷ texts_behind x ss
 
+-- each step can be taken back, from the last to the first
 abbrev pub AllBack : List (List Splice) → List ℕ → Type 0
 AllBack [] x = Unit {0}
 AllBack (s ∷ ss) x = AllBack ss x × GoesBack s (back_all ss x)
 
+-- each step can be made, from the first to the last
 abbrev pub AllForth : List (List Splice) → List ℕ → Type 0
 AllForth [] x = Unit {0}
 AllForth (s ∷ ss) x = GoesForth s x × AllForth ss (forth_step s x)

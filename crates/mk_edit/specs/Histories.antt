@@ -50,6 +50,7 @@ abbrev pub left_by : History → Result History Refusal → History
 left_by h (Ok g) = g
 left_by h (Err e) = h
 
+-- what an order leaves
 abbrev pub after : Order → History → History
 after o h = left_by h (step o h)
 
@@ -63,6 +64,7 @@ abbrev pub replies : List Order → History → List (Option Refusal)
 replies [] h = []
 replies (o ∷ os) h = refusal (step o h) ∷ replies os (after o h)
 
+-- what orders leave, one after another
 abbrev pub after_all : List Order → History → History
 after_all [] h = h
 after_all (o ∷ os) h = after_all os (after o h)
@@ -72,6 +74,7 @@ abbrev pub next_by : (History → Option History) → Result History Refusal →
 next_by f (Ok h) = f h
 next_by f (Err e) = None
 
+-- the history after an order given so often
 abbrev pub repeated : ℕ → Order → History → Option History
 repeated zero o h = Some h
 repeated (suc n) o h = next_by (repeated n o) (step o h)

@@ -61,6 +61,7 @@ kept_below level Leaf p = true
 kept_below level Message p = true
 kept_below level (Multi c digest) p = parts_keep level digest p
 
+-- a section of this kind stays of it, and its parts of theirs
 abbrev pub kept_as : ℕ → Kind → Placed → Bool
 kept_as level k p = if is_alike k p.entity then kept_below (level + 1) k p else false
 
@@ -68,11 +69,13 @@ kept_as level k p = if is_alike k p.entity then kept_below (level + 1) k p else 
 abbrev pub keeps_kinds : ℕ → List ℕ → Placed → Bool
 keeps_kinds level head p = if nat_lt levels level then true else kept_as level (kind (fields_in head) p.digest) p
 
+-- how many lines of the parts are looked at, by the kind that fields say
 abbrev pub lines_below : Kind → Placed → ℕ
 lines_below Leaf p = 0
 lines_below Message p = 0
 lines_below (Multi c digest) p = lines_of_others digest (children p)
 
+-- the same, where the section stays of its kind
 abbrev pub lines_alike : Kind → Placed → ℕ
 lines_alike k p = if is_alike k p.entity then lines_below k p else 0
 

@@ -15,6 +15,7 @@ pub record Restores (text : List ℕ) (h : History) : Type 0 where
   pub is_first : text_now first ≡ text
   pub redone : repeated h.place Redo first ≡ Some h
 
+-- this holds of every text and every list of orders
 abbrev pub UndoingRestores : Type 0
 UndoingRestores = (text : List ℕ) (orders : List Order) → Restores text (after_all orders (started text))
 

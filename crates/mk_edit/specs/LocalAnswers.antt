@@ -38,10 +38,12 @@ fits_at t numbers p head =
     if glued_below false numbers (root_of t) then false
     else (if ends_there (is_nil head) (is_first numbers p.start) (entity_head p.entity).separator (cut (body_text p)) then keeps_kinds (length numbers + 1) head p else false)
 
+-- the splice, where what is made is read back
 abbrev pub unless_recut : Bool → PlainSplice → Result PlainSplice Refusal
 unless_recut true s = Ok s
 unless_recut false s = Err Recut
 
+-- what follows, where no multipart is hit
 abbrev pub unless_held : Option ℕ → Result PlainSplice Refusal → Result PlainSplice Refusal
 unless_held None r = r
 unless_held (Some level) r = Err (HoldsBoundary level)
@@ -59,9 +61,11 @@ answer_bytes text numbers p from count lines kept =
     (unless_recut (fits_at (tree text) numbers p (spliced from count lines (head_text p)))
     (record { place = p.start + from; count = count - kept; new = take (length lines - kept) lines }))
 
+-- the answer for lines put among those of a head
 abbrev pub answer_put : List ℕ → List ℕ → Placed → LinePut → Result PlainSplice Refusal
 answer_put text numbers p q = answer_bytes text numbers p (size q.before) (size q.old) (text_of q.given) (length q.kept)
 
+-- the same, or the first reason against the edit
 abbrev pub answer_puts : List ℕ → List ℕ → Placed → Result LinePut Refusal → Result PlainSplice Refusal
 answer_puts text numbers p (Ok q) = answer_put text numbers p q
 answer_puts text numbers p (Err e) = Err e
@@ -70,14 +74,17 @@ answer_puts text numbers p (Err e) = Err e
 abbrev pub answer_at : List ℕ → List ℕ → FieldEdit → Placed → Result PlainSplice Refusal
 answer_at text numbers edit p = answer_puts text numbers p (puts edit (cut (head_text p)))
 
+-- the numbers behind the first
 abbrev pub behind_first : List ℕ → List ℕ
 behind_first [] = []
 behind_first (k ∷ ks) = ks
 
+-- the answer at a section, where it is there
 abbrev pub answer_found : List ℕ → List ℕ → FieldEdit → Option Placed → Result PlainSplice Refusal
 answer_found text path edit None = Err NoSuchSection
 answer_found text path edit (Some p) = answer_at text (behind_first path) edit p
 
+-- the answer at a path
 abbrev pub answer : List ℕ → List ℕ → FieldEdit → Result PlainSplice Refusal
 answer text path edit = answer_found text path edit (section_at path (tree text))
 
@@ -86,6 +93,7 @@ answer text path edit = answer_found text path edit (section_at path (tree text)
 abbrev pub looked_bytes : List ℕ → Placed → (from count : ℕ) → List ℕ → ℕ
 looked_bytes text p from count lines = if opens_at text (p.start + from) count lines then 0 else 1 + looked_below (spliced from count lines (head_text p)) p
 
+-- how many lines are looked at where lines are put in place, or the edit is refused
 abbrev pub looked_put : List ℕ → Placed → Result LinePut Refusal → ℕ
 looked_put text p (Ok q) = looked_bytes text p (size q.before) (size q.old) (text_of q.given)
 looked_put text p (Err e) = 0
@@ -94,10 +102,12 @@ looked_put text p (Err e) = 0
 abbrev pub looked_at : List ℕ → FieldEdit → Placed → ℕ
 looked_at text edit p = length (cut (head_text p)) + looked_put text p (puts edit (cut (head_text p)))
 
+-- the same at a section, where it is there
 abbrev pub looked_found : List ℕ → FieldEdit → Option Placed → ℕ
 looked_found text edit None = 0
 looked_found text edit (Some p) = looked_at text edit p
 
+-- the same at a path
 abbrev pub looked : List ℕ → List ℕ → FieldEdit → ℕ
 looked text path edit = looked_found text edit (section_at path (tree text))
 

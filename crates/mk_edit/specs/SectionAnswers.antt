@@ -20,6 +20,7 @@ use Rattle.mk_edit.specs.LocalAnswers.{PlainSplice, opens_at, answer_by}
 abbrev pub outer_path : List ℕ → List ℕ
 outer_path path = take (length path - 1) path
 
+-- the number of a section in the section around
 abbrev pub last_number : List ℕ → ℕ
 last_number path = slice_index path (length path - 1)
 
@@ -52,22 +53,27 @@ section_answer text numbers given around p =
 abbrev pub separator_bytes : List ℕ → Placed → List ℕ
 separator_bytes text p = if has_separator (entity_head p.entity).separator then [] else ending_bytes (eol_of (cut text))
 
+-- the bytes in the place of the body
 abbrev pub body_bytes : List ℕ → Placed → List ℕ → List ℕ
 body_bytes text p given = separator_bytes text p ++ given
 
+-- where the body of a section begins
 abbrev pub body_place : Placed → ℕ
 body_place p = p.start + size (head_lines (entity_head p.entity))
 
+-- the answer for another body of a leaf
 abbrev pub leaf_answer : (text numbers given : List ℕ) → Placed → Result PlainSplice Refusal
 leaf_answer text numbers given p =
     answer_by (opens_at text (body_place p) (length (body_text p)) (body_bytes text p given)) (hit_below (cut given) 1 numbers (root_of (tree text)))
     (not (glued_below false numbers (root_of (tree text)))) (record { place = body_place p; count = length (body_text p); new = body_bytes text p given })
 
+-- the answer by the kind of the section
 abbrev pub body_answer_of : (text numbers given : List ℕ) → Placed → Entity → Result PlainSplice Refusal
 body_answer_of text numbers given p (leaf h ls) = leaf_answer text numbers given p
 body_answer_of text numbers given p (message h e) = Err NotLeaf
 body_answer_of text numbers given p (multi h b pre ps t) = Err NotLeaf
 
+-- the answer for another body
 abbrev pub body_answer : (text numbers given : List ℕ) → Placed → Result PlainSplice Refusal
 body_answer text numbers given p = body_answer_of text numbers given p p.entity
 
@@ -85,11 +91,13 @@ abbrev pub removal : Option ℕ → Placed → Result PlainSplice Refusal
 removal None p = Err NotPart
 removal (Some place) p = Ok (record { place = place; count = end_of p - place; new = [] })
 
+-- the answer for a part of a number, by the kind of the section around
 abbrev pub removal_from : ℕ → Placed → Placed → Entity → Result PlainSplice Refusal
 removal_from number p q (leaf h ls) = Err NotPart
 removal_from number p q (message h e) = Err NotPart
 removal_from number p q (multi h b pre ps t) = removal (gap_at (number - 1) q) p
 
+-- the answer for a part that goes
 abbrev pub removal_answer : ℕ → Option Placed → Placed → Result PlainSplice Refusal
 removal_answer number None p = Err NotPart
 removal_answer number (Some q) p = removal_from number p q q.entity
@@ -103,6 +111,7 @@ part_bytes text boundary given = text_of (delimiter_line (eol_of (cut text)) bou
 abbrev pub ends_at_delimiter : Placed → ℕ → List ℕ → Bool
 ends_at_delimiter p place boundary = has_separator (entity_head p.entity).separator || (not (place == body_place p) || not (is_start (delimiter_line (eol_of []) boundary)))
 
+-- the answer for a part more at a place
 abbrev pub insertion_at : (text numbers given boundary : List ℕ) → Placed → Option ℕ → Result PlainSplice Refusal
 insertion_at text numbers given boundary p None = Err BadPlace
 insertion_at text numbers given boundary p (Some place) =
@@ -110,10 +119,12 @@ insertion_at text numbers given boundary p (Some place) =
     (or_own (hit_below (cut (part_bytes text boundary given)) 1 numbers (root_of (tree text))) (has_mark boundary (cut given)) (length numbers + 1))
     (ends_at_delimiter p place boundary) (record { place = place; count = 0; new = part_bytes text boundary given })
 
+-- the answer by the kind of the section
 abbrev pub insertion_of : (text numbers given : List ℕ) → ℕ → Placed → Entity → Result PlainSplice Refusal
 insertion_of text numbers given place p (leaf h ls) = Err NotMultipart
 insertion_of text numbers given place p (message h e) = Err NotMultipart
 insertion_of text numbers given place p (multi h b pre ps t) = insertion_at text numbers given b p (gap_at place p)
 
+-- the answer for a part more
 abbrev pub insertion_answer : (text numbers given : List ℕ) → ℕ → Placed → Result PlainSplice Refusal
 insertion_answer text numbers given place p = insertion_of text numbers given place p p.entity

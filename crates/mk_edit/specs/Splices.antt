@@ -17,6 +17,7 @@ pub record Stands (place : ℕ) (bytes text : List ℕ) : Type 0 where
 abbrev pub forth_one : Splice → List ℕ → List ℕ
 forth_one s text = spliced s.place (length s.old) s.new text
 
+-- a splice taken back
 abbrev pub back_one : Splice → List ℕ → List ℕ
 back_one s text = spliced s.place (length s.new) s.old text
 

@@ -9,6 +9,7 @@ use Rattle.mk_edit.specs.declared.splicing.Splice.{Splice as SpliceIn}
 use Rattle.mk_edit.specs.Edits.{PlainEdit, AddField, RemoveField, RenameField, SetField, SetBody, SetSection, InsertPart, RemovePart, Wrap, Order, Do, Undo, Redo}
 use Rattle.mk_edit.specs.Splices.{Splice}
 
+-- an edit in memory
 abbrev pub edit_of : Edit → PlainEdit
 edit_of (edit.AddField path top text) = AddField path.items top text.items
 edit_of (edit.RemoveField path name k) = RemoveField path.items name.items k
@@ -20,13 +21,16 @@ edit_of (edit.InsertPart path place text) = InsertPart path.items place text.ite
 edit_of (edit.RemovePart path) = RemovePart path.items
 edit_of (edit.Wrap path subtype boundary) = Wrap path.items subtype.items boundary.items
 
+-- a command in memory
 abbrev pub order_of : Command → Order
 order_of (DoIn edit) = Do (edit_of edit)
 order_of UndoIn = Undo
 order_of RedoIn = Redo
 
+-- a splice in memory
 abbrev pub splice_of : SpliceIn → Splice
 splice_of s = record { place = s.place; old = s.old.items; new = s.new.items }
 
+-- steps in memory
 abbrev pub steps_of : List (Vec SpliceIn) → List (List Splice)
 steps_of vs = map (λ v. map splice_of v.items) vs

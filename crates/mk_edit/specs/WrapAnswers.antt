@@ -22,6 +22,7 @@ use Rattle.mk_edit.specs.LocalAnswers.{PlainSplice, answer_by}
 abbrev pub content_part : List ℕ → List ℕ
 content_part head = text_of (content_fields false (cut head))
 
+-- the other fields in front of a text
 abbrev pub other_part : List ℕ → List ℕ
 other_part head = text_of (other_fields false (cut head))
 
@@ -29,15 +30,19 @@ other_part head = text_of (other_fields false (cut head))
 abbrev pub version_bytes : Ending → Bool → (others : List ℕ) → List ℕ
 version_bytes eol first others = if first && not (names_field (codes "MIME-Version") (cut others)) then codes "MIME-Version: 1.0" ++ ending_bytes eol else []
 
+-- the field that says the type and the boundary
 abbrev pub type_bytes : Ending → (subtype boundary : List ℕ) → List ℕ
 type_bytes eol subtype boundary = ((((codes "Content-Type: multipart/" ++ subtype) ++ codes "; boundary=\"") ++ boundary) ++ codes "\"") ++ ending_bytes eol
 
+-- the delimiter
 abbrev pub delimiter_bytes : Ending → List ℕ → List ℕ
 delimiter_bytes eol boundary = (codes "--" ++ boundary) ++ ending_bytes eol
 
+-- the close line
 abbrev pub close_bytes : Ending → List ℕ → List ℕ
 close_bytes eol boundary = ((codes "--" ++ boundary) ++ codes "--") ++ ending_bytes eol
 
+-- the made lines that aren't empty
 abbrev pub made_bytes : Ending → Bool → (others subtype boundary : List ℕ) → List ℕ
 made_bytes eol first others subtype boundary = ((version_bytes eol first others ++ type_bytes eol subtype boundary) ++ delimiter_bytes eol boundary) ++ close_bytes eol boundary
 
@@ -45,6 +50,7 @@ made_bytes eol first others subtype boundary = ((version_bytes eol first others 
 abbrev pub separator_text : Placed → List ℕ
 separator_text p = text_of (option_line (entity_head p.entity).separator)
 
+-- a separator, or a made one where there is none
 abbrev pub separator_part : Ending → List ℕ → List ℕ
 separator_part eol separator = if is_nil separator then ending_bytes eol else separator
 
@@ -54,9 +60,11 @@ is_leaf (leaf h ls) = true
 is_leaf (message h e) = false
 is_leaf (multi h b pre ps t) = false
 
+-- whether an ending is put behind a section
 abbrev pub gains_end : Placed → Bool
 gains_end p = not p.followed && is_leaf p.entity
 
+-- that ending
 abbrev pub end_part : Ending → Placed → List ℕ
 end_part eol p = if gains_end p then ending_bytes eol else []
 
@@ -64,9 +72,11 @@ end_part eol p = if gains_end p then ending_bytes eol else []
 abbrev pub front_bytes : Ending → Bool → (others subtype boundary : List ℕ) → List ℕ
 front_bytes eol first others subtype boundary = (((others ++ version_bytes eol first others) ++ type_bytes eol subtype boundary) ++ ending_bytes eol) ++ delimiter_bytes eol boundary
 
+-- the part
 abbrev pub part_bytes : Ending → Placed → (content : List ℕ) → List ℕ
 part_bytes eol p content = ((content ++ separator_part eol (separator_text p)) ++ body_text p) ++ end_part eol p
 
+-- the multipart
 abbrev pub wrap_bytes : Ending → Bool → Placed → (subtype boundary : List ℕ) → List ℕ
 wrap_bytes eol first p subtype boundary = (front_bytes eol first (other_part (head_text p)) subtype boundary ++ part_bytes eol p (content_part (head_text p))) ++ close_bytes eol boundary
 
@@ -94,6 +104,7 @@ all_fit left (p ∷ ps) = if fits_levels left p.entity then all_fit left ps else
 abbrev pub ends_in_cr : List ℕ → Bool
 ends_in_cr text = slice_index text (length text - 1) == carriage_return
 
+-- whether the body may get its ending
 abbrev pub may_end : Ending → Placed → Bool
 may_end eol p = not (gains_end p && (is_lf eol && ends_in_cr (body_text p)))
 
@@ -101,6 +112,7 @@ may_end eol p = not (gains_end p && (is_lf eol && ends_in_cr (body_text p)))
 abbrev pub keeps_wrapped : ℕ → Bool → Placed → Bool
 keeps_wrapped level digest p = if nat_lt levels level then true else keeps_default digest p
 
+-- whether a subtype makes a digest (RFC 2046, 5.1.5)
 abbrev pub makes_digest : List ℕ → Bool
 makes_digest subtype = bytes_eq (lowered subtype) (codes "digest")
 
@@ -108,6 +120,7 @@ makes_digest subtype = bytes_eq (lowered subtype) (codes "digest")
 abbrev pub fits_below : ℕ → Bool → Placed → Bool
 fits_below level digest p = if nat_lt levels level then false else (if fits_levels (levels - level) p.entity then keeps_wrapped (level + 1) digest p else false)
 
+-- whether the section, wrapped, is read back
 abbrev pub wrap_fits : Document → Ending → List ℕ → List ℕ → Placed → Bool
 wrap_fits t eol numbers subtype p =
     if glued_below false numbers (root_of t) then false
