@@ -4,7 +4,8 @@ ghost use Rattle.mk_line.specs.Lines.{ending_bytes};
 
 use mk_line::Ending;
 
-pub(crate) fn bytes_of(ending: Ending) -> &'static [u8]
+/// The bytes of a line ending: CR LF, LF or none.
+pub fn bytes_of(ending: Ending) -> &'static [u8]
     ensures { result.now ≡ ending_bytes ending }
 {
     match ending {

@@ -16,6 +16,7 @@ mod words_encoding;
 
 pub use base64_text::b64_encode;
 pub use decoding::{CodeError, decode};
+pub use endings::bytes_of;
 pub use mk_head::Encoding;
 pub use qp_encoding::qp_encode;
 pub use words_decoding::words_decode;

@@ -1,8 +1,8 @@
 -- Another body of a leaf: what is answered is what is defined.
-use Rattle.std.proofs.Common.{◌≡◌, ◌+◌, ◌≤◌, ◌++◌, if◌then◌else◌, ℕ, suc, Bool, true, false, not, Option, None, Some, Result, Ok, Err, List, [], ◌∷◌, refl, ap, sym, ◌∙◌, subst, length, arith, inl, inr, append_assoc}
+use Rattle.std.proofs.Common.{◌≡◌, ◌+◌, ◌++◌, if◌then◌else◌, ℕ, suc, Bool, true, false, not, Option, None, Some, Ok, List, [], ◌∷◌, refl, ap, sym, ◌∙◌, subst, length, inl, inr, append_assoc}
 use Rattle.std.proofs.lemmas.Bool.{cases_Bool}
 use Rattle.mk_line.specs.declared.cutting.Ending.{Ending}
-use Rattle.mk_line.specs.Lines.{TextLine, text_line, cut, text_of, ending_bytes, eol_of, is_open, AreLines}
+use Rattle.mk_line.specs.Lines.{TextLine, cut, text_of, ending_bytes, eol_of, is_open, AreLines}
 use Rattle.mk_line.proofs.Cuts.{text_cut, lines_cut, text_append, append_nil}
 use Rattle.mk_head.specs.Split.{Head, head_lines, option_line}
 use Rattle.mk_head.specs.Splits.{has_line}
@@ -11,7 +11,7 @@ use Rattle.mk_tree.specs.Documents.{levels, tree}
 use Rattle.mk_tree.specs.Spans.{size}
 use Rattle.mk_tree.specs.Reading.{IsWellRead}
 use Rattle.mk_tree.specs.Sections.{Placed, section_at, root_of, body_text, body_lines}
-use Rattle.mk_tree.specs.Places.{Frame, left_at, default_at}
+use Rattle.mk_tree.specs.Places.{left_at, default_at}
 use Rattle.mk_tree.specs.Locality.{open_head, BeginsPlain, FitsIn, RootFits}
 use Rattle.mk_tree.proofs.Plugs.{lines_end}
 use Rattle.mk_tree.proofs.Stability.{read_stable}
@@ -26,7 +26,7 @@ use Rattle.mk_edit.specs.Looks.{has_separator}
 use Rattle.mk_edit.specs.LocalAnswers.{behind_first, opens_at}
 use Rattle.mk_edit.specs.SectionAnswers.{separator_bytes, body_bytes, body_place, leaf_answer, body_answer, body_answer_of}
 use Rattle.mk_edit.proofs.EveryEdit.{locality_lem, eol_closed}
-use Rattle.mk_edit.proofs.Decisions.{AnswersAs, planned_answers, fits_is, unplanned, within_printed}
+use Rattle.mk_edit.proofs.Decisions.{AnswersAs, planned_answers, fits_is, unplanned}
 use Rattle.mk_edit.proofs.AroundFrames.{frames_glued}
 use Rattle.mk_edit.proofs.FieldFits.{before_each, behind_are, glued_told}
 use Rattle.mk_edit.proofs.HeadFits.{root_told, plain_some}
@@ -108,7 +108,20 @@ leaf_answers text path given p s h ls x =
     (λ c u. fits_is (not (glued_below false (behind_first path) root)) (planned envelope plan) (IsLocal envelope plan (Unit {0})) law
     (λ k. let f = body_stays text path p s eol h ls (cut given) x (sym glued ∙ not_glued (glued_below false (behind_first path) root) k) in record { closed = c; unmarked = u; own = tt; outer = f.0; first = f.1 })
     (λ l. ap not (glued ∙ body_unglued text path p s eol h (cut given) l.outer)))
-    (λ w. within_printed text (body_place p) (length (body_text p)) w)
+    (λ k. record {
+      numbers = s.numbers;
+      around = s.around;
+      section = p.entity;
+      new = plan.new;
+      path_is = s.path_is;
+      found = s.found;
+      becomes =
+          ap text_of (body_lines_are eol h (cut given))
+          ∙ (text_append (head_lines h) ((made ++ cut given) ++ [])
+          ∙ ((λ i. text_of (head_lines (entity_head (sym x i))) ++ text_of (lines_end (made ++ cut given) i)) ∙ ap (λ t. text_of (head_lines (entity_head p.entity)) ++ t) (sym bytes)));
+      result = refl;
+      stable = k;
+    })
 
 body_by : (text path given : List ℕ) (p : Placed) (s : IsSite text path p) (x : Entity) → p.entity ≡ x → AnswersAs (SetBody path given) text (body_answer_of text (behind_first path) given p x) (edited (SetBody path given) (tree text))
 body_by text path given p s (leaf h ls) x = leaf_answers text path given p s h ls x

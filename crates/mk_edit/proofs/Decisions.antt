@@ -37,7 +37,7 @@ pub record GivenBy (e : PlainEdit) (text : List ℕ) (r : PlainSplice) (x : Resu
   pub printed_so : printed document ≡ spliced r.place r.count r.new text
   pub splices : splices_of e (tree text) ≡ one_splice r.place (take r.count (drop r.place text)) r.new
   pub within : r.place + r.count ≤ length text
-  pub changes : ChangesBy e r (tree text)
+  pub changes : ChangesBy e r (tree text) document
 
 -- an answer is what is defined
 abbrev pub AnswersAs : (e : PlainEdit) (text : List ℕ) → Result PlainSplice Refusal → Result Document Refusal → Type 0
@@ -71,7 +71,7 @@ splice_old [] = []
 splice_old (s ∷ ss) = s.old
 
 led_given : (e : PlainEdit) (text new_text : List ℕ) (t : Document) (r : PlainSplice) (old : List ℕ) → printed t ≡ new_text → Led text new_text (splices_of e (tree text)) → splices_of e (tree text) ≡ one_splice r.place old r.new → length old ≡ r.count
-    → (r.place + r.count ≤ length text → ChangesBy e r (tree text)) → GivenBy e text r (Ok t)
+    → (r.place + r.count ≤ length text → ChangesBy e r (tree text) t) → GivenBy e text r (Ok t)
 led_given e text new_text t r old p l s n c =
     let same = sym s ∙ l.splices in
     let place : r.place ≡ length l.front = ap splice_place same in
@@ -101,14 +101,14 @@ plan_led e text p k =
 pub planned_answers : (e : PlainEdit) (text : List ℕ) (p : Plan) (o : Bool) (h : Option ℕ) (f : Bool) (r : PlainSplice) (old : List ℕ) → plan_of e (tree text) ≡ Ok p → splices_of e (tree text) ≡ one_splice r.place old r.new → length old ≡ r.count
     → o ≡ is_open_early (document_lines (planned (tree text).envelope p)) → h ≡ hit_level p
     → (is_open_early (document_lines (planned (tree text).envelope p)) ≡ false → hit_level p ≡ None → f ≡ is_stable (planned (tree text).envelope p))
-    → (r.place + r.count ≤ length text → ChangesBy e r (tree text)) → AnswersAs e text (answer_by o h f r) (edited e (tree text))
+    → (IsStable (planned (tree text).envelope p) → ChangesBy e r (tree text) (planned (tree text).envelope p)) → AnswersAs e text (answer_by o h f r) (edited e (tree text))
 planned_answers e text p o h f r old k s n q u g c =
     let t = tree text in
     let d = planned t.envelope p in
     subst (AnswersAs e text (answer_by o h f r)) (sym (ap (judged_by t.envelope) k))
     (by_open e text o (is_open_early (document_lines d)) (unless_held h (unless_recut f r)) (unless_hit (hit_level p) d) q
     (λ a. by_hit e text h (hit_level p) (unless_recut f r) d u
-    (λ b. by_fit e text f (is_stable d) r d (g a b) (λ x. led_given e text (printed d) d r old refl (plan_led e text p k) s n c))))
+    (λ b. by_fit e text f (is_stable d) r d (g a b) (λ x. led_given e text (printed d) d r old refl (plan_led e text p k) s n (λ w. c (test_stable d x))))))
 
 -- an edit whose document is stable
 stable_ok : (d : Document) (r : Result Document Refusal) → IsJudged r d → IsStable d → r ≡ Ok d
@@ -116,13 +116,13 @@ stable_ok d (Ok t) j h = ap (λ x. Ok x) j.0
 stable_ok d (Err f) j h = absurd (j.1 h)
 
 pub accepted_answers : (e : PlainEdit) (text : List ℕ) (p : Plan) (r : PlainSplice) (old : List ℕ) → plan_of e (tree text) ≡ Ok p → IsStable (planned (tree text).envelope p) → splices_of e (tree text) ≡ one_splice r.place old r.new → length old ≡ r.count
-    → (r.place + r.count ≤ length text → ChangesBy e r (tree text)) → AnswersAs e text (Ok r) (edited e (tree text))
+    → ChangesBy e r (tree text) (planned (tree text).envelope p) → AnswersAs e text (Ok r) (edited e (tree text))
 accepted_answers e text p r old k h s n c =
     let t = tree text in
     let d = planned t.envelope p in
     let fair_plan : IsFair p = subst (Holds IsFair) k (fair e t) in
     let ok : edited e t ≡ Ok d = ap (judged_by t.envelope) k ∙ stable_ok d (judged t.envelope p) (told t.envelope p fair_plan) h in
-    subst (GivenBy e text r) (sym ok) (led_given e text (printed d) d r old refl (plan_led e text p k) s n c)
+    subst (GivenBy e text r) (sym ok) (led_given e text (printed d) d r old refl (plan_led e text p k) s n (λ w. c))
 
 -- whether a document is stable, by a test of what holds exactly then
 same_test : (a b : Bool) → (a ≡ true → b ≡ true) → (b ≡ true → a ≡ true) → a ≡ b
@@ -132,9 +132,6 @@ same_test false false f g = refl
 
 pub fits_is : (f : Bool) (t : Document) (A : Type 0) → (IsStable t ↔ A) → (f ≡ true → A) → (A → f ≡ true) → f ≡ is_stable t
 fits_is f t A law g h = same_test f (is_stable t) (λ x. stable_test t (law.1 (g x))) (λ x. h (law.0 (test_stable t x)))
-
-pub within_printed : (text : List ℕ) (place count : ℕ) → place + count ≤ length text → place + count ≤ length (printed (tree text))
-within_printed text place count h = subst (λ x. place + count ≤ length x) (sym (text_kept text)) h
 
 -- where there is no plan
 pub unplanned : (e : PlainEdit) (text : List ℕ) (f : Refusal) → plan_of e (tree text) ≡ Err f → edited e (tree text) ≡ Err f

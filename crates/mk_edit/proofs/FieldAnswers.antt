@@ -1,10 +1,9 @@
 -- The answer by looks is what is defined: bytes that give the edited document, or the first reason against it.
-use Rattle.std.proofs.Common.{◌≡◌, ◌↔◌, ◌≤◌, ◌+◌, ◌-◌, ◌++◌, if◌then◌else◌, ℕ, suc, Bool, true, false, Option, None, Some, Result, Ok, Err, List, [], ◌∷◌, refl, ap, sym, ◌∙◌, subst, length, take, drop, arith, IfOk, IfErr}
+use Rattle.std.proofs.Common.{◌≡◌, ◌↔◌, ◌+◌, ◌-◌, ◌++◌, ℕ, suc, Bool, true, false, Option, None, Some, Result, Ok, Err, List, [], ◌∷◌, refl, ap, sym, ◌∙◌, subst, length, take, drop, arith, IfOk, IfErr}
 use Rattle.std.proofs.Math.Seq.{take-length}
-use Rattle.std.specs.Option.{option_map}
-use Rattle.mk_line.specs.Lines.{cut, text_of, eol_of}
+use Rattle.mk_line.specs.Lines.{cut, text_of}
 use Rattle.mk_tree.specs.Tree.{Entity, field_lines}
-use Rattle.mk_tree.specs.Documents.{Document, IsStable, levels, tree, printed, document_lines}
+use Rattle.mk_tree.specs.Documents.{Document, IsStable, levels, tree, document_lines}
 use Rattle.mk_tree.specs.Equal.{is_stable}
 use Rattle.mk_tree.specs.Spans.{size}
 use Rattle.mk_tree.specs.Splicing.{spliced, ChangesFields}
@@ -19,8 +18,8 @@ use Rattle.mk_edit.specs.declared.field_edits.FieldEdit.TheVariants.{Add, Remove
 use Rattle.mk_edit.specs.declared.splicing.Replacement.{Replacement}
 use Rattle.mk_edit.specs.declared.errors.EditError.{EditError}
 use Rattle.mk_edit.specs.Reasons.{is_open_early}
-use Rattle.mk_edit.specs.Edits.{PlainEdit, AddField, RemoveField, RenameField, SetField, Refusal, NoSuchSection, OpenLine, Recut}
-use Rattle.mk_edit.specs.Plans.{Plan, plan_at, place_of, with_place, plan_of, planned}
+use Rattle.mk_edit.specs.Edits.{AddField, RemoveField, RenameField, SetField, Refusal, NoSuchSection}
+use Rattle.mk_edit.specs.Plans.{Plan, place_of, plan_of, planned}
 use Rattle.mk_edit.specs.Outcomes.{hit_level, unless_hit, judged, judged_by, edited}
 use Rattle.mk_edit.specs.Local.{AreFieldsFor, IsLocal}
 use Rattle.mk_edit.specs.FieldPuts.{LinePut, puts, plain_of}
@@ -28,9 +27,7 @@ use Rattle.mk_edit.specs.Answers.{refusal_of, IsRefusedBy}
 use Rattle.mk_edit.specs.Around.{hit_below}
 use Rattle.mk_edit.specs.LocalAnswers.{PlainSplice, opens_at, fits_at, unless_recut, unless_held, answer_put, answer_puts, answer_at, answer_found, behind_first, answer, plain_splice}
 use Rattle.mk_edit.specs.Decided.{ChangesBy, IsDecided}
-use Rattle.mk_edit.specs.EditSplices.{one_splice, splices_of}
 use Rattle.mk_edit.proofs.EveryEdit.{locality_lem}
-use Rattle.mk_edit.proofs.PlacesAgain.{section_there}
 use Rattle.mk_edit.proofs.PutPlans.{put_plan, plan_of_put}
 use Rattle.mk_edit.proofs.PutSites.{path_same, place_found, plan_found, opens_told, edited_is, hit_told, printed_told}
 use Rattle.mk_edit.proofs.Decisions.{GivenBy, AnswersAs, by_open, by_hit, by_fit, none_there, decided_ok, decided_err}
@@ -73,11 +70,11 @@ stable_told text path edit p s q h c u =
 abbrev put_splice : Placed → LinePut → PlainSplice
 put_splice p q = record { place = p.start + size q.before; count = size q.old - length q.kept; new = take (length (text_of q.given) - length q.kept) (text_of q.given) }
 
-changes_by : (path : List ℕ) (edit : FieldEdit) (r : PlainSplice) (t : Document) → ChangesFields path r.place r.count r.new t → ChangesBy (plain_of path edit) r t
-changes_by path (Add top text) r t h = h
-changes_by path (Remove name k) r t h = h
-changes_by path (Rename name k to) r t h = h
-changes_by path (Set name k text) r t h = h
+changes_by : (path : List ℕ) (edit : FieldEdit) (r : PlainSplice) (t u : Document) → ChangesFields path r.place r.count r.new t → ChangesBy (plain_of path edit) r t u
+changes_by path (Add top text) r t u h = h
+changes_by path (Remove name k) r t u h = h
+changes_by path (Rename name k to) r t u h = h
+changes_by path (Set name k text) r t u h = h
 
 fields_changed : (text path : List ℕ) (p : Placed) (s : IsSite text path p) (q : LinePut) → IsLinePut (cut (head_text p)) q → IsStable (put_document text path p s q) → ChangesFields path (put_splice p q).place (put_splice p q).count (put_splice p q).new (tree text)
 fields_changed text path p s q i k =
@@ -106,7 +103,7 @@ given_by text path edit p s q h k =
       printed_so = sym (printed_told text path p s q i);
       splices = splices_told text path edit p s q i (sym (ap (puts edit) (head_cut text path p s)) ∙ h);
       within = splice_within text path p s q i;
-      changes = changes_by path edit (put_splice p q) (tree text) (fields_changed text path p s q i k);
+      changes = changes_by path edit (put_splice p q) (tree text) (put_document text path p s q) (fields_changed text path p s q i k);
     }
 
 put_answers : (text path : List ℕ) (edit : FieldEdit) (p : Placed) (s : IsSite text path p) (q : LinePut) → IsPutAt edit p q → AnswersAs (plain_of path edit) text (answer_put text s.numbers p q) (judged (tree text).envelope (put_plan s.around p.entity q))

@@ -1,12 +1,12 @@
 -- Where the parts behind so many begin: by the sections of a multipart, and by its parts.
-use Rattle.std.proofs.Common.{◌≡◌, ◌+◌, ◌-◌, ◌≤◌, ◌++◌, ◌||◌, ℕ, zero, suc, Bool, Option, None, Some, List, [], ◌∷◌, refl, ap, sym, ◌∙◌, subst, length, arith}
+use Rattle.std.proofs.Common.{◌≡◌, ◌+◌, ◌-◌, ◌≤◌, ◌++◌, ◌||◌, ℕ, zero, suc, Bool, Option, None, Some, List, [], ◌∷◌, refl, ap, sym, ◌∙◌, length, arith}
 use Rattle.std.specs.Option.{option_map}
 use Rattle.mk_line.specs.Lines.{TextLine, text_of}
-use Rattle.mk_head.specs.Split.{Head, head_lines, option_line}
+use Rattle.mk_head.specs.Split.{Head, head_lines}
 use Rattle.mk_head.specs.Fields.{counted}
 use Rattle.mk_tree.specs.Cutting.{tail_lines}
 use Rattle.mk_tree.specs.Tree.{Entity, leaf, message, multi, Parts, no_parts, part, print, print_parts, entity_head}
-use Rattle.mk_tree.specs.Sections.{Placed, parts_placed, has_tail, raw_of, children, children_of, body_lines, preamble_lines}
+use Rattle.mk_tree.specs.Sections.{Placed, parts_placed, has_tail, children_of, body_lines, preamble_lines}
 use Rattle.mk_tree.specs.Spans.{size, digest_below}
 use Rattle.mk_tree.proofs.Descent.{size_append}
 use Rattle.mk_edit.specs.Plans.{parts_at}

@@ -1,13 +1,13 @@
 -- A part more: what is answered is what is defined.
-use Rattle.std.proofs.Common.{◌≡◌, ◌↔◌, ◌==◌, ◌&&◌, ◌||◌, ◌+◌, ◌≤◌, ◌<◌, ◌++◌, ℕ, zero, suc, Bool, true, false, not, Option, None, Some, Result, Ok, Err, List, [], ◌∷◌, refl, ap, sym, ◌∙◌, subst, length, arith, inl, inr, append_assoc}
+use Rattle.std.proofs.Common.{◌≡◌, ◌↔◌, ◌==◌, ◌&&◌, ◌||◌, ◌+◌, ◌<◌, ◌++◌, ℕ, zero, suc, Bool, true, false, not, Option, None, Some, Ok, List, [], ◌∷◌, refl, ap, sym, ◌∙◌, subst, length, arith, inl, inr, append_assoc}
 use Rattle.std.proofs.lemmas.Bool.{cases_Bool, eqb-true}
 use Rattle.mk_line.specs.declared.cutting.Ending.{Ending}
 use Rattle.mk_line.specs.Lines.{TextLine, cut, text_of, eol_of, is_open, AreLines}
 use Rattle.mk_line.proofs.Cuts.{text_cut, cut_text, lines_cut, text_append}
-use Rattle.mk_head.specs.Split.{Head, belongs, is_start, head_lines, option_line}
+use Rattle.mk_head.specs.Split.{Head, is_start, head_lines, option_line}
 use Rattle.mk_head.specs.Splits.{IsRun, has_line, Stops, Follows}
 use Rattle.mk_tree.specs.Cutting.{tail_lines}
-use Rattle.mk_tree.specs.Kinds.{Leaf, Message, Multi, kind, kind_at}
+use Rattle.mk_tree.specs.Kinds.{Message, Multi, kind, kind_at}
 use Rattle.mk_tree.specs.Tree.{Entity, leaf, message, multi, Parts, no_parts, part, print, print_parts, entity_head, field_lines}
 use Rattle.mk_tree.specs.Documents.{IsStable, levels, tree}
 use Rattle.mk_tree.specs.Reading.{IsWellRead}
@@ -23,27 +23,27 @@ use Rattle.mk_tree.proofs.Stability.{read_stable}
 use Rattle.mk_edit.specs.Edits.{InsertPart, NotMultipart, BadPlace}
 use Rattle.mk_edit.specs.EditSplices.{part_splices, front_lines}
 use Rattle.mk_edit.specs.Wrapping.{delimiter_line}
-use Rattle.mk_edit.specs.Plans.{Plan, insert, insert_between, part_plan, part_read, parts_at, planned, plan_of}
-use Rattle.mk_edit.specs.Outcomes.{has_mark, hit, or_own, hit_level, edited}
+use Rattle.mk_edit.specs.Plans.{insert, insert_between, part_plan, part_read, parts_at, planned, plan_of}
+use Rattle.mk_edit.specs.Outcomes.{has_mark, hit, or_own, edited}
 use Rattle.mk_edit.specs.Local.{HeaderEnds, IsLocal}
 use Rattle.mk_edit.specs.Around.{hit_below}
 use Rattle.mk_edit.specs.Looks.{has_separator}
 use Rattle.mk_edit.specs.LocalAnswers.{behind_first, opens_at}
-use Rattle.mk_edit.specs.SectionAnswers.{body_place, part_bytes, ends_at_delimiter, gap_at, insertion_at, insertion_of, insertion_answer}
+use Rattle.mk_edit.specs.SectionAnswers.{body_place, part_bytes, ends_at_delimiter, insertion_at, insertion_of, insertion_answer}
 use Rattle.mk_edit.proofs.EveryEdit.{locality_lem, eol_closed}
-use Rattle.mk_edit.proofs.Decisions.{AnswersAs, planned_answers, fits_is, unplanned, within_printed}
+use Rattle.mk_edit.proofs.Decisions.{AnswersAs, planned_answers, fits_is, unplanned}
 use Rattle.mk_edit.proofs.AroundFrames.{frames_glued}
-use Rattle.mk_edit.proofs.Bounds.{IsBound, read_bound, delimiter_is}
+use Rattle.mk_edit.proofs.Bounds.{read_bound, delimiter_is}
 use Rattle.mk_edit.proofs.FieldFits.{entity_are, before_each}
 use Rattle.mk_edit.proofs.Gaps.{at_parts, gap_told}
 use Rattle.mk_edit.proofs.HeadFits.{root_told, plain_none}
 use Rattle.mk_edit.proofs.LocalLooks.{separator_there, fits_unglued, glued_bare}
 use Rattle.mk_edit.proofs.NewFields.{ends_follow, follow_ends}
 use Rattle.mk_edit.proofs.Openings.{Each, each_line, each_front, each_back, some_text}
-use Rattle.mk_edit.proofs.PartChanges.{Sides, sides, print_added, print_sides}
+use Rattle.mk_edit.proofs.PartChanges.{Sides, sides, counted_at, print_added, print_sides}
 use Rattle.mk_edit.proofs.PartsLead.{FrontOf, front_is}
 use Rattle.mk_edit.proofs.PutSites.{place_found}
-use Rattle.mk_edit.proofs.SiteFacts.{as_long, entity_fields}
+use Rattle.mk_edit.proofs.SiteFacts.{as_long}
 use Rattle.mk_edit.proofs.SiteLines.{plan_here, splices_here, opens_here, hit_here}
 use Rattle.mk_edit.proofs.SectionSites.{IsSite, site}
 
@@ -243,7 +243,30 @@ spot_answers text path given k p s h b pre ps t i q o a f =
     (λ c u. fits_is (ends_at_delimiter p place b) (planned envelope plan) (IsLocal envelope plan (HeaderEnds (field_lines plan.new) (entity_head plan.new).separator (body_lines plan.new))) law
     (λ g. record { closed = c; unmarked = u; own = told.0 (sym test ∙ g); outer = fits_unglued false s.around plan.new (outer_stays text path p s h b pre ps t i); first = first_stays text path p s h b pre ps (append_parts q.0 (part l x q.1)) t i })
     (λ r. test ∙ told.1 r.own))
-    (λ w. within_printed text place 0 w)
+    (λ g. record {
+      numbers = s.numbers;
+      around = s.around;
+      section = p.entity;
+      new = plan.new;
+      path_is = s.path_is;
+      found = s.found;
+      becomes = record {
+        head = h;
+        boundary = b;
+        preamble = pre;
+        before = q.0;
+        delimiter = l;
+        new = x;
+        after = q.1;
+        tail = t;
+        section_is = i.whole ∙ ap (λ xs. multi h b pre xs t) (sym a);
+        result_is = refl;
+        place_is = counted_at k ps q o;
+        text_is = ap (λ ls. text_of (l ∷ ls)) kept ∙ sym (made_text l given);
+      };
+      result = refl;
+      stable = g;
+    })
 
 gap_answers : (text path given : List ℕ) (k : ℕ) (p : Placed) (s : IsSite text path p) (h : Head) (b : List ℕ) (pre : List TextLine) (ps : Parts) (t : Option (TextLine × List TextLine)) → IsSpot text path p s h b pre ps t → (o : Option (Parts × Parts)) → parts_at k ps ≡ o → Sides ps o → FrontOf k ps o
     → AnswersAs (InsertPart path k given) text (insertion_at text (behind_first path) given b p (at_parts (p.start + size (head_lines h ++ (pre ++ front_lines k ps))) o)) (edited (InsertPart path k given) (tree text))

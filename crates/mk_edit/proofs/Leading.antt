@@ -3,14 +3,16 @@ use Rattle.std.proofs.Common.{◌≡◌, ◌+◌, ◌-◌, ◌≤◌, ◌++◌, 
 use Rattle.std.proofs.lemmas.Bool.{ltb-true}
 use Rattle.std.proofs.lemmas.List.{length-take-le}
 use Rattle.mk_tree.specs.Documents.{Document, tree, printed}
-use Rattle.mk_edit.specs.Edits.{PlainEdit, Order, Do, Undo, Redo, Refusal, NothingToUndo, NothingToRedo}
+use Rattle.mk_edit.specs.Edits.{PlainEdit, Order, Do, Group, Undo, Redo, Refusal, NothingToUndo, NothingToRedo}
 use Rattle.mk_edit.specs.Outcomes.{edited}
 use Rattle.mk_edit.specs.EditSplices.{splices_of}
 use Rattle.mk_edit.specs.Splices.{Splice, forth_step, back_step}
+use Rattle.mk_edit.specs.Groups.{Together, together}
 use Rattle.mk_edit.specs.History.{History}
-use Rattle.mk_edit.specs.Histories.{AreLinked, IsHistory, text_now, started, with_step, edited_by, left_by, after, after_all}
+use Rattle.mk_edit.specs.Histories.{AreLinked, IsHistory, text_now, started, with_step, edited_by, grouped_by, left_by, after, after_all}
 use Rattle.mk_edit.specs.Laws.{HistoriesStay}
 use Rattle.mk_edit.proofs.EditsLead.{splices_lead_lem}
+use Rattle.mk_edit.proofs.GroupFacts.{LeadsFrom, together_leads}
 
 -- a step that leads from the text at a place to a new one
 linked_more : (first : List ℕ) (others : List (List ℕ)) (steps : List (List Splice)) (n : ℕ) (y : List ℕ) (s : List Splice) → AreLinked first others steps → n ≤ length steps → y ≡ forth_step s (get_or (first ∷ others) n []) → get_or (first ∷ others) n [] ≡ back_step s y → AreLinked first (take n others ++ y ∷ []) (take n steps ++ s ∷ [])
@@ -36,6 +38,10 @@ stays_edit : (h : History) (e : PlainEdit) (r : Result Document Refusal) → edi
 stays_edit h e (Ok t) o b = let p = splices_lead_lem e (text_now h) t o in stays_step h (printed t) (splices_of e (tree (text_now h))) b (sym p.0) (sym p.1)
 stays_edit h e (Err f) o b = b
 
+stays_group : (h : History) (r : Together) → LeadsFrom (text_now h) r → IsHistory h → IsHistory (left_by h (grouped_by h r))
+stays_group h (Ok p) l b = stays_step h (printed p.0) p.1 b (sym l.0.forth) (sym l.0.back)
+stays_group h (Err q) l b = b
+
 stays_undo : (h : History) (t : Bool) → IsHistory h → IsHistory (left_by h (if t then Ok (record h { place = h.place - 1 }) else Err NothingToUndo))
 stays_undo h true b = record { first = b.first; others = b.others; texts = b.texts; linked = b.linked; within = omega (arith, b.within) }
 stays_undo h false b = b
@@ -46,6 +52,7 @@ stays_redo h false e b = b
 
 stays_after : (o : Order) (h : History) → IsHistory h → IsHistory (after o h)
 stays_after (Do e) h b = stays_edit h e (edited e (tree (text_now h))) refl b
+stays_after (Group es) h b = stays_group h (together es (tree (text_now h))) (together_leads es (text_now h)) b
 stays_after Undo h b = stays_undo h (nat_lt 0 h.place) b
 stays_after Redo h b = stays_redo h (nat_lt h.place (length h.steps)) refl b
 

@@ -9,6 +9,9 @@ pub mod Undoing
 pub mod Leads
 pub mod PartsLead
 pub mod EditsLead
+pub mod GroupFacts
+pub mod GroupsMade
+pub mod GroupMoves
 pub mod Leading
 pub mod EditRows
 pub mod Answered
@@ -50,6 +53,7 @@ pub mod PutNew
 pub mod SiteFacts
 pub mod HeadFits
 pub mod FieldFits
+pub mod FieldsMade
 pub mod PutSplices
 pub mod Decisions
 pub mod FieldAnswers

@@ -7,7 +7,7 @@ use Rattle.mk_edit.specs.declared.splicing.Splice.{Splice as SpliceIn}
 use Rattle.mk_tree.specs.Documents.{Document, tree, printed}
 use Rattle.mk_edit.specs.Answers.{IsAccepted, IsRefusedBy}
 use Rattle.mk_edit.specs.Counts.{edit_lines}
-use Rattle.mk_edit.specs.Decided.{ChangesBy, IsDecided}
+use Rattle.mk_edit.specs.Decided.{IsDecided}
 use Rattle.mk_edit.specs.Edits.{PlainEdit, Refusal, Do, Undo, Redo}
 use Rattle.mk_edit.specs.EditSplices.{splices_of}
 use Rattle.mk_edit.specs.LocalAnswers.{PlainSplice}
@@ -112,12 +112,12 @@ taken_steps [] (suc n) = refl
 taken_steps (v ∷ vs) zero = refl
 taken_steps (v ∷ vs) (suc n) = ap (λ ss. map splice_of v.items ∷ ss) (taken_steps vs n)
 
-more_steps : (vs ws : List (Vec SpliceIn)) (v : Vec SpliceIn) (n : ℕ) → ws ≡ take n vs ++ v ∷ [] → steps_of ws ≡ take n (steps_of vs) ++ map splice_of v.items ∷ []
+pub more_steps : (vs ws : List (Vec SpliceIn)) (v : Vec SpliceIn) (n : ℕ) → ws ≡ take n vs ++ v ∷ [] → steps_of ws ≡ take n (steps_of vs) ++ map splice_of v.items ∷ []
 more_steps vs ws v n e =
     ap steps_of e ∙ (map-append (λ w. map splice_of w.items) (take n vs) (v ∷ []) ∙ ap (λ ss. ss ++ map splice_of v.items ∷ []) (taken_steps vs n))
 
 -- bytes copied at a place stand there
-copied_stands : (place count : ℕ) (x old : List ℕ) → place + count ≤ length x → old ≡ take count (drop place x) → Stands place old x × (length old ≡ count)
+pub copied_stands : (place count : ℕ) (x old : List ℕ) → place + count ≤ length x → old ≡ take count (drop place x) → Stands place old x × (length old ≡ count)
 copied_stands place count x old h e =
     let size : length old ≡ count = ap length e ∙ length-take-le count (drop place x) (omega (arith, h, length-drop place x)) in (
       record {
@@ -187,8 +187,8 @@ is_accepted (Err f) t h = cc
 pub refused_at : (e : PlainEdit) (x y : List ℕ) (o : Option Refusal) → x ≡ y → IsRefusedBy o (edited e (tree x)) → IsRefusedBy o (edited e (tree y))
 refused_at e x y o q r = subst (λ z. IsRefusedBy o (edited e (tree z))) q r
 
-pub changes_at : (e : PlainEdit) (x y : List ℕ) (place count : ℕ) (new text : List ℕ) → x ≡ y → text ≡ new → ChangesBy e (record { place = place; count = count; new = new }) (tree y) → ChangesBy e (record { place = place; count = count; new = text }) (tree x)
-changes_at e x y place count new text q t h = subst (λ b. ChangesBy e (record { place = place; count = count; new = b }) (tree x)) (sym t) (subst (λ z. ChangesBy e (record { place = place; count = count; new = new }) (tree z)) (sym q) h)
+pub decided_with : (e : PlainEdit) (x y : List ℕ) (place count : ℕ) (new text : List ℕ) → x ≡ y → text ≡ new → IsDecided e y (record { place = place; count = count; new = new }) → IsDecided e x (record { place = place; count = count; new = text })
+decided_with e x y place count new text q t h = subst (λ b. IsDecided e x (record { place = place; count = count; new = b })) (sym t) (subst (λ z. IsDecided e z (record { place = place; count = count; new = new })) (sym q) h)
 
 pub lines_same : (e : PlainEdit) (x y : List ℕ) → x ≡ y → edit_lines e (tree x) ≡ edit_lines e (tree y)
 lines_same e x y q = ap (λ z. edit_lines e (tree z)) q

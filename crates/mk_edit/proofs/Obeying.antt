@@ -1,7 +1,7 @@
 -- Orders obeyed one after another.
 use Rattle.std.proofs.Common.{◌≡◌, ◌+◌, ◌<◌, ◌++◌, ℕ, suc, zero, Option, Some, List, [], ◌∷◌, refl, ap, sym, ◌∙◌, length, take, drop, map, get_or, arith, append_assoc}
 use Rattle.std.proofs.lemmas.List.{drop_more, take_more, length-map, map-append}
-use Rattle.mk_edit.specs.declared.errors.EditError.{EditError}
+use Rattle.mk_edit.specs.declared.replies.Reply.{Reply}
 use Rattle.mk_edit.specs.Answers.{reply_of}
 use Rattle.mk_edit.specs.Edits.{Order, Refusal}
 use Rattle.mk_edit.specs.History.{History}
@@ -20,7 +20,7 @@ rest_orders f cs i d l = ap (map f) (drop_more cs i d l)
 abbrev pub told : List (Option Refusal) → List (Option (Option Refusal))
 told rs = map (λ r. Some r) rs
 
-pub told_next : {X : Type 0} (f : X → Order) (cs : List X) (i : ℕ) (d : X) (all more : List (Option EditError)) (rs : List (Option (Option Refusal))) (r : Option EditError) (h g : History) → i < length cs
+pub told_next : {X : Type 0} (f : X → Order) (cs : List X) (i : ℕ) (d : X) (all more : List Reply) (rs : List (Option (Option Refusal))) (r : Reply) (h g : History) → i < length cs
     → reply_of r ≡ Some (refusal (step (f (get_or cs i d)) h)) → g ≡ after (f (get_or cs i d)) h → more ≡ all ++ r ∷ [] → map reply_of all ++ told (replies (map f (drop i cs)) h) ≡ rs
     → map reply_of more ++ told (replies (map f (drop (i + 1) cs)) g) ≡ rs
 told_next f cs i d all more rs r h g l e q m t =

@@ -6,7 +6,6 @@ use Rattle.mk_tree.specs.Tree.{Entity}
 use Rattle.mk_tree.specs.Documents.{tree}
 use Rattle.mk_tree.specs.Sections.{Placed, section_at}
 use Rattle.mk_tree.specs.Places.{Frame, step_to, place_at, placed}
-use Rattle.mk_edit.specs.Plans.{place_of}
 use Rattle.mk_edit.specs.SectionAnswers.{outer_path, last_number}
 use Rattle.mk_edit.proofs.PlacesAgain.{section_there}
 use Rattle.mk_edit.proofs.SectionSites.{IsSite}
@@ -86,21 +85,23 @@ last_is : (front : List ℕ) (last : ℕ) → last_number (1 ∷ (front ++ last 
 last_is front last = ap (λ n. get_or ((1 ∷ front) ++ last ∷ []) n 0) (short front last) ∙ get_or-append_seam (1 ∷ front) last [] 0
 
 -- the section around, in its place
-pub record IsAround (text : List ℕ) (number : ℕ) (fs : List Frame) (s : Entity) (q : Placed) : Type 0 where
+pub record IsAround (text path : List ℕ) (number : ℕ) (fs : List Frame) (s : Entity) (q : Placed) : Type 0 where
   pub numbers : List ℕ
   pub around : List Frame
   pub frame : Frame
   pub frames : fs ≡ around ++ frame ∷ []
   pub placed_is : q ≡ placed (tree text).envelope around q.entity
   pub found : section_at (1 ∷ numbers) (tree text) ≡ Some q
+  pub path_is : path ≡ (1 ∷ numbers) ++ number ∷ []
+  pub there : place_at numbers (tree text).root ≡ Some (around, q.entity)
   pub step : step_to number q.entity ≡ Some (frame, s)
 
 -- none is around the root
-abbrev pub AroundIs : List ℕ → ℕ → List Frame → Entity → Option Placed → Type 0
-AroundIs text number fs s None = fs ≡ []
-AroundIs text number fs s (Some q) = IsAround text number fs s q
+abbrev pub AroundIs : List ℕ → List ℕ → ℕ → List Frame → Entity → Option Placed → Type 0
+AroundIs text path number fs s None = fs ≡ []
+AroundIs text path number fs s (Some q) = IsAround text path number fs s q
 
-around_by : (text numbers : List ℕ) (fs : List Frame) (s : Entity) → place_at numbers (tree text).root ≡ Some (fs, s) → AroundIs text (last_number (1 ∷ numbers)) fs s (section_at (outer_path (1 ∷ numbers)) (tree text))
+around_by : (text numbers : List ℕ) (fs : List Frame) (s : Entity) → place_at numbers (tree text).root ≡ Some (fs, s) → AroundIs text (1 ∷ numbers) (last_number (1 ∷ numbers)) fs s (section_at (outer_path (1 ∷ numbers)) (tree text))
 around_by text [] fs s h = sym (pairs [] fs (tree text).root s h).0
 around_by text (k ∷ ks) fs s h =
     let t = tree text in
@@ -111,8 +112,8 @@ around_by text (k ∷ ks) fs s h =
     let path : outer_path (1 ∷ (k ∷ ks)) ≡ 1 ∷ e.front = ap (λ js. outer_path (1 ∷ js)) e.is ∙ outer_is e.front e.last in
     let number : last_number (1 ∷ (k ∷ ks)) ≡ e.last = ap (λ js. last_number (1 ∷ js)) e.is ∙ last_is e.front e.last in
     let there : section_at (outer_path (1 ∷ (k ∷ ks))) t ≡ Some q = ap (λ p. section_at p t) path ∙ found in
-    let is : IsAround text e.last fs s q = record { numbers = e.front; around = b.around; frame = b.frame; frames = b.frames; placed_is = refl; found = found; step = b.step } in
-    subst (AroundIs text (last_number (1 ∷ (k ∷ ks))) fs s) (sym there) (subst (λ n. IsAround text n fs s q) (sym number) is)
+    let is : IsAround text (1 ∷ (k ∷ ks)) e.last fs s q = record { numbers = e.front; around = b.around; frame = b.frame; frames = b.frames; placed_is = refl; found = found; path_is = ap (λ js. 1 ∷ js) e.is; there = b.found; step = b.step } in
+    subst (AroundIs text (1 ∷ (k ∷ ks)) (last_number (1 ∷ (k ∷ ks))) fs s) (sym there) (subst (λ n. IsAround text (1 ∷ (k ∷ ks)) n fs s q) (sym number) is)
 
-pub around_told : (text path : List ℕ) (p : Placed) (s : IsSite text path p) → AroundIs text (last_number path) s.around p.entity (section_at (outer_path path) (tree text))
-around_told text path p s = subst (λ js. AroundIs text (last_number js) s.around p.entity (section_at (outer_path js) (tree text))) (sym s.path_is) (around_by text s.numbers s.around p.entity s.found)
+pub around_told : (text path : List ℕ) (p : Placed) (s : IsSite text path p) → AroundIs text path (last_number path) s.around p.entity (section_at (outer_path path) (tree text))
+around_told text path p s = subst (λ js. AroundIs text js (last_number js) s.around p.entity (section_at (outer_path js) (tree text))) (sym s.path_is) (around_by text s.numbers s.around p.entity s.found)

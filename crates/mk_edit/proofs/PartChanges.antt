@@ -15,6 +15,7 @@ use Rattle.mk_tree.specs.Spans.{digest_below}
 use Rattle.mk_tree.specs.Sections.{body_lines}
 use Rattle.mk_tree.specs.Places.{Frame, append_parts, below, left_at, default_at}
 use Rattle.mk_tree.specs.Reading.{IsWellRead, AreWellRead}
+use Rattle.mk_tree.specs.Splicing.{part_count}
 use Rattle.mk_tree.proofs.Kept.{print_read}
 use Rattle.mk_tree.proofs.WellRead.{read_well}
 use Rattle.mk_tree.proofs.Plugs.{unmarked_left, unmarked_right, unmarked_join, print_append}
@@ -95,6 +96,23 @@ pub sides : (k : ℕ) (ps : Parts) → Sides ps (parts_at k ps)
 sides zero ps = refl
 sides (suc k) no_parts = tt
 sides (suc k) (part l e ps) = sides_later l e ps (parts_at k ps) (sides k ps)
+
+-- so many parts stand before a place
+abbrev CountsTo : ℕ → Option (Parts × Parts) → Type 0
+CountsTo k None = Unit {0}
+CountsTo k (Some q) = part_count q.0 ≡ k
+
+counts_later : (k : ℕ) (l : TextLine) (e : Entity) (o : Option (Parts × Parts)) → CountsTo k o → CountsTo (suc k) (option_map (λ q. (part l e q.0, q.1)) o)
+counts_later k l e None h = tt
+counts_later k l e (Some q) h = ap (λ n. suc n) h
+
+counts_to : (k : ℕ) (ps : Parts) → CountsTo k (parts_at k ps)
+counts_to zero ps = refl
+counts_to (suc k) no_parts = tt
+counts_to (suc k) (part l e ps) = counts_later k l e (parts_at k ps) (counts_to k ps)
+
+pub counted_at : (k : ℕ) (ps : Parts) (q : Parts × Parts) → parts_at k ps ≡ Some q → part_count q.0 ≡ k
+counted_at k ps q h = subst (CountsTo k) h (counts_to k ps)
 
 -- the lines of a multipart with a part more, and without it
 pub print_added : (h : Head) (b : List ℕ) (pre : List TextLine) (before : Parts) (l : TextLine) (x : Entity) (after : Parts) (t : Option (TextLine × List TextLine))

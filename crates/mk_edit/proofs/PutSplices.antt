@@ -1,12 +1,12 @@
 -- The splice of an edit of fields, by what it puts among them.
-use Rattle.std.proofs.Common.{◌≡◌, ◌+◌, ◌-◌, ◌≤◌, ◌++◌, if◌then◌else◌, ℕ, Bool, true, false, not, Option, None, Some, Result, Ok, Err, List, [], ◌∷◌, refl, ap, sym, ◌∙◌, length, take, drop, arith, append_assoc, length-append, add-zero}
+use Rattle.std.proofs.Common.{◌≡◌, ◌+◌, ◌-◌, ◌≤◌, ◌++◌, if◌then◌else◌, ℕ, Bool, true, false, not, Option, None, Some, Result, Ok, List, [], ◌∷◌, refl, ap, sym, ◌∙◌, length, take, drop, arith, append_assoc, length-append, add-zero}
 use Rattle.std.proofs.Math.Seq.{take-append_seam, drop-append_seam}
 use Rattle.mk_line.specs.declared.cutting.Ending.{Ending}
-use Rattle.mk_line.specs.Lines.{TextLine, cut, text_of, eol_of, printed_line, ending_bytes}
+use Rattle.mk_line.specs.Lines.{cut, text_of, eol_of, printed_line, ending_bytes}
 use Rattle.mk_line.proofs.Cuts.{text_cut, append_nil}
 use Rattle.mk_head.specs.Fields.{name_of, is_one_field}
 use Rattle.mk_tree.specs.Tree.{Entity, field_lines}
-use Rattle.mk_tree.specs.Documents.{Document, tree, document_lines}
+use Rattle.mk_tree.specs.Documents.{tree, document_lines}
 use Rattle.mk_tree.specs.Spans.{size}
 use Rattle.mk_tree.specs.Sections.{Placed, head_text}
 use Rattle.mk_tree.specs.Places.{Frame, placed}

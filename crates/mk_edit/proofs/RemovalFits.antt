@@ -1,5 +1,5 @@
 -- A part that goes: what is answered is what is defined.
-use Rattle.std.proofs.Common.{◌≡◌, ◌+◌, ◌-◌, ◌≤◌, ◌++◌, ℕ, zero, suc, Option, None, Some, Result, Ok, Err, List, [], ◌∷◌, refl, ap, sym, ◌∙◌, subst, length, arith, append_assoc}
+use Rattle.std.proofs.Common.{◌≡◌, ◌+◌, ◌-◌, ◌++◌, ℕ, zero, suc, Option, None, Some, Ok, List, [], ◌∷◌, refl, ap, sym, ◌∙◌, subst, length, arith, append_assoc}
 use Rattle.std.specs.Option.{option_map}
 use Rattle.mk_line.specs.Lines.{TextLine, text_of}
 use Rattle.mk_head.specs.Split.{Head, head_lines, option_line}
@@ -7,17 +7,19 @@ use Rattle.mk_tree.specs.Tree.{Entity, leaf, message, multi, Parts, no_parts, pa
 use Rattle.mk_tree.specs.Documents.{tree, IsStable}
 use Rattle.mk_tree.specs.Spans.{size}
 use Rattle.mk_tree.specs.Sections.{Placed, section_at}
-use Rattle.mk_tree.specs.Places.{Frame, in_message, in_multi, append_parts, part_at, step_to, placed, lines_before}
+use Rattle.mk_tree.specs.Places.{Frame, in_message, in_multi, append_parts, part_at, step_to, lines_before}
+use Rattle.mk_tree.specs.Splicing.{part_count}
 use Rattle.mk_tree.proofs.Descent.{size_append}
 use Rattle.mk_tree.proofs.Stability.{read_stable}
-use Rattle.mk_edit.specs.Edits.{RemovePart, Refusal, NotPart}
+use Rattle.mk_edit.specs.Edits.{RemovePart, NotPart}
 use Rattle.mk_edit.specs.EditSplices.{one_splice, front_lines, own_delimiter}
-use Rattle.mk_edit.specs.Plans.{Plan, plain_plan, parts_at, without, last_without, remove, plan_of, planned}
+use Rattle.mk_edit.specs.Plans.{plain_plan, parts_at, without, last_without, remove, plan_of, planned}
 use Rattle.mk_edit.specs.Outcomes.{edited}
 use Rattle.mk_edit.specs.SectionAnswers.{outer_path, last_number, end_of, gap_at, removal, removal_from, removal_answer}
-use Rattle.mk_edit.proofs.Decisions.{AnswersAs, accepted_answers, unplanned, within_printed}
+use Rattle.mk_edit.proofs.Decisions.{AnswersAs, accepted_answers, unplanned}
 use Rattle.mk_edit.proofs.Gaps.{at_parts, gap_told}
 use Rattle.mk_edit.proofs.Parents.{IsAround, AroundIs, around_told}
+use Rattle.mk_edit.proofs.PartChanges.{Sides, sides, counted_at}
 use Rattle.mk_edit.proofs.PartsLead.{front_of, before_join, last_delimiter}
 use Rattle.mk_edit.proofs.Removing.{IsRemoved, removed_is}
 use Rattle.mk_edit.proofs.SectionFits.{one_frame}
@@ -77,6 +79,8 @@ record IsPart (number : ℕ) (h : Head) (b : List ℕ) (pre : List TextLine) (ps
   frame : f ≡ in_multi h b pre before delimiter after t
   there : parts_at (number - 1) ps ≡ Some (before, part delimiter s after)
   front : front_lines (number - 1) ps ≡ print_parts before
+  whole : append_parts before (part delimiter s after) ≡ ps
+  counts : suc (part_count before) ≡ number
 
 abbrev step_or : Frame × Entity → Option (Frame × Entity) → Frame × Entity
 step_or d None = d
@@ -96,6 +100,8 @@ part_by (suc j) h b pre ps t f s q o e k =
       frame = sym e;
       there = ap (λ n. parts_at n ps) (less j) ∙ (r.0 ∙ ap (λ x. Some (q.0, part q.1 x q.3)) k);
       front = ap (λ n. front_lines n ps) (less j) ∙ r.1;
+      whole = ap (λ x. append_parts q.0 (part q.1 x q.3)) (sym k) ∙ subst (Sides ps) r.0 (sides j ps);
+      counts = ap (λ n. suc n) (counted_at j ps (q.0, part q.1 q.2 q.3) r.0);
     }
 
 part_of : (number : ℕ) (h : Head) (b : List ℕ) (pre : List TextLine) (ps : Parts) (t : Option (TextLine × List TextLine)) (f : Frame) (s : Entity) (o : Option (Parts × TextLine × Entity × Parts)) → part_at number ps ≡ o
@@ -112,7 +118,7 @@ start_apart envelope gs h b pre before l after t =
     ap (λ ls. option_line envelope ++ ls) (before_join gs (in_multi h b pre before l after t ∷ [])) ∙ simp append_assoc refl in
     omega (arith, ap size lines, size_append around (front_of h pre before ++ (l ∷ [])), size_append (front_of h pre before) (l ∷ []))
 
-multi_answers : (text path : List ℕ) (number : ℕ) (p : Placed) (s : IsSite text path p) (q : Placed) (a : IsAround text number s.around p.entity q) (h : Head) (b : List ℕ) (pre : List TextLine) (ps : Parts) (t : Option (TextLine × List TextLine)) → q.entity ≡ multi h b pre ps t
+multi_answers : (text path : List ℕ) (number : ℕ) (p : Placed) (s : IsSite text path p) (q : Placed) (a : IsAround text path number s.around p.entity q) (h : Head) (b : List ℕ) (pre : List TextLine) (ps : Parts) (t : Option (TextLine × List TextLine)) → q.entity ≡ multi h b pre ps t
     → AnswersAs (RemovePart path) text (removal (gap_at (number - 1) q) p) (edited (RemovePart path) (tree text))
 multi_answers text path number p s q a h b pre ps t x =
     let e = RemovePart path in
@@ -131,13 +137,41 @@ multi_answers text path number p s q a h b pre ps t x =
     omega (arith, ap (λ (y : Placed). y.start) s.placed_is, ap (λ gs. size (option_line envelope ++ lines_before gs)) fs, start_apart envelope a.around h b pre i.before i.delimiter i.after t, ap (λ (y : Placed). y.start) a.placed_is, front) in
     let old = text_of (own_delimiter s.around ++ print p.entity) in
     let sizes : length old ≡ size (i.delimiter ∷ []) + size (print p.entity) = omega (arith, size_append (own_delimiter s.around) (print p.entity), ap size mark) in
+    let stable : IsStable (planned envelope plan) = subst (IsRemoved envelope) planned_so (removed_is path (tree text) (read_stable text)) in
     subst (λ o. AnswersAs e text (removal o p) (edited e (tree text))) (sym gap)
-    (accepted_answers e text plan (record { place = place; count = end_of p - place; new = [] }) old planned_so (subst (IsRemoved envelope) planned_so (removed_is path (tree text) (read_stable text)))
+    (accepted_answers e text plan (record { place = place; count = end_of p - place; new = [] }) old planned_so stable
     (splices_here e text path p s refl ∙ ap (λ n. one_splice n old []) (omega (arith, start, ap size mark)))
     (omega (arith, sizes, start))
-    (λ w. within_printed text place (end_of p - place) w))
+    (record {
+      around = 1 ∷ a.numbers;
+      number = number;
+      path_is = a.path_is;
+      becomes = record {
+        numbers = a.numbers;
+        around = a.around;
+        section = q.entity;
+        new = new;
+        path_is = refl;
+        found = a.there;
+        becomes = record {
+          head = h;
+          boundary = b;
+          preamble = pre;
+          before = i.before;
+          delimiter = i.delimiter;
+          old = p.entity;
+          after = i.after;
+          tail = t;
+          section_is = x ∙ ap (λ qs. multi h b pre qs t) (sym i.whole);
+          result_is = refl;
+          number_is = i.counts;
+        };
+        result = refl;
+        stable = stable;
+      };
+    }))
 
-from_answers : (text path : List ℕ) (number : ℕ) (p : Placed) (s : IsSite text path p) (q : Placed) (a : IsAround text number s.around p.entity q) (x : Entity) → q.entity ≡ x → AnswersAs (RemovePart path) text (removal_from number p q x) (edited (RemovePart path) (tree text))
+from_answers : (text path : List ℕ) (number : ℕ) (p : Placed) (s : IsSite text path p) (q : Placed) (a : IsAround text path number s.around p.entity q) (x : Entity) → q.entity ≡ x → AnswersAs (RemovePart path) text (removal_from number p q x) (edited (RemovePart path) (tree text))
 from_answers text path number p s q a (leaf h ls) x = no_step (a.frame, p.entity) (sym (ap (step_to number) x) ∙ a.step)
 from_answers text path number p s q a (message h y) x =
     let e = RemovePart path in
@@ -145,7 +179,7 @@ from_answers text path number p s q a (message h y) x =
     unplanned e text NotPart (plan_here e text path p s refl ∙ ap remove (ap last_without (a.frames ∙ ap (λ g. a.around ++ g ∷ []) (sym frame)) ∙ last_is a.around (in_message h)))
 from_answers text path number p s q a (multi h b pre ps t) x = multi_answers text path number p s q a h b pre ps t x
 
-removal_by : (text path : List ℕ) (number : ℕ) (p : Placed) (s : IsSite text path p) (o : Option Placed) → AroundIs text number s.around p.entity o → AnswersAs (RemovePart path) text (removal_answer number o p) (edited (RemovePart path) (tree text))
+removal_by : (text path : List ℕ) (number : ℕ) (p : Placed) (s : IsSite text path p) (o : Option Placed) → AroundIs text path number s.around p.entity o → AnswersAs (RemovePart path) text (removal_answer number o p) (edited (RemovePart path) (tree text))
 removal_by text path number p s None a = unplanned (RemovePart path) text NotPart (plan_here (RemovePart path) text path p s refl ∙ ap (λ fs. remove (last_without fs)) a)
 removal_by text path number p s (Some q) a = from_answers text path number p s q a q.entity refl
 

@@ -1,43 +1,40 @@
 -- Another section in the place of one: what is answered is what is defined.
-use Rattle.std.proofs.Common.{◌≡◌, ◌↔◌, ◌==◌, ◌&&◌, ◌||◌, ◌+◌, ◌≤◌, ◌++◌, if◌then◌else◌, ℕ, zero, suc, Bool, true, false, not, Option, None, Some, Result, Ok, Err, List, [], ◌∷◌, refl, ap, sym, ◌∙◌, subst, length, arith, add-zero}
+use Rattle.std.proofs.Common.{◌≡◌, ◌↔◌, ◌==◌, ◌||◌, ◌++◌, if◌then◌else◌, ℕ, zero, suc, Bool, true, false, not, Option, None, Some, List, [], ◌∷◌, refl, ap, sym, ◌∙◌, subst, length, add-zero}
 use Rattle.std.specs.Option.{option_map}
 use Rattle.std.proofs.lemmas.Bool.{or_parts}
-use Rattle.mk_line.specs.Lines.{TextLine, cut, text_of, is_nil, eol_of, IsLine, AreLines}
+use Rattle.mk_line.specs.Lines.{TextLine, cut, text_of, is_nil, AreLines}
 use Rattle.mk_line.specs.Kinds.{is_from_line}
-use Rattle.mk_line.proofs.Cuts.{text_cut, lines_cut, lines_behind}
+use Rattle.mk_line.proofs.Cuts.{text_cut, lines_cut}
 use Rattle.mk_head.specs.Split.{Head, belongs, is_empty, head_lines, option_line}
-use Rattle.mk_head.specs.Splits.{IsRun, IsSplit, has_line, Stops}
+use Rattle.mk_head.specs.Splits.{IsRun, has_line, Stops}
 use Rattle.mk_head.specs.Fields.{counted}
-use Rattle.mk_tree.specs.Tree.{Entity, leaf, message, multi, Parts, read, print, entity_head, field_lines}
-use Rattle.mk_tree.specs.Documents.{Document, IsStable, levels, tree, document_lines}
-use Rattle.mk_tree.specs.Equal.{is_stable}
+use Rattle.mk_tree.specs.Tree.{Entity, leaf, message, multi, Parts, read, print}
+use Rattle.mk_tree.specs.Documents.{levels, tree}
 use Rattle.mk_tree.specs.Spans.{size, digest_below}
 use Rattle.mk_tree.specs.Reading.{IsWellRead}
-use Rattle.mk_tree.specs.Sections.{Placed, section_at, root_of, raw_of}
+use Rattle.mk_tree.specs.Sections.{Placed, section_at, root_of}
 use Rattle.mk_tree.specs.Places.{Frame, in_message, in_multi, part_at, step_to, left_at, default_at, lines_before}
 use Rattle.mk_tree.specs.Locality.{first_line, BeginsPlain, Continues, FitsFrame, FitsIn, RootFits}
-use Rattle.mk_tree.proofs.Equals.{test_stable, stable_test}
-use Rattle.mk_tree.proofs.Kept.{print_read, text_kept}
+use Rattle.mk_tree.proofs.Kept.{print_read}
 use Rattle.mk_tree.proofs.Plugs.{lines_end, continues_of, of_ends, first_stops}
 use Rattle.mk_tree.proofs.Stability.{read_stable}
 use Rattle.mk_tree.proofs.WellRead.{well_of}
 use Rattle.mk_edit.specs.Edits.{SetSection}
-use Rattle.mk_edit.specs.Plans.{Plan, read_plan, planned, plan_of}
-use Rattle.mk_edit.specs.Outcomes.{hit, or_own, hit_level, edited}
+use Rattle.mk_edit.specs.Plans.{read_plan, planned}
+use Rattle.mk_edit.specs.Outcomes.{hit, or_own, edited}
 use Rattle.mk_edit.specs.Local.{IsLocal}
-use Rattle.mk_edit.specs.Reasons.{is_open_early}
-use Rattle.mk_edit.specs.Around.{glues, hit_below}
+use Rattle.mk_edit.specs.Around.{hit_below}
 use Rattle.mk_edit.specs.Looks.{has_separator}
-use Rattle.mk_edit.specs.LocalAnswers.{PlainSplice, behind_first, opens_at, answer_by}
+use Rattle.mk_edit.specs.LocalAnswers.{behind_first, opens_at}
 use Rattle.mk_edit.specs.SectionAnswers.{outer_path, last_number, runs_on, stays_behind, begins_well, stays, section_answer}
 use Rattle.mk_edit.proofs.EveryEdit.{locality_lem}
-use Rattle.mk_edit.proofs.Decisions.{AnswersAs, planned_answers, fits_is, within_printed}
+use Rattle.mk_edit.proofs.Decisions.{AnswersAs, planned_answers, fits_is}
 use Rattle.mk_edit.proofs.FieldFits.{entity_are, nil_told, before_each}
 use Rattle.mk_edit.proofs.HeadFits.{begins_root, root_told, first_is}
 use Rattle.mk_edit.proofs.LocalLooks.{separator_there, from_none, none_from}
-use Rattle.mk_edit.proofs.Openings.{Each, each_line, each_front, each_back, lines_front}
-use Rattle.mk_edit.proofs.SiteFacts.{as_long, entity_fields}
-use Rattle.mk_edit.proofs.Parents.{IsAround, AroundIs, around_told}
+use Rattle.mk_edit.proofs.Openings.{Each, each_line, each_front, each_back}
+use Rattle.mk_edit.proofs.SiteFacts.{entity_fields}
+use Rattle.mk_edit.proofs.Parents.{AroundIs, around_told}
 use Rattle.mk_edit.proofs.SiteLines.{plan_here, splices_here, opens_here, hit_here}
 use Rattle.mk_edit.proofs.PutSites.{place_found}
 use Rattle.mk_edit.proofs.SectionSites.{IsSite, site}
@@ -160,7 +157,7 @@ begins_told start (l ∷ ls) = (
 )
 
 -- another section there
-pub stays_told : (text path : List ℕ) (p : Placed) (s : IsSite text path p) (ls : List TextLine) (o : Option Placed) → AroundIs text (last_number path) s.around p.entity o
+pub stays_told : (text path : List ℕ) (p : Placed) (s : IsSite text path p) (ls : List TextLine) (o : Option Placed) → AroundIs text path (last_number path) s.around p.entity o
     → ((stays o p.start ls ≡ true) ↔ Fits (tree text).envelope s.around (new_at s.around ls))
 stays_told text path p s ls None a =
     let envelope = (tree text).envelope in
@@ -209,4 +206,4 @@ section_answers text path given p h =
     (ap (λ ks. hit_below ls 1 ks (root_of (tree text))) numbers ∙ (hit_here text path p s ls ∙ none_own (hit 1 s.around ls) (suc (length s.around))))
     (λ c u. fits_is (stays (section_at (outer_path path) (tree text)) p.start ls) (planned envelope plan) (IsLocal envelope plan (Unit {0})) law
     (λ k. let f = told.0 k in record { closed = c; unmarked = u; own = tt; outer = f.0; first = f.1 }) (λ l. told.1 (l.outer, l.first)))
-    (λ w. within_printed text p.start (length old) w)
+    (λ k. record { numbers = s.numbers; around = s.around; section = p.entity; new = new; path_is = s.path_is; found = s.found; becomes = ap text_of (print_read (left_at levels s.around) (default_at false s.around) ls) ∙ text_cut given; result = refl; stable = k })

@@ -1,14 +1,14 @@
 -- Lines in the place of those of a section: the lines of the document, whether an open line stands early, what is hit,
 -- and that the plan of an edit is there.
-use Rattle.std.proofs.Common.{◌≡◌, ◌+◌, ◌≤◌, ◌++◌, ℕ, suc, false, Option, None, Some, List, [], ◌∷◌, refl, ap, sym, ◌∙◌, subst, length, arith, append_assoc}
+use Rattle.std.proofs.Common.{◌≡◌, ◌+◌, ◌≤◌, ◌++◌, ℕ, Some, List, refl, ap, sym, ◌∙◌, length, arith, append_assoc}
 use Rattle.mk_line.specs.Lines.{TextLine, cut, text_of, eol_of, AreLines}
 use Rattle.mk_line.proofs.Cuts.{text_cut}
 use Rattle.mk_head.specs.Split.{option_line}
 use Rattle.mk_tree.specs.Tree.{Entity, print}
 use Rattle.mk_tree.specs.Documents.{tree, document_lines}
 use Rattle.mk_tree.specs.Spans.{size}
-use Rattle.mk_tree.specs.Sections.{Placed, section_at, root_of, raw_of, body_lines}
-use Rattle.mk_tree.specs.Places.{Frame, placed, put, lines_before, lines_after}
+use Rattle.mk_tree.specs.Sections.{Placed, section_at, root_of}
+use Rattle.mk_tree.specs.Places.{placed, put, lines_before, lines_after}
 use Rattle.mk_tree.proofs.Descent.{size_append}
 use Rattle.mk_tree.proofs.Plugs.{print_plug}
 use Rattle.mk_tree.proofs.Kept.{lines_kept}

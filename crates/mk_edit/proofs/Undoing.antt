@@ -3,12 +3,13 @@ use Rattle.std.proofs.Common.{◌≡◌, ◌+◌, ◌-◌, ◌≤◌, ◌<◌, �
 use Rattle.std.proofs.lemmas.Bool.{lt-ltb, ltb-true}
 use Rattle.std.proofs.lemmas.List.{length-take-le}
 use Rattle.mk_tree.specs.Documents.{Document, tree, printed}
-use Rattle.mk_edit.specs.Edits.{Order, Do, Undo, Redo, Refusal, NothingToUndo, NothingToRedo}
+use Rattle.mk_edit.specs.Edits.{Order, Do, Group, Undo, Redo, Refusal, NothingToUndo, NothingToRedo}
 use Rattle.mk_edit.specs.Outcomes.{edited}
 use Rattle.mk_edit.specs.EditSplices.{splices_of}
+use Rattle.mk_edit.specs.Groups.{Together, together}
 use Rattle.mk_edit.specs.Splices.{Splice}
 use Rattle.mk_edit.specs.History.{History}
-use Rattle.mk_edit.specs.Histories.{text_now, started, with_step, edited_by, step, left_by, after, after_all, next_by, repeated}
+use Rattle.mk_edit.specs.Histories.{text_now, started, with_step, edited_by, grouped_by, step, left_by, after, after_all, next_by, repeated}
 use Rattle.mk_edit.specs.Laws.{Restores, UndoingRestores}
 
 -- a history at another place
@@ -57,6 +58,10 @@ begun_edit : (text : List ℕ) (h : History) (s : List Splice) (r : Result Docum
 begun_edit text h s (Ok t) b = begun_step text h (printed t) s b
 begun_edit text h s (Err e) b = b
 
+begun_group : (text : List ℕ) (h : History) (r : Together) → Begun text h → Begun text (left_by h (grouped_by h r))
+begun_group text h (Ok p) b = begun_step text h (printed p.0) p.1 b
+begun_group text h (Err q) b = b
+
 begun_undo : (text : List ℕ) (h : History) (t : Bool) → Begun text h → Begun text (left_by h (if t then Ok (record h { place = h.place - 1 }) else Err NothingToUndo))
 begun_undo text h true b = record { others = b.others; texts = b.texts; size = b.size; within = omega (arith, b.within) }
 begun_undo text h false b = b
@@ -67,6 +72,7 @@ begun_redo text h false e b = b
 
 begun_after : (text : List ℕ) (o : Order) (h : History) → Begun text h → Begun text (after o h)
 begun_after text (Do e) h b = begun_edit text h (splices_of e (tree (text_now h))) (edited e (tree (text_now h))) b
+begun_after text (Group es) h b = begun_group text h (together es (tree (text_now h))) b
 begun_after text Undo h b = begun_undo text h (nat_lt 0 h.place) b
 begun_after text Redo h b = begun_redo text h (nat_lt h.place (length h.steps)) refl b
 

@@ -1,11 +1,9 @@
 -- Walking over the lines of a text by places.
-use Rattle.std.proofs.Common.{◌≡◌, ◌+◌, ◌-◌, ◌≤◌, ◌<◌, ◌++◌, ℕ, Bool, true, false, Option, None, Some, List, [], ◌∷◌, refl, ap, sym, ◌∙◌, subst, length, drop, slice_index, slice_get, arith, length-append, length-drop}
-use Rattle.std.proofs.lemmas.List.{get_or-drop, drop-drop}
+use Rattle.std.proofs.Common.{◌≡◌, ◌+◌, ◌-◌, ◌≤◌, ◌<◌, ℕ, Option, None, Some, List, [], ◌∷◌, refl, ap, sym, ◌∙◌, subst, length, drop, slice_index, slice_get, arith, length-drop}
+use Rattle.std.proofs.lemmas.List.{get_or-drop}
 use Rattle.mk_line.specs.Lines.{TextLine, cut, text_of, printed_line, AreLines}
-use Rattle.mk_line.specs.Kinds.{is_from_line}
 use Rattle.mk_line.specs.Views.{BeginsLine}
 use Rattle.mk_line.proofs.Cuts.{lines_cut, cut_rest, begins_line, append_nil}
-use Rattle.mk_head.specs.Split.{belongs, fields_from, option_line}
 use Rattle.mk_edit.proofs.Openings.{some_text}
 
 -- lines whose first is known

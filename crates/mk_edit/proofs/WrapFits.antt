@@ -26,7 +26,7 @@ use Rattle.mk_edit.specs.Around.{hit_below, glued_below}
 use Rattle.mk_edit.specs.LocalAnswers.{behind_first}
 use Rattle.mk_edit.specs.WrapAnswers.{made_bytes, other_part, wrap_bytes, wrap_opens, may_end, makes_digest, fits_below, wrap_fits, wrap_in, wrap_answer}
 use Rattle.mk_edit.proofs.EveryEdit.{locality_lem, eol_closed}
-use Rattle.mk_edit.proofs.Decisions.{AnswersAs, planned_answers, fits_is, unplanned, within_printed}
+use Rattle.mk_edit.proofs.Decisions.{AnswersAs, planned_answers, fits_is, unplanned}
 use Rattle.mk_edit.proofs.AroundFrames.{frames_glued}
 use Rattle.mk_edit.proofs.BodyFits.{some_open}
 use Rattle.mk_edit.proofs.FieldChanges.{run_read}
@@ -154,7 +154,7 @@ wrap_there text path subtype b p s k h =
     (λ c u. fits_is fits (planned envelope plan) (IsLocal envelope plan (WrapsWell n d (eol_of (document_lines (tree text))) s.around p.entity subtype)) law
     (λ x. let f = told.0 x in record { closed = c; unmarked = u; own = subst (λ ls. WrapsWell n d (eol_of ls) s.around p.entity subtype) (sym (lines_kept text)) f.0; outer = f.1; first = f.2 })
     (λ l. told.1 (subst (λ ls. WrapsWell n d (eol_of ls) s.around p.entity subtype) (lines_kept text) l.own, l.outer, l.first)))
-    (λ w. within_printed text p.start (length old) w)
+    (λ x. record { numbers = s.numbers; around = s.around; section = p.entity; new = plan.new; path_is = s.path_is; found = s.found; becomes = sym (bytes_told text path p s eol subtype b); result = refl; stable = x })
 
 -- the answer at a section
 bad_boundary : (text path subtype b : List ℕ) (p : Placed) (s : IsSite text path p) → is_boundary b ≡ false → plan_of (Wrap path subtype b) (tree text) ≡ Err BadBoundary

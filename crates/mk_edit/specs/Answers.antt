@@ -3,8 +3,13 @@ use Rattle.std.specs.Prelude.{◌≡◌, Bool, true, false, Option, None, Some, 
 use Rattle.std.specs.Option.{option_map}
 use Rattle.mk_edit.specs.declared.errors.EditError.{EditError}
 use Rattle.mk_edit.specs.declared.errors.EditError.TheVariants as error
-use Rattle.mk_edit.specs.Edits.{Refusal, NoSuchSection, NotMultipart, NotLeaf, NotPart, NoSuchField, BadPlace, BadField, BadName, BadBoundary, BadSubtype, OpenLine, HoldsBoundary, Recut, NothingToUndo, NothingToRedo}
+use Rattle.mk_edit.specs.declared.errors.GroupError.{GroupError}
+use Rattle.mk_edit.specs.declared.errors.GroupError.TheVariants.{Member as MemberIn, Memory as MemoryIn}
+use Rattle.mk_edit.specs.declared.replies.Reply.{Reply}
+use Rattle.mk_edit.specs.declared.replies.Reply.TheVariants.{Obeyed, Refused, MemberRefused}
+use Rattle.mk_edit.specs.Edits.{Refusal, NoSuchSection, NotMultipart, NotLeaf, NotPart, NoSuchField, BadPlace, BadField, BadName, BadBoundary, BadSubtype, OpenLine, HoldsBoundary, Recut, NothingToUndo, NothingToRedo, Member}
 use Rattle.mk_edit.specs.History.{History}
+use Rattle.mk_edit.specs.Histories.{left_by, refusal}
 
 -- the reason that an error names; want of memory is none
 abbrev pub refusal_of : EditError → Option Refusal
@@ -26,9 +31,10 @@ refusal_of error.NothingToRedo = Some NothingToRedo
 refusal_of error.Memory = None
 
 -- a reply as plain data: nothing where an order was obeyed, or the reason against it; want of memory is no reply
-abbrev pub reply_of : Option EditError → Option (Option Refusal)
-reply_of None = Some None
-reply_of (Some e) = option_map (λ r. Some r) (refusal_of e)
+abbrev pub reply_of : Reply → Option (Option Refusal)
+reply_of Obeyed = Some None
+reply_of (Refused e) = option_map (λ r. Some r) (refusal_of e)
+reply_of (MemberRefused index e) = option_map (λ r. Some (Member index r)) (refusal_of e)
 
 -- no reason is named
 abbrev pub is_unnamed : Option Refusal → Bool
@@ -58,3 +64,18 @@ Answers (Err e) defined = IsRefusedBy (refusal_of e) defined
 abbrev pub Does : {X : Type 0} → Result X EditError → Result History Refusal → History → History → Type 0
 Does (Ok x) defined old new = defined ≡ Ok new
 Does (Err e) defined old new = (new ≡ old) × IsRefusedBy (refusal_of e) defined
+
+-- a group is refused for the member and the reason that are named; want of memory names none
+abbrev pub IsGroupRefusedBy : {X : Type 0} → GroupError → Result X Refusal → Type 0
+IsGroupRefusedBy (MemberIn index e) r = (reason : Refusal) × (refusal_of e ≡ Some reason) × (r ≡ Err (Member index reason))
+IsGroupRefusedBy MemoryIn r = Unit {0}
+
+-- the same as Does, for a group
+abbrev pub DoesGroup : {X : Type 0} → Result X GroupError → Result History Refusal → History → History → Type 0
+DoesGroup (Ok x) defined old new = defined ≡ Ok new
+DoesGroup (Err e) defined old new = (new ≡ old) × IsGroupRefusedBy e defined
+
+-- a reply tells what is defined, and that is what is left; where there is none, all is as before
+abbrev pub Replies : {X : Type 0} → Result Reply X → Result History Refusal → History → History → Type 0
+Replies (Ok r) defined old new = (reply_of r ≡ Some (refusal defined)) × (new ≡ left_by old defined)
+Replies (Err x) defined old new = new ≡ old

@@ -66,9 +66,12 @@ pub data Refusal : Type 0 where
   NothingToUndo : Refusal
   -- no step was taken back that could be made again
   NothingToRedo : Refusal
+  -- an edit of a group is refused, the first of its edits having number 0
+  Member : (index : ℕ) → (refusal : Refusal) → Refusal
 
--- what may be asked of a session: an edit, to take the last step back, to make it again
+-- what may be asked of a session: an edit, several as one step, to take the last step back, to make it again
 pub data Order : Type 0 where
   Do : PlainEdit → Order
+  Group : List PlainEdit → Order
   Undo : Order
   Redo : Order

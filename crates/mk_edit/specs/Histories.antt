@@ -1,10 +1,11 @@
 -- What edits, undoing and redoing make of a history (own).
 use Rattle.std.specs.Prelude.{◌≡◌, ◌+◌, ◌-◌, ◌≤◌, ◌++◌, if◌then◌else◌, ℕ, Option, None, Some, Result, Ok, Err, List, [], ◌∷◌, length, take, slice_index_or, nat_lt, suc, zero}
 use Rattle.mk_tree.specs.Documents.{Document, tree, printed}
-use Rattle.mk_edit.specs.Edits.{Order, Do, Undo, Redo, Refusal, NothingToUndo, NothingToRedo}
+use Rattle.mk_edit.specs.Edits.{Order, Do, Group, Undo, Redo, Refusal, NothingToUndo, NothingToRedo, Member}
 use Rattle.mk_edit.specs.Outcomes.{edited}
 use Rattle.mk_edit.specs.EditSplices.{splices_of}
 use Rattle.mk_edit.specs.Splices.{Splice, forth_step, back_step}
+use Rattle.mk_edit.specs.Groups.{Together, together}
 use Rattle.mk_edit.specs.History.{History}
 
 -- each text is the one before it with a step made, and that one is it with the step taken back
@@ -39,9 +40,15 @@ abbrev pub edited_by : History → List Splice → Result Document Refusal → R
 edited_by h step (Ok t) = Ok (with_step h (printed t) step)
 edited_by h step (Err e) = Err e
 
+-- what an accepted group makes of a history: one step more, with all splices; or its refused edit and the reason
+abbrev pub grouped_by : History → Together → Result History Refusal
+grouped_by h (Ok p) = Ok (with_step h (printed p.0) p.1)
+grouped_by h (Err q) = Err (Member q.0 q.1)
+
 -- what an order makes of a history, or the reason why it is refused
 abbrev pub step : Order → History → Result History Refusal
 step (Do e) h = edited_by h (splices_of e (tree (text_now h))) (edited e (tree (text_now h)))
+step (Group es) h = grouped_by h (together es (tree (text_now h)))
 step Undo h = if nat_lt 0 h.place then Ok (record h { place = h.place - 1 }) else Err NothingToUndo
 step Redo h = if nat_lt h.place (length h.steps) then Ok (record h { place = h.place + 1 }) else Err NothingToRedo
 

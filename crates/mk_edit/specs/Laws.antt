@@ -4,7 +4,8 @@ use Rattle.mk_tree.specs.Documents.{Document, tree, printed}
 use Rattle.mk_edit.specs.Edits.{PlainEdit, Order, Undo, Redo}
 use Rattle.mk_edit.specs.Outcomes.{edited}
 use Rattle.mk_edit.specs.EditSplices.{splices_of}
-use Rattle.mk_edit.specs.Splices.{forth_step, back_step}
+use Rattle.mk_edit.specs.Groups.{together}
+use Rattle.mk_edit.specs.Splices.{Splice, forth_step, back_step}
 use Rattle.mk_edit.specs.History.{History}
 use Rattle.mk_edit.specs.Histories.{IsHistory, text_now, started, after_all, repeated}
 
@@ -27,6 +28,12 @@ SplicesLead = (e : PlainEdit) (text : List ℕ) (t : Document) → edited e (tre
 -- an accepted edit gives a document that is read as itself
 abbrev pub EditsReadBack : Type 0
 EditsReadBack = (e : PlainEdit) (text : List ℕ) (t : Document) → edited e (tree text) ≡ Ok t → tree (printed t) ≡ t
+
+-- the splices of a group that is accepted lead from the text before to the text after, and back; and its document is
+-- read as itself
+abbrev pub GroupsLead : Type 0
+GroupsLead = (es : List PlainEdit) (text : List ℕ) (t : Document) (ss : List Splice) → together es (tree text) ≡ Ok (t, ss) →
+    (forth_step ss text ≡ printed t) × (back_step ss (printed t) ≡ text) × (tree (printed t) ≡ t)
 
 -- what orders leave is a history
 abbrev pub HistoriesStay : Type 0

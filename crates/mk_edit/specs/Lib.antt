@@ -6,6 +6,7 @@ pub mod Plans
 pub mod Outcomes
 pub mod Splices
 pub mod EditSplices
+pub mod Groups
 pub mod History
 pub mod Histories
 pub mod Answers
@@ -23,5 +24,6 @@ pub mod LocalAnswers
 pub mod SectionAnswers
 pub mod WrapAnswers
 pub mod Decided
+pub mod Made
 pub mod Counts
 pub mod Laws

@@ -5,8 +5,8 @@ use Rattle.mk_line.specs.Kinds.{is_field_start, is_continuation, is_from_line}
 use Rattle.mk_line.specs.Lines.{TextLine, cut, text_of, is_nil, ending_bytes, eol_of}
 use Rattle.mk_head.specs.Split.{is_start, head_lines}
 use Rattle.mk_head.specs.Fields.{counted}
-use Rattle.mk_tree.specs.Tree.{Entity, leaf, message, multi, print, entity_head}
-use Rattle.mk_tree.specs.Documents.{Document, tree}
+use Rattle.mk_tree.specs.Tree.{Entity, leaf, message, multi, entity_head}
+use Rattle.mk_tree.specs.Documents.{tree}
 use Rattle.mk_tree.specs.Spans.{size}
 use Rattle.mk_tree.specs.Sections.{Placed, root_of, children, raw_of, body_text, preamble_lines}
 use Rattle.mk_edit.specs.Edits.{Refusal, NotMultipart, NotLeaf, NotPart, BadPlace}

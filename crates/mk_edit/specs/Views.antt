@@ -4,9 +4,9 @@ use Rattle.std.specs.Global.{Vec}
 use Rattle.mk_edit.specs.declared.edits.Edit.{Edit}
 use Rattle.mk_edit.specs.declared.edits.Edit.TheVariants as edit
 use Rattle.mk_edit.specs.declared.edits.Command.{Command}
-use Rattle.mk_edit.specs.declared.edits.Command.TheVariants.{Do as DoIn, Undo as UndoIn, Redo as RedoIn}
+use Rattle.mk_edit.specs.declared.edits.Command.TheVariants.{Do as DoIn, Group as GroupIn, Undo as UndoIn, Redo as RedoIn}
 use Rattle.mk_edit.specs.declared.splicing.Splice.{Splice as SpliceIn}
-use Rattle.mk_edit.specs.Edits.{PlainEdit, AddField, RemoveField, RenameField, SetField, SetBody, SetSection, InsertPart, RemovePart, Wrap, Order, Do, Undo, Redo}
+use Rattle.mk_edit.specs.Edits.{PlainEdit, AddField, RemoveField, RenameField, SetField, SetBody, SetSection, InsertPart, RemovePart, Wrap, Order, Do, Group, Undo, Redo}
 use Rattle.mk_edit.specs.Splices.{Splice}
 
 -- an edit in memory
@@ -24,6 +24,7 @@ edit_of (edit.Wrap path subtype boundary) = Wrap path.items subtype.items bounda
 -- a command in memory
 abbrev pub order_of : Command → Order
 order_of (DoIn edit) = Do (edit_of edit)
+order_of (GroupIn list) = Group (map edit_of list.items)
 order_of UndoIn = Undo
 order_of RedoIn = Redo
 

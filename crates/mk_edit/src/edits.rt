@@ -89,6 +89,8 @@ impl Edit {
 pub enum Command {
     /// Makes an edit.
     Do(Edit),
+    /// Makes edits one after another, as one step.
+    Group(Vec<Edit>),
     /// Takes the last step back.
     Undo,
     /// Makes the step that was taken back last again.

@@ -1,7 +1,8 @@
-//! Why an edit, an undo or a redo is refused.
+//! Why an edit, a group of edits, an undo or a redo is refused.
 ghost use Rattle.std.specs.Prelude.{◌≡◌};
 ghost use Rattle.mk_edit.specs.Answers.{is_memory as wants_memory};
 ghost use Rattle.mk_edit.specs.declared.errors.EditError.TheVariants.{Memory};
+ghost use Rattle.mk_edit.specs.declared.errors.GroupError.TheVariants.{Memory as GroupMemory};
 
 use std::alloc::{AllocError, AllocFailed};
 use thiserror::Error;
@@ -81,5 +82,33 @@ impl<T: Drop> From<AllocFailed<T>> for EditError {
 
     fn from(_error: AllocFailed<T>) -> EditError {
         EditError::Memory
+    }
+}
+
+/// Why a group of edits is refused.
+#[derive(Clone, Copy, Debug, PartialEq, Eq, Error)]
+pub enum GroupError {
+    /// An edit is refused, in the message that the earlier ones gave: the first that is. The first edit of a group has
+    /// number 0.
+    #[error("edit {index} of the group: {refusal}")]
+    Member { index: usize, refusal: EditError },
+    /// There is no memory; nothing has changed.
+    #[error("out of memory")]
+    Memory,
+}
+
+impl From<AllocError> for GroupError {
+    ghost from_gives = { λ _ e. e ≡ GroupMemory };
+
+    fn from(_error: AllocError) -> GroupError {
+        GroupError::Memory
+    }
+}
+
+impl<T: Drop> From<AllocFailed<T>> for GroupError {
+    ghost from_gives = { λ _ e. e ≡ GroupMemory };
+
+    fn from(_error: AllocFailed<T>) -> GroupError {
+        GroupError::Memory
     }
 }

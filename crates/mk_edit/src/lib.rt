@@ -11,10 +11,12 @@ mod edits;
 mod errors;
 mod field_answers;
 mod field_edits;
+mod grouping;
 mod kinds_kept;
 pub mod laws;
 mod looking;
 mod part_edits;
+mod replies;
 mod section_edits;
 mod session;
 mod splicing;
@@ -23,7 +25,8 @@ mod wrap_edits;
 mod wrapped_text;
 
 pub use edits::{Command, Edit};
-pub use errors::EditError;
+pub use errors::{EditError, GroupError};
+pub use replies::Reply;
 pub use session::Session;
 
 #[cfg(test)]

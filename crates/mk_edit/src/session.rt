@@ -1,21 +1,23 @@
 //! A message under edit, and its history.
 ghost use Rattle.std.specs.Prelude.{◌≡◌, ◌+◌, ◌*◌, ◌≤◌, ℕ, Ok, Some, IfOk, IfErr, OnOk, OnErr, length, take, map};
 ghost use Rattle.mk_tree.specs.Documents.{tree};
-ghost use Rattle.mk_edit.specs.Edits.{Do, Undo, Redo};
+ghost use Rattle.mk_edit.specs.Edits.{Do, Group, Undo, Redo};
 ghost use Rattle.mk_edit.specs.Outcomes.{edited};
-ghost use Rattle.mk_edit.specs.Answers.{reply_of, Answers, Does};
+ghost use Rattle.mk_edit.specs.Answers.{reply_of, Answers, Does, DoesGroup, Replies};
 ghost use Rattle.mk_edit.specs.Counts.{edit_lines};
 ghost use Rattle.mk_edit.specs.Decided.{IsDecided};
 ghost use Rattle.mk_edit.specs.LocalAnswers.{plain_splice};
 ghost use Rattle.mk_edit.specs.Splices.{forth_step, back_step};
-ghost use Rattle.mk_edit.specs.Histories.{IsHistory, after, after_all, refusal, replies, started, step, text_now};
+ghost use Rattle.mk_edit.specs.Histories.{IsHistory, after_all, replies, started, step, text_now};
 ghost use Rattle.mk_edit.specs.Views.{edit_of, order_of, splice_of};
 
 use crate::deciding::decide;
 use crate::edits::{Command, Edit};
-use crate::errors::EditError;
+use crate::errors::{EditError, GroupError};
+use crate::grouping::together;
+use crate::replies::{Reply, replied, replied_to_group};
 use crate::splicing::{Replacement, Splice, copied};
-use crate::stepping::{change, made_again, taken_back};
+use crate::stepping::{change, made_again, put_step, taken_back};
 use mk_line::Meter;
 use mk_tree::Doc;
 use std::alloc::{AllocError, Global};
@@ -95,14 +97,14 @@ impl Session {
         Ok(())
     }
 
-    /// Obeys commands, one after another, and answers to each why it was refused, or nothing where it wasn't. Want of
-    /// memory ends the call; then a front of the commands was obeyed.
+    /// Obeys commands, one after another, and replies to each. Want of memory ends the call; then a front of the commands
+    /// was obeyed.
     pub fn obey_all(
         &mut self,
         alloc: Global,
         commands: &[Command],
         meter: &mut Meter,
-    ) -> Result<Vec<Option<EditError>>, AllocError>
+    ) -> Result<Vec<Reply>, AllocError>
         ensures replies { IfOk result (λ all. map reply_of all.items ≡ map (λ r. Some r) (replies (map order_of commands.now) self.old)) }
         ensures history { OnOk result (self.new ≡ after_all (map order_of commands.now) self.old) }
         ensures front { OnErr result ((n : ℕ) × (self.new ≡ after_all (take n (map order_of commands.now)) self.old)) }
@@ -115,36 +117,15 @@ impl Session {
         Ok(all)
     }
 
-    // Obeys one command, and answers why it was refused, or nothing where it wasn't.
-    fn reply(
-        &mut self,
-        command: &Command,
-        meter: &mut Meter,
-    ) -> Result<Option<EditError>, AllocError>
-        ensures reply { IfOk result (λ r. reply_of r ≡ Some (refusal (step (order_of command.now) self.old))) }
-        ensures history { OnOk result (self.new ≡ after (order_of command.now) self.old) }
-        ensures err { OnErr result (self.new ≡ self.old) }
-    {
-        match self.obey(command, meter) {
-            Ok(()) => Ok(None),
-            Err(error) => {
-                if error.is_memory() {
-                    Err(AllocError)
-                } else {
-                    Ok(Some(error))
-                }
-            }
-        }
-    }
-
-    // Obeys one command.
-    fn obey(&mut self, command: &Command, meter: &mut Meter) -> Result<(), EditError>
-        ensures { Does result (step (order_of command.now) self.old) self.old self.new }
+    // Obeys one command, and replies to it.
+    fn reply(&mut self, command: &Command, meter: &mut Meter) -> Result<Reply, AllocError>
+        ensures { Replies result (step (order_of command.now) self.old) self.old self.new }
     {
         match command {
-            Command::Do(edit) => self.edit(edit, meter),
-            Command::Undo => self.undo(),
-            Command::Redo => self.redo(),
+            Command::Do(edit) => replied(self.edit(edit, meter)),
+            Command::Group(list) => replied_to_group(self.group(list, meter)),
+            Command::Undo => replied(self.undo()),
+            Command::Redo => replied(self.redo()),
         }
     }
 
@@ -155,6 +136,19 @@ impl Session {
     {
         let made = decide(*self.steps.allocator(), &self.doc, edit, meter)?;
         self.put(edit, made)?;
+        Ok(())
+    }
+
+    /// Makes edits one after another, as one step, and drops the steps that were undone; a group of no edits is a step
+    /// too. Where one of the edits is refused, nothing changes, and the same for want of memory.
+    pub fn group(&mut self, list: &[Edit], meter: &mut Meter) -> Result<(), GroupError>
+        ensures { DoesGroup result (step (Group (map edit_of list.now)) self.old) self.old self.new }
+    {
+        let (doc, step) = together(*self.steps.allocator(), &self.doc, list, meter)?;
+        self.steps.reserve(1)?;
+        self.doc = doc;
+        put_step(&mut self.steps, self.done, step);
+        self.done += 1;
         Ok(())
     }
 
@@ -202,8 +196,7 @@ impl Session {
         self.steps.reserve(1)?;
         change(&mut self.doc, edit, place, count, text)?;
         step.push_reserved(Splice { place, old, new });
-        self.steps.truncate(self.done);
-        self.steps.push_reserved(step);
+        put_step(&mut self.steps, self.done, step);
         self.done += 1;
         Ok(())
     }

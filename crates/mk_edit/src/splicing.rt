@@ -5,7 +5,7 @@ ghost use Rattle.mk_tree.specs.Splicing.{spliced};
 ghost use Rattle.mk_edit.specs.Rooms.{olds, news};
 ghost use Rattle.mk_edit.specs.Views.{splice_of};
 
-use mk_tree::replace;
+use mk_tree::replace_within;
 use std::alloc::{AllocError, Global};
 
 /// A place in a text, the bytes that stood there and those that took their place.
@@ -31,16 +31,6 @@ pub fn copied(alloc: Global, text: &[u8], place: usize, count: usize) -> Result<
     ensures { IfOk result (λ v. v.items ≡ take count (drop place text.now)) }
 {
     Vec::from_slice(alloc, &text[place..place + count])
-}
-
-// The same as `replace`, where there is room.
-fn replace_within(items: &mut Vec<u8>, place: usize, count: usize, text: &[u8])
-    requires inside { place + count ≤ vec_len items.old }
-    requires room { vec_len items.old + length text.now ≤ vec_capacity items.old + count }
-    ensures items { items.new.items ≡ spliced place count text.now items.old.items }
-    ensures capacity { vec_capacity items.old ≤ vec_capacity items.new }
-{
-    let _room = replace(items, place, count, text);
 }
 
 /// Takes a step back, its last splice first. Where there is no memory, nothing changes.

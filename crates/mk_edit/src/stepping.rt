@@ -1,20 +1,26 @@
-//! Steps of a document: an accepted edit made in it, a step taken back or made again.
-ghost use Rattle.std.specs.Prelude.{◌≡◌, map, IfOk, OnOk, OnErr};
-ghost use Rattle.mk_tree.specs.ChangeViews.{Changes, count_of, new_of, place_of};
-ghost use Rattle.mk_tree.specs.Documents.{Document, tree};
+//! Steps of a document: an edit made in it, a step taken back or made again.
+ghost use Rattle.std.specs.Prelude.{◌≡◌, ◌<◌, ◌++◌, ◌∷◌, [], ℕ, List, map, take, vec_len, vec_capacity, IfOk, IfErr, OnOk, OnErr};
+ghost use Rattle.mk_tree.specs.ChangeViews.{ChangesTo};
+ghost use Rattle.mk_tree.specs.Documents.{tree};
 ghost use Rattle.mk_tree.specs.Splicing.{spliced};
-ghost use Rattle.mk_edit.specs.Decided.{ChangesBy};
+ghost use Rattle.mk_edit.specs.Answers.{refusal_of, IsRefusedBy};
+ghost use Rattle.mk_edit.specs.Decided.{IsDecided};
 ghost use Rattle.mk_edit.specs.Edits.{path_of};
+ghost use Rattle.mk_edit.specs.Made.{IsMade};
+ghost use Rattle.mk_edit.specs.Outcomes.{edited};
 ghost use Rattle.mk_edit.specs.Splices.{back_step, forth_step, GoesBack, GoesForth};
 ghost use Rattle.mk_edit.specs.Views.{edit_of, splice_of};
 
+use crate::deciding::decide;
 use crate::edits::Edit;
-use crate::splicing::{Splice, make_again, take_back};
+use crate::errors::EditError;
+use crate::splicing::{Replacement, Splice, copied, make_again, take_back};
+use mk_line::Meter;
 use mk_tree::{Change, Doc};
 use std::alloc::{AllocError, Global};
 
-/// Puts `text` in the place of `count` bytes at `place`, for an edit that was accepted. Where there is no memory, nothing
-/// changes.
+/// Makes an edit that was accepted: `text` comes in the place of `count` bytes at `place`. Where there is no memory,
+/// nothing changes.
 pub(crate) fn change(
     doc: &mut Doc,
     edit: &Edit,
@@ -22,7 +28,7 @@ pub(crate) fn change(
     count: usize,
     text: Vec<u8>,
 ) -> Result<(), AllocError>
-    requires { ChangesBy (edit_of edit.now) (record { place = place; count = count; new = text.items }) (tree doc.old) }
+    requires { IsDecided (edit_of edit.now) doc.old (record { place = place; count = count; new = text.items }) }
     ensures ok { OnOk result (doc.new ≡ spliced place count text.items doc.old) }
     ensures err { OnErr result (doc.new ≡ doc.old) }
 {
@@ -32,23 +38,49 @@ pub(crate) fn change(
     }
 }
 
+/// Makes an edit where nothing is against it, and answers its splice.
+pub(crate) fn make(
+    alloc: Global,
+    doc: &mut Doc,
+    edit: &Edit,
+    meter: &mut Meter,
+) -> Result<Splice, EditError>
+    ensures ok { IfOk result (λ s. IsMade (edit_of edit.now) doc.old (splice_of s) doc.new) }
+    ensures err { IfErr result (λ e. IsRefusedBy (refusal_of e) (edited (edit_of edit.now) (tree doc.old))) }
+{
+    let Replacement { place, count, new } = decide(alloc, doc, edit, meter)?;
+    let old = copied(alloc, doc.text(), place, count)?;
+    let text = Vec::from_slice(alloc, &new)?;
+    change(doc, edit, place, count, text)?;
+    Ok(Splice { place, old, new })
+}
+
 // What an edit changes.
 fn change_of(edit: &Edit, place: usize, count: usize, text: Vec<u8>) -> Change
-    ensures place { place_of result ≡ place }
-    ensures count { count_of result ≡ count }
-    ensures new { new_of result ≡ text.items }
-    ensures changes { (t : Document) → ChangesBy (edit_of edit.now) (record { place = place; count = count; new = text.items }) t → Changes (path_of (edit_of edit.now)) result t }
+    ensures { (x : List ℕ) (d : IsDecided (edit_of edit.now) x (record { place = place; count = count; new = text.items })) → ChangesTo (path_of (edit_of edit.now)) result (tree x) d.document }
 {
     match edit {
         Edit::AddField { .. }
         | Edit::RemoveField { .. }
         | Edit::RenameField { .. }
         | Edit::SetField { .. } => Change::Header { place, count, text },
-        Edit::SetBody { .. } => Change::Body { place, count, text },
-        Edit::SetSection { .. } | Edit::Wrap { .. } => Change::Entity { place, count, text },
-        Edit::InsertPart { .. } => Change::Part { place, count, text },
-        Edit::RemovePart { .. } => Change::NoPart { place, count, text },
+        Edit::SetBody { .. } => Change::Body { text },
+        Edit::SetSection { .. } | Edit::Wrap { .. } => Change::Entity { text },
+        Edit::InsertPart { place, .. } => Change::Part {
+            place: *place,
+            text,
+        },
+        Edit::RemovePart { .. } => Change::NoPart,
     }
+}
+
+/// Puts a step behind those that are done, in the place of others.
+pub(crate) fn put_step(steps: &mut Vec<Vec<Splice>>, done: usize, step: Vec<Splice>)
+    requires { vec_len steps.old < vec_capacity steps.old }
+    ensures { steps.new.items ≡ take done steps.old.items ++ step ∷ [] }
+{
+    steps.truncate(done);
+    steps.push_reserved(step);
 }
 
 /// A document with a step taken back, read anew.
@@ -68,6 +100,14 @@ pub(crate) fn made_again(alloc: Global, doc: &Doc, step: &[Splice]) -> Result<Do
 {
     let mut text = Vec::from_slice(alloc, doc.text())?;
     make_again(&mut text, step)?;
+    read(alloc, text)
+}
+
+/// A document read anew.
+pub(crate) fn read_anew(alloc: Global, doc: &Doc) -> Result<Doc, AllocError>
+    ensures { IfOk result (λ d. d ≡ doc.now) }
+{
+    let text = Vec::from_slice(alloc, doc.text())?;
     read(alloc, text)
 }
 

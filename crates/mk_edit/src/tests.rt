@@ -4,6 +4,7 @@
 mod agreeing;
 mod fields;
 mod flat;
+mod groups;
 mod histories;
 mod kinds;
 mod levels;
@@ -15,6 +16,8 @@ mod parts;
 mod plain;
 mod removals;
 mod sections;
+mod wrapping;
+mod wraps;
 
 use crate::{Edit, EditError, Session};
 use flat::flattened;
@@ -63,6 +66,10 @@ pub enum Asked {
         text: &'static [u8],
     },
     RemovePart,
+    Wrap {
+        subtype: &'static [u8],
+        boundary: &'static [u8],
+    },
 }
 
 /// The edit of a section that is asked for.
@@ -105,6 +112,15 @@ pub fn edit_at(alloc: Global, path: &[u32], asked: Asked) -> Result<Edit, AllocE
             Edit::InsertPart { path, place, text }
         }
         Asked::RemovePart => Edit::RemovePart { path },
+        Asked::Wrap { subtype, boundary } => {
+            let subtype = Vec::from_slice(alloc, subtype)?;
+            let boundary = Vec::from_slice(alloc, boundary)?;
+            Edit::Wrap {
+                path,
+                subtype,
+                boundary,
+            }
+        }
     };
     Ok(edit)
 }

@@ -5,3 +5,5 @@ pub mod NamesKnown
 pub mod InTurn
 pub mod SafeNames
 pub mod Rows
+pub mod Joined
+pub mod Failing

@@ -7,3 +7,5 @@ pub mod FileNames
 pub mod NameViews
 pub mod GivenNames
 pub mod Taken
+pub mod Building
+pub mod BuildViews

@@ -1,7 +1,7 @@
 //! File names, told apart.
 ghost use Rattle.std.specs.Prelude.{◌≡◌, ◌<◌, ◌≤◌, ◌+◌, ◌^◌, [], ◌∷◌, ℕ, List, None, Some, true, if◌then◌else◌, is_some, map, IfOk, OnOk};
 ghost use Rattle.std.specs.Str.{bytes_eq};
-ghost use Rattle.mk_mail.specs.GivenNames.{AreGiven, IsGiven, numbered as numbered_by};
+ghost use Rattle.mk_mail.specs.GivenNames.{AreGiven, IsGiven, is_safe, numbered as numbered_by};
 ghost use Rattle.mk_mail.specs.NameViews.{named_view};
 ghost use Rattle.mk_mail.specs.Taken.{Knows, number_at};
 
@@ -88,9 +88,10 @@ fn free_name(
     Err(AllocError)
 }
 
-// A name with a number behind it.
-fn numbered(alloc: Global, name: &[u8], number: u64) -> Result<Vec<u8>, AllocError>
-    ensures { IfOk result (λ text. text.items ≡ numbered_by name.now number) }
+/// A name with a dot and a number behind it.
+pub fn numbered(alloc: Global, name: &[u8], number: u64) -> Result<Vec<u8>, AllocError>
+    ensures written { IfOk result (λ text. text.items ≡ numbered_by name.now number) }
+    ensures safe { IfOk result (λ text. is_safe name.now ≡ true → is_safe text.items ≡ true) }
 {
     let mut text = Vec::from_slice(alloc, name)?;
     text.push(DOT)?;

@@ -4,9 +4,9 @@ ghost use Rattle.std.specs.List.{flat_map};
 ghost use Rattle.mk_line.specs.Lines.{cut as lines_of};
 ghost use Rattle.mk_tree.specs.Documents.{tree};
 ghost use Rattle.mk_mail.specs.Listed.{Listed, listed_from};
-ghost use Rattle.mk_mail.specs.Listing.{column, encoding_name as name_of_encoding, kind_name as name_of_kind, line_counts, listing, listing_line, nature, places, type_of, type_text};
+ghost use Rattle.mk_mail.specs.Listing.{encoding_name as name_of_encoding, kind_name as name_of_kind, line_counts, listing, listing_line, nature, places};
 
-use crate::typing::{media_type, transfer_encoding};
+use crate::typing::{push_type, transfer_encoding};
 use crate::writing::{push_column, push_number_column, push_path};
 use mk_head::Encoding;
 use mk_line::cut;
@@ -15,7 +15,7 @@ use std::alloc::{AllocError, Global};
 
 const LINE_FEED: u8 = b'\n';
 
-const SLASH: u8 = b'/';
+const SPACE: u8 = b' ';
 
 /// Lists the sections of a document, a line each, in the document's order: path, kind, type, transfer encoding, the
 /// offsets in bytes of its front, of its body and of its end, and how many lines its fields and its body have. A section
@@ -81,17 +81,9 @@ fn push_nature(alloc: Global, lines: &mut Vec<u8>, section: &Section<'_>) -> Res
     ensures { OnOk result (lines.new.items ≡ lines.old.items ++ nature section.now) }
 {
     push_column(lines, kind_name(section.kind()))?;
+    lines.push(SPACE)?;
     push_type(alloc, lines, section)?;
     push_column(lines, encoding_name(transfer_encoding(alloc, section)?))
-}
-
-fn push_type(alloc: Global, lines: &mut Vec<u8>, section: &Section<'_>) -> Result<(), AllocError>
-    ensures { OnOk result (lines.new.items ≡ lines.old.items ++ column (type_text (type_of section.now))) }
-{
-    let media = media_type(alloc, section)?;
-    push_column(lines, &media.main)?;
-    lines.push(SLASH)?;
-    lines.extend_from_slice(&media.sub)
 }
 
 fn push_places(lines: &mut Vec<u8>, section: &Section<'_>) -> Result<(), AllocError>

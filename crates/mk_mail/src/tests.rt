@@ -1,4 +1,6 @@
-//! Rows of listings and of contents.
+//! Rows of listings, of contents and of built messages.
+mod builds;
+
 use crate::{ExtractError, extract, list, names};
 use mk_tree::Doc;
 use std::alloc::Global;

@@ -1,12 +1,24 @@
 //! What the fields of a section say of it (RFC 2045, 5.1, 5.2 and 6).
-ghost use Rattle.std.specs.Prelude.{◌≡◌, [], IfOk};
+ghost use Rattle.std.specs.Prelude.{◌≡◌, ◌++◌, [], IfOk, OnOk};
 ghost use Rattle.mk_head.specs.Types.{default_type as type_by_default};
 ghost use Rattle.mk_head.specs.ValueViews.{media_type_of};
-ghost use Rattle.mk_mail.specs.Listing.{encoding_in, type_of};
+ghost use Rattle.mk_mail.specs.Listing.{encoding_in, type_of, type_text};
 
 use mk_head::{ContentType, Encoding, content_type, encoding};
 use mk_tree::Section;
 use std::alloc::{AllocError, Global};
+
+const SLASH: u8 = b'/';
+
+/// Writes the content type of a section behind a text, as `text/plain`; without a field that says it that of its place.
+pub fn push_type(alloc: Global, text: &mut Vec<u8>, section: &Section<'_>) -> Result<(), AllocError>
+    ensures { OnOk result (text.new.items ≡ text.old.items ++ type_text (type_of section.now)) }
+{
+    let media = media_type(alloc, section)?;
+    text.extend_from_slice(&media.main)?;
+    text.push(SLASH)?;
+    text.extend_from_slice(&media.sub)
+}
 
 /// The content type of a section; without a Content-Type field that of its place.
 pub(crate) fn media_type(alloc: Global, section: &Section<'_>) -> Result<ContentType, AllocError>

@@ -6,8 +6,11 @@ mod RunLemmas
 mod Slices
 mod TargetLemmas
 mod WordLemmas
+mod LineLemmas
 mod ScriptTurns
 mod RefusalLemmas
 mod WrittenLemmas
 pub mod ShownLemmas
 pub mod PieceWords
+mod UnpackLemmas
+mod KeptLemmas

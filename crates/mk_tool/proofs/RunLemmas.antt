@@ -14,8 +14,8 @@ use Rattle.mk_tool.specs.declared.status.Cause.{Cause}
 use Rattle.mk_tool.specs.declared.status.Cause.TheVariants.{Read, Write, Memory}
 use Rattle.mk_tool.specs.declared.transfer.Stop.{Stop}
 use Rattle.mk_tool.specs.declared.transfer.Stop.TheVariants.{Fault as Stopped, Memory as Wanting}
-use Rattle.mk_tool.specs.Script.{ScriptWord}
-use Rattle.mk_tool.specs.Runs.{Run, run_words, history_after, errors_of}
+use Rattle.mk_tool.specs.ScriptSteps.{ScriptStep}
+use Rattle.mk_tool.specs.Runs.{Run, run_steps, history_after, errors_of}
 use Rattle.mk_tool.specs.RunClauses.{Held, Leaves, WritesFronts, cause_line, cause_of_writing, status_of}
 
 -- where nothing went out, a front did
@@ -30,18 +30,18 @@ status_at errors refused status r s = elim (cases_Bool (is_nil errors)) [
   | inr f ↦ rw f (let line : refused ≡ true = rw f at r in rw line at s)
 ]
 
--- all words were done and all went out
-pub Leaves-done : (pieces : List (List ℕ)) (words : List (ℕ × ScriptWord)) (message text : List ℕ) (first last : History) (refused : Bool) (status : Status) (before after : Held)
-    → first ≡ started message → last ≡ history_after pieces words first → text ≡ text_now last
-    → refused ≡ not (is_nil (errors_of pieces words first)) → status ≡ (if refused then Refused else Well)
-    → IsAtEnd after.input → Appends before.output after.output text → Appends before.errors after.errors (errors_of pieces words first)
-    → Leaves status (run_words pieces message (Ok words)) before after
-Leaves-done pieces words message text first last refused status before after begun done printed told ended end output errors =
-    let text_is : text ≡ text_now (history_after pieces words (started message)) = printed ∙ ap text_now done ∙ ap (λ h. text_now (history_after pieces words h)) begun in
+-- all steps were done and all went out
+pub Leaves-done : (pieces : List (List ℕ)) (steps : List ScriptStep) (message text : List ℕ) (first last : History) (refused : Bool) (status : Status) (before after : Held)
+    → first ≡ started message → last ≡ history_after pieces steps first → text ≡ text_now last
+    → refused ≡ not (is_nil (errors_of pieces steps first)) → status ≡ (if refused then Refused else Well)
+    → IsAtEnd after.input → Appends before.output after.output text → Appends before.errors after.errors (errors_of pieces steps first)
+    → Leaves status (run_steps pieces message (Ok steps)) before after
+Leaves-done pieces steps message text first last refused status before after begun done printed told ended end output errors =
+    let text_is : text ≡ text_now (history_after pieces steps (started message)) = printed ∙ ap text_now done ∙ ap (λ h. text_now (history_after pieces steps h)) begun in
     let all_output = rw text_is at output in
     let all_errors = rw begun at errors in
-    let status_is : status ≡ (if is_nil (errors_of pieces words (started message)) then Well else Refused) = status_at _ refused status (rw begun at told) ended in
-    elim (cases_Bool (is_nil (errors_of pieces words (started message)))) [
+    let status_is : status ≡ (if is_nil (errors_of pieces steps (started message)) then Well else Refused) = status_at _ refused status (rw begun at told) ended in
+    elim (cases_Bool (is_nil (errors_of pieces steps (started message)))) [
       | inl t ↦
           let well : status ≡ Well = rw t at status_is in
           rw well (record { status_is = rw t refl; written = record { output = all_output; errors = all_errors }; read = end })
@@ -65,15 +65,15 @@ writing-not_read Stopped e = cc
 writing-not_read Wanting e = cc
 
 -- the errors went out whole, and of the text a front
-pub WritesFronts-unsent : (pieces : List (List ℕ)) (words : List (ℕ × ScriptWord)) (message text : List ℕ) (first last : History) (stop : Stop) (cause : Cause) (before after : Held)
-    → cause ≡ cause_of_writing stop → first ≡ started message → last ≡ history_after pieces words first → text ≡ text_now last
-    → AppendsFront before.output after.output text → Appends before.errors after.errors (errors_of pieces words first)
-    → WritesFronts cause (run_words pieces message (Ok words)) before after
-WritesFronts-unsent pieces words message text first last stop cause before after wrote begun done printed output errors =
-    let text_is : text ≡ text_now (history_after pieces words (started message)) = printed ∙ ap text_now done ∙ ap (λ h. text_now (history_after pieces words h)) begun in
+pub WritesFronts-unsent : (pieces : List (List ℕ)) (steps : List ScriptStep) (message text : List ℕ) (first last : History) (stop : Stop) (cause : Cause) (before after : Held)
+    → cause ≡ cause_of_writing stop → first ≡ started message → last ≡ history_after pieces steps first → text ≡ text_now last
+    → AppendsFront before.output after.output text → Appends before.errors after.errors (errors_of pieces steps first)
+    → WritesFronts cause (run_steps pieces message (Ok steps)) before after
+WritesFronts-unsent pieces steps message text first last stop cause before after wrote begun done printed output errors =
+    let text_is : text ≡ text_now (history_after pieces steps (started message)) = printed ∙ ap text_now done ∙ ap (λ h. text_now (history_after pieces steps h)) begun in
     let all_errors = rw begun at errors in
     record {
       output = rw text_is at output;
-      errors = (errors_of pieces words (started message), [], sym (append-nil (errors_of pieces words (started message))), all_errors);
+      errors = (errors_of pieces steps (started message), [], sym (append-nil (errors_of pieces steps (started message))), all_errors);
       silent = λ e. absurd (writing-not_read stop (sym wrote ∙ e));
     }

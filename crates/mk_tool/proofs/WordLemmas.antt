@@ -7,7 +7,7 @@ use Rattle.std.specs.Str.{bytes_eq}
 use Rattle.mk_line.specs.Ascii.{space}
 use Rattle.mk_tool.specs.Paths.{parted, path_of}
 use Rattle.mk_tool.specs.Targets.{Target, is_name, whole_target, target_front}
-use Rattle.mk_tool.specs.Script.{ScriptWord, Adds, Deletes, Renames, Sets, Bodies, Replaces, Inserts, Removes, Wraps, Undoes, Redoes, adding, deleting, renaming, setting, word_at, word_with, word_of}
+use Rattle.mk_tool.specs.Script.{ScriptWord, Adds, Deletes, Renames, Sets, Bodies, Replaces, Inserts, Removes, Wraps, adding, deleting, renaming, setting, word_at, word_with, word_of}
 use Rattle.mk_tool.specs.Written.{IsPath, written_path, written_target, written_place, IsWord, written}
 use Rattle.mk_tool.proofs.NumberLemmas.{some_same, none_some}
 use Rattle.mk_tool.proofs.PieceLemmas.{HoldsNo, parted-append, parted-joined}
@@ -88,17 +88,7 @@ word_of-parts count line word (Some p) e said = word_with-parts count line word 
 
 -- a word that a line says is one, and the line is the word as it is written
 pub word_of-read : (count : ℕ) (line : List ℕ) (word : ScriptWord) → word_of count line ≡ Some word → IsWord count word × (line ≡ written word)
-word_of-read count line word said = elim (cases_Bool (bytes_eq line (codes "undo"))) [
-  | inl undo ↦
-      let same : Undoes ≡ word = some_same (rw undo at said) in
-      subst (λ w. IsWord count w × (line ≡ written w)) same (tt, (bytes_eq-Decides line (codes "undo")).0 undo)
-  | inr other ↦ elim (cases_Bool (bytes_eq line (codes "redo"))) [
-    | inl redo ↦
-        let same : Redoes ≡ word = some_same (rw (other, redo) at said) in
-        subst (λ w. IsWord count w × (line ≡ written w)) same (tt, (bytes_eq-Decides line (codes "redo")).0 redo)
-    | inr neither ↦ word_of-parts count line word (parted space line) refl (rw (other, neither) at said)
-  ]
-]
+word_of-read count line word said = word_of-parts count line word (parted space line) refl said
 
 adding-written : (top : Bool) (path field : List ℕ) → IsPath path → adding top (written_path path ++ (space ∷ field)) ≡ Some (Adds path top field)
 adding-written top path field h =
@@ -106,8 +96,6 @@ adding-written top path field h =
 
 -- a word that is written is said by the line
 pub word_of-written : (count : ℕ) (word : ScriptWord) → IsWord count word → word_of count (written word) ≡ Some word
-word_of-written count Undoes h = refl
-word_of-written count Redoes h = refl
 word_of-written count (Adds path false field) h =
     let name : HoldsNo space (codes "add") = ((λ e. omega arith), ((λ e. omega arith), ((λ e. omega arith), tt))) in
     rw (parted-append space (codes "add") (written_path path ++ (space ∷ field)) name) (adding-written false path field h)

@@ -3,8 +3,13 @@ pub mod Reports
 pub mod RunClauses
 pub mod Runs
 pub mod Script
+pub mod ScriptSteps
 pub mod ScriptViews
 pub mod Statuses
 pub mod Targets
 pub mod Written
 pub mod Shown
+pub mod Folders
+pub mod Unpacking
+pub mod UnpackClauses
+pub mod Kept

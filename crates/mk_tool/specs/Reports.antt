@@ -1,7 +1,7 @@
--- The lines of a run that report why a line of the script was refused, or that it is no word (own).
+-- The lines of a run that report why a line of the script was refused, or that a line is a fault (own).
 use Rattle.std.specs.Prelude.{◌++◌, ◌∷◌, [], ℕ, List, codes, decimal, take}
 use Rattle.mk_line.specs.Ascii.{space, line_feed}
-use Rattle.mk_edit.specs.Edits.{Refusal, NoSuchSection, NotMultipart, NotLeaf, NotPart, NoSuchField, BadPlace, BadField, BadName, BadBoundary, BadSubtype, OpenLine, HoldsBoundary, Recut, NothingToUndo, NothingToRedo, Order, Do, Undo, Redo, path_of}
+use Rattle.mk_edit.specs.Edits.{Refusal, NoSuchSection, NotMultipart, NotLeaf, NotPart, NoSuchField, BadPlace, BadField, BadName, BadBoundary, BadSubtype, OpenLine, HoldsBoundary, Recut, NothingToUndo, NothingToRedo, Member}
 use Rattle.mk_mail.specs.Listing.{path_text}
 
 -- the name under which a reason is reported
@@ -21,22 +21,17 @@ reason_name (HoldsBoundary level) = codes "HoldsBoundary"
 reason_name Recut = codes "Recut"
 reason_name NothingToUndo = codes "NothingToUndo"
 reason_name NothingToRedo = codes "NothingToRedo"
+reason_name (Member index reason) = reason_name reason
 
 -- behind the name stands the path of the multipart of which a line would be a mark: a front of the edit's path
 abbrev pub behind_name : List ℕ → Refusal → List ℕ
 behind_name path (HoldsBoundary level) = space ∷ path_text (take level path)
 behind_name path reason = []
 
--- the path of the edit that is ordered
-abbrev pub path_in : Order → List ℕ
-path_in (Do edit) = path_of edit
-path_in Undo = []
-path_in Redo = []
-
 -- the line that reports a refusal
 abbrev pub error_line : ℕ → List ℕ → Refusal → List ℕ
 error_line number path reason = codes "line " ++ (decimal number ++ (codes ": " ++ (reason_name reason ++ (behind_name path reason ++ line_feed ∷ []))))
 
--- the line that reports a line of the script that is no word
+-- the line that reports a fault of the script
 abbrev pub syntax_line : ℕ → List ℕ
 syntax_line number = codes "script: line " ++ decimal number ++ (codes ": syntax" ++ line_feed ∷ [])

@@ -9,8 +9,8 @@ use Rattle.mk_tool.specs.declared.status.Cause.{Cause}
 use Rattle.mk_tool.specs.declared.status.Cause.TheVariants.{Read, Write, Memory as NoMemory}
 use Rattle.mk_tool.specs.declared.transfer.Stop.{Stop}
 use Rattle.mk_tool.specs.declared.transfer.Stop.TheVariants.{Fault as Stopped, Memory as Wanting}
-use Rattle.mk_tool.specs.Runs.{Run, run_of, run_words}
-use Rattle.mk_tool.specs.Script.{ScriptWord}
+use Rattle.mk_tool.specs.Runs.{Run, run_of, run_steps}
+use Rattle.mk_tool.specs.ScriptSteps.{ScriptStep}
 
 -- what the devices of a run tell: the bytes that the input has left, and those that the output and the errors hold
 pub record Held : Type 0 where
@@ -130,9 +130,9 @@ abbrev pub LeavesSoFar : Result Status Cause → Run → Held → Held → Type 
 LeavesSoFar (Ok status) = Leaves status
 LeavesSoFar (Err cause) = WritesFronts cause
 
--- what a run of words leaves is what is defined for the bytes that it read
-abbrev pub LeavesWords : Result Status Cause → List (List ℕ) → Result (List (ℕ × ScriptWord)) ℕ → Held → Held → Type 0
-LeavesWords result pieces words before after = (message : List ℕ) × Consumes before.input after.input message × LeavesSoFar result (run_words pieces message words) before after
+-- what a run of steps leaves is what is defined for the bytes that it read
+abbrev pub LeavesSteps : Result Status Cause → List (List ℕ) → Result (List ScriptStep) ℕ → Held → Held → Type 0
+LeavesSteps result pieces steps before after = (message : List ℕ) × Consumes before.input after.input message × LeavesSoFar result (run_steps pieces message steps) before after
 
 -- what a run of a script leaves is what is defined for the bytes that it read
 abbrev pub LeavesRun : Status → List (List ℕ) → List ℕ → Held → Held → Type 0

@@ -1,5 +1,5 @@
 -- What a script says (own): one word a line, with what it is given, parted by one space.
-use Rattle.std.specs.Prelude.{◌==◌, ◌+◌, if◌then◌else◌, ℕ, Bool, true, false, List, [], ◌∷◌, ◌++◌, Option, None, Some, Result, Ok, Err, codes, nat_le}
+use Rattle.std.specs.Prelude.{◌==◌, ◌+◌, if◌then◌else◌, ℕ, Bool, true, false, List, [], ◌∷◌, Option, None, Some, codes, nat_le}
 use Rattle.std.specs.Option.{option_map, option_and_then}
 use Rattle.std.specs.Str.{bytes_eq}
 use Rattle.mk_line.specs.Ascii.{space}
@@ -11,7 +11,7 @@ use Rattle.mk_tool.specs.Targets.{Target, is_name, count_of, whole_target, targe
 abbrev pub number_sign : ℕ
 number_sign = 35
 
--- what one line of a script says; the field is still without its line ending
+-- an edit that a line of a script asks for; the field is still without its line ending
 pub data ScriptWord : Type 0 where
   Adds : (path : List ℕ) (top : Bool) (field : List ℕ) → ScriptWord
   Deletes : (target : Target) → ScriptWord
@@ -22,8 +22,14 @@ pub data ScriptWord : Type 0 where
   Inserts : (path : List ℕ) (place piece : ℕ) → ScriptWord
   Removes : (path : List ℕ) → ScriptWord
   Wraps : (path subtype boundary : List ℕ) → ScriptWord
-  Undoes : ScriptWord
-  Redoes : ScriptWord
+
+-- what one line of a script says: an edit, to take the last step back, to make it again, and where a group begins and ends
+pub data ScriptLine : Type 0 where
+  Edits : (word : ScriptWord) → ScriptLine
+  Undoes : ScriptLine
+  Redoes : ScriptLine
+  Begins : ScriptLine
+  Ends : ScriptLine
 
 -- `add` and `top` are given a path and then a field, which may hold spaces and may be empty
 abbrev pub adding : Bool → List ℕ → Option ScriptWord
@@ -45,6 +51,7 @@ setting rest = option_map (λ p. Sets p.0 p.1) (target_front rest)
 abbrev pub within : ℕ → Option ℕ → Option ℕ
 within count number = option_and_then (λ k. if nat_le k count then Some k else None) number
 
+-- the piece that a text names by its number
 abbrev pub piece_of : ℕ → List ℕ → Option ℕ
 piece_of count text = within count (number_of text)
 
@@ -60,9 +67,11 @@ placing count word rest = option_and_then (with_piece count word) (parted space 
 abbrev pub with_place : ℕ → List ℕ → List ℕ × List ℕ → Option ScriptWord
 with_place count path p = option_and_then (λ place. option_map (λ piece. Inserts path place piece) (piece_of count p.1)) (count_of p.0)
 
+-- `insert` is given a path, and then a place and a piece
 abbrev pub with_places : ℕ → List ℕ × List ℕ → Option ScriptWord
 with_places count p = option_and_then (λ path. option_and_then (with_place count path) (parted space p.1)) (path_of p.0)
 
+-- what `insert` is given, parted at its first space
 abbrev pub inserting : ℕ → List ℕ → Option ScriptWord
 inserting count rest = option_and_then (with_places count) (parted space rest)
 
@@ -74,6 +83,7 @@ removing rest = option_map (λ path. Removes path) (path_of rest)
 abbrev pub with_subtype : List ℕ → List ℕ × List ℕ → Option ScriptWord
 with_subtype path p = if is_name p.0 then Some (Wraps path p.0 p.1) else None
 
+-- `wrap` is given a path, and then a subtype and a boundary
 abbrev pub with_wrapping : List ℕ × List ℕ → Option ScriptWord
 with_wrapping p = option_and_then (λ path. option_and_then (with_subtype path) (parted space p.1)) (path_of p.0)
 
@@ -104,34 +114,32 @@ word_with count p =
 
 -- the word that a line says, where it is one and there are so many pieces
 abbrev pub word_of : ℕ → List ℕ → Option ScriptWord
-word_of count line =
+word_of count line = option_and_then (word_with count) (parted space line)
+
+-- what a line says, where it says something and there are so many pieces
+abbrev pub line_of : ℕ → List ℕ → Option ScriptLine
+line_of count line =
     if bytes_eq line (codes "undo") then Some Undoes
     else (if bytes_eq line (codes "redo") then Some Redoes
-    else option_and_then (word_with count) (parted space line))
+    else (if bytes_eq line (codes "begin") then Some Begins
+    else (if bytes_eq line (codes "end") then Some Ends else option_map (λ word. Edits word) (word_of count line))))
 
--- an empty line and one that begins with a number sign say nothing
+-- an empty line and one that begins with a number sign are skipped
 abbrev pub is_skipped : List ℕ → Bool
 is_skipped [] = true
 is_skipped (byte ∷ bytes) = byte == number_sign
 
--- words before those that further lines say, where all of these are words
-abbrev pub with_front : List (ℕ × ScriptWord) → Result (List (ℕ × ScriptWord)) ℕ → Result (List (ℕ × ScriptWord)) ℕ
-with_front words (Ok more) = Ok (words ++ more)
-with_front words (Err number) = Err number
+-- a line with its number, and what it says
+abbrev pub NumberedLine : Type 0
+NumberedLine = ℕ × Option ScriptLine
 
--- the word of a line before those of further lines, or the number of the line that is no word
-abbrev pub with_word : ℕ → Option ScriptWord → Result (List (ℕ × ScriptWord)) ℕ → Result (List (ℕ × ScriptWord)) ℕ
-with_word number None more = Err number
-with_word number (Some word) more = with_front ((number, word) ∷ []) more
+-- lines that are numbered from here on, without those that are skipped
+abbrev pub lines_from : (count number : ℕ) → List TextLine → List NumberedLine
+lines_from count number [] = []
+lines_from count number (line ∷ lines) =
+    if is_skipped line.content then lines_from count (number + 1) lines
+    else (number, line_of count line.content) ∷ lines_from count (number + 1) lines
 
--- the words of lines that are numbered from here on, or the number of the first line that is no word
-abbrev pub words_from : (count number : ℕ) → List TextLine → Result (List (ℕ × ScriptWord)) ℕ
-words_from count number [] = Ok []
-words_from count number (line ∷ lines) =
-    if is_skipped line.content then words_from count (number + 1) lines
-    else with_word number (word_of count line.content) (words_from count (number + 1) lines)
-
--- the words of a script that is given so many pieces, with the numbers of their lines, or the number of the first line
--- that is no word
-abbrev pub script_of : ℕ → List ℕ → Result (List (ℕ × ScriptWord)) ℕ
-script_of count script = words_from count 1 (cut script)
+-- the lines of a script that is given so many pieces
+abbrev pub lines_of : ℕ → List ℕ → List NumberedLine
+lines_of count script = lines_from count 1 (cut script)

@@ -1,14 +1,21 @@
 -- The code's words as words of a script.
 use Rattle.std.specs.Prelude.{◌≡◌, ℕ, List, Result, Err, map}
 use Rattle.std.specs.Global.{Vec}
+use Rattle.std.specs.Option.{option_map}
 use Rattle.mk_tool.specs.declared.script.Word.{Word}
-use Rattle.mk_tool.specs.declared.script.Word.TheVariants.{Add, Delete, Rename, Set, Body, Replace, Insert, Remove, Wrap, Undo, Redo}
+use Rattle.mk_tool.specs.declared.script.Word.TheVariants.{Add, Delete, Rename, Set, Body, Replace, Insert, Remove, Wrap}
+use Rattle.mk_tool.specs.declared.script.Said.{Said}
+use Rattle.mk_tool.specs.declared.script.Said.TheVariants.{Edit, Undo, Redo, Begin, End}
+use Rattle.mk_tool.specs.declared.script.NumberedLine.{NumberedLine as NumberedLineIn}
+use Rattle.mk_tool.specs.declared.groups.Step.{Step}
+use Rattle.mk_tool.specs.declared.groups.Step.TheVariants.{Edit as EditAlone, Group, Undo as UndoAt, Redo as RedoAt}
 use Rattle.mk_tool.specs.declared.script.NumberedWord.{NumberedWord}
-use Rattle.mk_tool.specs.declared.script.ScriptError.{ScriptError}
-use Rattle.mk_tool.specs.declared.script.ScriptError.TheVariants.{Syntax, Memory}
+use Rattle.mk_tool.specs.declared.groups.ScriptError.{ScriptError}
+use Rattle.mk_tool.specs.declared.groups.ScriptError.TheVariants.{Syntax, Memory}
 use Rattle.mk_tool.specs.declared.targets.Target.{Target as TargetIn}
 use Rattle.mk_tool.specs.Targets.{Target}
-use Rattle.mk_tool.specs.Script.{ScriptWord, Adds, Deletes, Renames, Sets, Bodies, Replaces, Inserts, Removes, Wraps, Undoes, Redoes}
+use Rattle.mk_tool.specs.Script.{ScriptWord, Adds, Deletes, Renames, Sets, Bodies, Replaces, Inserts, Removes, Wraps, ScriptLine, Edits, Undoes, Redoes, Begins, Ends, NumberedLine}
+use Rattle.mk_tool.specs.ScriptSteps.{ScriptStep, Makes, Groups, TakesBack, MakesAgain}
 
 -- the field that a word picks
 abbrev pub picked_by : TargetIn → Target
@@ -25,8 +32,18 @@ said_by (Replace path piece) = Replaces path.items piece
 said_by (Insert path place piece) = Inserts path.items place piece
 said_by (Remove path) = Removes path.items
 said_by (Wrap path subtype boundary) = Wraps path.items subtype.items boundary.items
-said_by Undo = Undoes
-said_by Redo = Redoes
+
+-- what a line says
+abbrev pub line_by : Said → ScriptLine
+line_by (Edit word) = Edits (said_by word)
+line_by Undo = Undoes
+line_by Redo = Redoes
+line_by Begin = Begins
+line_by End = Ends
+
+-- a line with its number
+abbrev pub line_in : NumberedLineIn → NumberedLine
+line_in l = (l.number, option_map line_by l.said)
 
 -- pieces in memory as texts
 abbrev pub texts_of : List (Vec ℕ) → List (List ℕ)
@@ -36,7 +53,14 @@ texts_of pieces = map (λ v. v.items) pieces
 abbrev pub numbered : NumberedWord → ℕ × ScriptWord
 numbered w = (w.number, said_by w.word)
 
--- an error is the first line that is no word, or want of memory, which may come in place of any answer
-abbrev pub Explains : ScriptError → Result (List (ℕ × ScriptWord)) ℕ → Type 0
+-- a step
+abbrev pub step_by : Step → ScriptStep
+step_by (EditAlone word) = Makes word.number (said_by word.word)
+step_by (Group words) = Groups (map numbered words.items)
+step_by (UndoAt number) = TakesBack number
+step_by (RedoAt number) = MakesAgain number
+
+-- an error is the first fault of a script, or want of memory, which may come in place of any answer
+abbrev pub Explains : ScriptError → Result (List ScriptStep) ℕ → Type 0
 Explains (Syntax number) defined = defined ≡ Err number
 Explains Memory defined = Unit {0}

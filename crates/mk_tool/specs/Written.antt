@@ -1,10 +1,10 @@
--- How the words of a script are written. A line says a word exactly where it is the word as it is written (`laws`).
+-- How the lines of a script are written. A line says something exactly where it is that as it is written (`laws`).
 use Rattle.std.specs.Prelude.{◌≡◌, ◌<◌, ◌≤◌, ◌^◌, ◌↔◌, if◌then◌else◌, true, ℕ, List, [], ◌∷◌, ◌++◌, Some, length, map, codes, decimal}
 use Rattle.std.specs.List.{join_with_byte}
 use Rattle.mk_line.specs.Ascii.{space}
 use Rattle.mk_tool.specs.Paths.{dot, max_components}
 use Rattle.mk_tool.specs.Targets.{Target, is_name}
-use Rattle.mk_tool.specs.Script.{ScriptWord, Adds, Deletes, Renames, Sets, Bodies, Replaces, Inserts, Removes, Wraps, Undoes, Redoes, word_of}
+use Rattle.mk_tool.specs.Script.{ScriptWord, Adds, Deletes, Renames, Sets, Bodies, Replaces, Inserts, Removes, Wraps, ScriptLine, Edits, Undoes, Redoes, Begins, Ends, line_of}
 
 -- numbers from 1 on that fit 32 bits
 abbrev pub AreComponents : List ℕ → Type 0
@@ -48,8 +48,14 @@ IsWord count (Replaces path piece) = IsPath path × IsPiece count piece
 IsWord count (Inserts path place piece) = IsPath path × (place < 2 ^ 32) × IsPiece count piece
 IsWord count (Removes path) = IsPath path
 IsWord count (Wraps path subtype boundary) = IsPath path × (is_name subtype ≡ true)
-IsWord count Undoes = Unit {0}
-IsWord count Redoes = Unit {0}
+
+-- a line that may be written where there are so many pieces
+abbrev pub IsLine : ℕ → ScriptLine → Type 0
+IsLine count (Edits word) = IsWord count word
+IsLine count Undoes = Unit {0}
+IsLine count Redoes = Unit {0}
+IsLine count Begins = Unit {0}
+IsLine count Ends = Unit {0}
 
 -- a path and a number behind it
 abbrev pub written_place : List ℕ → ℕ → List ℕ
@@ -66,9 +72,15 @@ written (Replaces path piece) = codes "replace" ++ (space ∷ written_place path
 written (Inserts path place piece) = codes "insert" ++ (space ∷ (written_path path ++ (space ∷ (decimal place ++ (space ∷ decimal piece)))))
 written (Removes path) = codes "remove" ++ (space ∷ written_path path)
 written (Wraps path subtype boundary) = codes "wrap" ++ (space ∷ (written_path path ++ (space ∷ (subtype ++ (space ∷ boundary)))))
-written Undoes = codes "undo"
-written Redoes = codes "redo"
 
--- the lines that say a word are those that write it
-abbrev pub WordsAreWritten : Type 0
-WordsAreWritten = (count : ℕ) (line : List ℕ) (word : ScriptWord) → (word_of count line ≡ Some word) ↔ (IsWord count word × (line ≡ written word))
+-- a line is written as its word
+abbrev pub written_line : ScriptLine → List ℕ
+written_line (Edits word) = written word
+written_line Undoes = codes "undo"
+written_line Redoes = codes "redo"
+written_line Begins = codes "begin"
+written_line Ends = codes "end"
+
+-- the lines that say something are those that write it
+abbrev pub LinesAreWritten : Type 0
+LinesAreWritten = (count : ℕ) (bytes : List ℕ) (line : ScriptLine) → (line_of count bytes ≡ Some line) ↔ (IsLine count line × (bytes ≡ written_line line))

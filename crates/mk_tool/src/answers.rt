@@ -46,8 +46,8 @@ pub fn content(alloc: Global, doc: &Doc, path: &[u32]) -> Result<Answer, AllocEr
     }
 }
 
-// The line that says why a content isn't given.
-fn refusal(alloc: Global, path: &[u32], reason: ExtractError) -> Result<Vec<u8>, AllocError>
+/// The line that says why a content isn't given.
+pub fn refusal(alloc: Global, path: &[u32], reason: ExtractError) -> Result<Vec<u8>, AllocError>
     ensures { IfOk result (λ line. line.items ≡ extract_line path.now reason) }
 {
     let mut line = Vec::new(alloc);

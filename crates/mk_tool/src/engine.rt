@@ -2,20 +2,20 @@
 
 ghost use Rattle.std.specs.Prelude.{◌≡◌, ◌≤◌, ◌⊎◌, true, length, map, Ok, IfOk, IfErr, OnOk};
 ghost use Rattle.mk_mail.specs.Devices.{AppendsFront};
-ghost use Rattle.mk_tool.specs.Script.{script_of};
-ghost use Rattle.mk_tool.specs.ScriptViews.{numbered, texts_of};
-ghost use Rattle.mk_tool.specs.RunClauses.{held, counts, SameFailures, ReadFailed, WriteFailed, IsBlamed, LeavesRun, LeavesWords, cause_line as line_of, cause_of_reading, cause_of_writing, status_of as status_for, ends_itself};
+ghost use Rattle.mk_tool.specs.ScriptSteps.{script_of};
+ghost use Rattle.mk_tool.specs.ScriptViews.{step_by, texts_of};
+ghost use Rattle.mk_tool.specs.RunClauses.{held, counts, SameFailures, ReadFailed, WriteFailed, IsBlamed, LeavesRun, LeavesSteps, cause_line as line_of, cause_of_reading, cause_of_writing, status_of as status_for, ends_itself};
 
+use crate::groups::{ScriptError, Step, steps};
 use crate::report::{cause_line, report_syntax};
-use crate::script::{NumberedWord, ScriptError, words};
 use crate::status::{Cause, Status};
-use crate::steps::do_words;
+use crate::steps::do_steps;
 use crate::transfer::{Stop, read_all, send, write_all};
 use mk_edit::Session;
 use mk_mail::{Sink, Source};
 use std::alloc::Global;
 
-/// Edits the message that the input gives by the words of a script, and prints what becomes of it.
+/// Edits the message that the input gives by the steps of a script, and prints what becomes of it.
 /// Each refusal is reported as it comes, and doesn't end the run.
 pub fn run_edit<S: Source, O: Sink, E: Sink>(
     alloc: Global,
@@ -68,7 +68,7 @@ fn run_script<S: Source, O: Sink, E: Sink>(
     script: &[u8],
     pieces: &[Vec<u8>],
 ) -> Result<Status, Cause>
-    ensures leaves { LeavesWords result (texts_of pieces.now) (script_of (length pieces.now) script.now)
+    ensures leaves { LeavesSteps result (texts_of pieces.now) (script_of (length pieces.now) script.now)
         (held (S.remaining input.old) (O.contents out.old) (E.contents err.old))
         (held (S.remaining input.new) (O.contents out.new) (E.contents err.new)) }
     ensures ended { IfOk result (λ status. ends_itself status ≡ true) }
@@ -79,8 +79,8 @@ fn run_script<S: Source, O: Sink, E: Sink>(
         (counts (S.failures input.old) (S.read_count input.old) (O.failures out.old) (E.failures err.old))
         (counts (S.failures input.new) (S.read_count input.new) (O.failures out.new) (E.failures err.new))) }
 {
-    match words(alloc, script, pieces.len()) {
-        Ok(words) => run_words(alloc, input, out, err, words, pieces),
+    match steps(alloc, script, pieces.len()) {
+        Ok(steps) => run_steps(alloc, input, out, err, steps, pieces),
         Err(ScriptError::Syntax(number)) => match report_syntax(alloc, err, number) {
             Ok(()) => Ok(Status::Usage),
             Err(stop) => Err(writing(stop)),
@@ -89,16 +89,16 @@ fn run_script<S: Source, O: Sink, E: Sink>(
     }
 }
 
-// Runs the words of a script up to a cause to give up.
-fn run_words<S: Source, O: Sink, E: Sink>(
+// Runs the steps of a script up to a cause to give up.
+fn run_steps<S: Source, O: Sink, E: Sink>(
     alloc: Global,
     input: &mut S,
     out: &mut O,
     err: &mut E,
-    words: Vec<NumberedWord>,
+    steps: Vec<Step>,
     pieces: &[Vec<u8>],
 ) -> Result<Status, Cause>
-    ensures leaves { LeavesWords result (texts_of pieces.now) (Ok (map numbered words.items))
+    ensures leaves { LeavesSteps result (texts_of pieces.now) (Ok (map step_by steps.items))
         (held (S.remaining input.old) (O.contents out.old) (E.contents err.old))
         (held (S.remaining input.new) (O.contents out.new) (E.contents err.new)) }
     ensures ended { IfOk result (λ status. ends_itself status ≡ true) }
@@ -117,7 +117,7 @@ fn run_words<S: Source, O: Sink, E: Sink>(
         Ok(session) => session,
         Err(_) => return Err(Cause::Memory),
     };
-    let refused = match do_words(alloc, &mut session, err, words, pieces) {
+    let refused = match do_steps(alloc, &mut session, err, steps, pieces) {
         Ok(refused) => refused,
         Err(stop) => return Err(writing(stop)),
     };
@@ -141,8 +141,8 @@ pub fn reading(stop: Stop) -> Cause
     }
 }
 
-// The cause where writing stopped.
-fn writing(stop: Stop) -> Cause
+/// The cause where writing stopped.
+pub fn writing(stop: Stop) -> Cause
     ensures { result ≡ cause_of_writing stop }
 {
     match stop {

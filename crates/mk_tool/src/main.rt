@@ -4,6 +4,8 @@
 mod answers;
 mod device;
 mod engine;
+mod folder;
+mod groups;
 pub mod laws;
 mod options;
 mod path;
@@ -16,6 +18,7 @@ mod status;
 mod steps;
 mod targets;
 mod transfer;
+mod unpacking;
 
 use device::{Input, Output};
 use std::process::ExitCode;

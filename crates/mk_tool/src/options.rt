@@ -21,6 +21,17 @@ pub const EXTRACT: &str = "extract";
 
 pub const PATH: &str = "PATH";
 
+/// The subcommand that stores the leaves of a message as files.
+pub const UNPACK: &str = "unpack";
+
+pub const OVER: &str = "over";
+
+pub const TEXTS: &str = "texts";
+
+pub const SILENT: &str = "silent";
+
+pub const DIR: &str = "DIR";
+
 /// The command line of the program.
 pub fn command<'a>(alloc: Global) -> Result<Command<'a>, AllocError> {
     Command::new(alloc, "mimetool")
@@ -31,7 +42,8 @@ pub fn command<'a>(alloc: Global) -> Result<Command<'a>, AllocError> {
         .subcommand_required(true)
         .subcommand(edit_command(alloc)?)?
         .subcommand(sections_command(alloc)?)?
-        .subcommand(extract_command(alloc)?)
+        .subcommand(extract_command(alloc)?)?
+        .subcommand(unpack_command(alloc)?)
 }
 
 // mimetool sections
@@ -50,6 +62,26 @@ fn extract_command<'a>(alloc: Global) -> Result<Command<'a>, AllocError> {
     Command::new(alloc, EXTRACT)
         .about("Prints the content of a section, decoded where it has no sections below it")
         .arg(path)
+}
+
+// mimetool unpack [-f] [-t] [--silent] [-C DIR]
+fn unpack_command<'a>(alloc: Global) -> Result<Command<'a>, AllocError> {
+    let dir = Arg::new(alloc, DIR)
+        .short('C')
+        .help("The folder to write to; it is made where it isn't there")
+        .allow_hyphen_values(true)
+        .action(ArgAction::Set);
+    Command::new(alloc, UNPACK)
+        .about("Writes the contents of the leaves into files, and prints their names and types")
+        .arg(flag(alloc, OVER, "Write over files that are there").short('f'))?
+        .arg(flag(alloc, TEXTS, "Write texts without a name too").short('t'))?
+        .arg(flag(alloc, SILENT, "Print no names").long(SILENT))?
+        .arg(dir)
+}
+
+// An option without a value.
+fn flag<'a>(alloc: Global, name: &'a str, help: &'a str) -> Arg<'a> {
+    Arg::new(alloc, name).help(help).action(ArgAction::SetTrue)
 }
 
 // mimetool edit SCRIPT [PIECE..]

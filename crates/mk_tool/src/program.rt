@@ -2,11 +2,15 @@
 
 use crate::device::Input;
 use crate::engine::{give_up, run_edit};
-use crate::options::{EDIT, EXTRACT, PATH, PIECE, SCRIPT, SECTIONS, command};
+use crate::folder::Directory;
+use crate::options::{
+    DIR, EDIT, EXTRACT, OVER, PATH, PIECE, SCRIPT, SECTIONS, SILENT, TEXTS, UNPACK, command,
+};
 use crate::path::numbers;
 use crate::showing::{run_extract, run_sections};
 use crate::status::{Cause, Status};
 use crate::transfer::{Stop, read_all, write_all};
+use crate::unpacking::unpack;
 use clap::ArgMatches;
 use clap::error::ErrorKind;
 use mk_mail::{Sink, Source};
@@ -14,6 +18,9 @@ use std::rt::{Env, Files};
 use std::{env, fs, io};
 
 const USAGE: &[u8] = b"mimetool: usage\n";
+
+/// The folder that files are written to where none is named.
+const WORKING_FOLDER: &str = ".";
 
 /// Does what the command line says and answers the exit status.
 pub fn run<R: Env + Files + Print + Eprint + AllocGlobal, S: Source, O: Sink, E: Sink>(
@@ -76,6 +83,8 @@ fn run_matches<R: Files + AllocGlobal, S: Source, O: Sink, E: Sink>(
         edit(rt, matches, input, out, err)
     } else if let Some(matches) = matches.subcommand_matches(EXTRACT) {
         extract(rt, matches, input, out, err)
+    } else if let Some(matches) = matches.subcommand_matches(UNPACK) {
+        unpack_into(rt, matches, input, out, err)
     } else if matches.subcommand_matches(SECTIONS).is_some() {
         run_sections(rt.alloc(), input, out, err)
     } else {
@@ -127,6 +136,21 @@ fn extract<R: Files + AllocGlobal, S: Source, O: Sink, E: Sink>(
         Ok(None) => usage(err),
         Err(_) => give_up(err, Cause::Memory),
     }
+}
+
+// mimetool unpack
+fn unpack_into<R: Files + AllocGlobal, S: Source, O: Sink, E: Sink>(
+    rt: &R,
+    matches: &ArgMatches<'_>,
+    input: &mut S,
+    out: &mut O,
+    err: &mut E,
+) -> Status {
+    let mut dir = Directory::new(rt, matches.get_str(DIR).unwrap_or(WORKING_FOLDER));
+    let texts = matches.get_flag(TEXTS);
+    let over = matches.get_flag(OVER);
+    let silent = matches.get_flag(SILENT);
+    unpack(rt.alloc(), input, out, err, &mut dir, texts, over, silent)
 }
 
 // The script and the pieces, read whole in the order of the command line.

@@ -58,7 +58,7 @@ fn push_place(line: &mut Vec<u8>, path: &[u32], reason: EditError) -> Result<(),
     Ok(())
 }
 
-/// Reports a line of the script that is no word.
+/// Reports a line of the script that is a fault.
 pub fn report_syntax<E: Sink>(alloc: Global, err: &mut E, number: usize) -> Result<(), Stop>
     ensures { Sends result (syntax_line number)
         (E.contents err.old) (E.contents err.new) (E.failures err.old) (E.failures err.new) }

@@ -1,20 +1,19 @@
-//! Scripts: one word a line, with what it is given (own).
+//! The lines of scripts: one word a line, with what it is given (own).
 
-ghost use Rattle.std.specs.Prelude.{◌≡◌, ◌+◌, map, Ok, Some, IfOk, IfErr};
+ghost use Rattle.std.specs.Prelude.{◌≡◌, ◌+◌, map, IfOk};
 ghost use Rattle.std.specs.Option.{option_map};
-ghost use Rattle.mk_tool.specs.Script.{adding, deleting, renaming, setting, word_at, word_with, word_of, is_skipped as skips, script_of, with_front, with_word};
-ghost use Rattle.mk_tool.specs.ScriptViews.{said_by, numbered, Explains};
-ghost use Rattle.mk_tool.specs.declared.script.ScriptError.TheVariants.{Memory};
+ghost use Rattle.mk_tool.specs.Script.{adding, deleting, renaming, setting, word_at, word_with, word_of, line_of, lines_of, is_skipped as skips};
+ghost use Rattle.mk_tool.specs.ScriptViews.{said_by, line_by, line_in};
 
 use crate::path::{parted, path};
 use crate::pieces::read_on;
 use crate::targets::{SPACE, Target, is_name, target_front, whole_target};
 use mk_line::cut;
-use std::alloc::{AllocError, AllocFailed, Global};
+use std::alloc::{AllocError, Global};
 
 const NUMBER_SIGN: u8 = b'#';
 
-/// A word of a script, with what it is given.
+/// An edit that a line of a script asks for.
 #[derive(Debug, PartialEq, Eq, Drop)]
 pub enum Word {
     /// `add PATH FIELD` or, where `top` holds, `top PATH FIELD`. The field is still without its
@@ -62,46 +61,38 @@ pub enum Word {
         subtype: Vec<u8>,
         boundary: Vec<u8>,
     },
-    Undo,
-    Redo,
 }
 
-/// A word and the number of its line, from 1 on.
+/// What a line of a script says.
+#[derive(Debug, PartialEq, Eq, Drop)]
+pub enum Said {
+    Edit(Word),
+    Undo,
+    Redo,
+    /// A group of edits begins.
+    Begin,
+    /// It ends.
+    End,
+}
+
+/// A line and its number, from 1 on. What it says is `None` where it says nothing.
+#[derive(Debug, PartialEq, Eq, Drop)]
+pub struct NumberedLine {
+    pub number: usize,
+    pub said: Option<Said>,
+}
+
+/// A word and the number of its line.
 #[derive(Debug, PartialEq, Eq, Drop)]
 pub struct NumberedWord {
     pub number: usize,
     pub word: Word,
 }
 
-/// Why a script can't be done.
-#[derive(Clone, Copy, Debug, PartialEq, Eq)]
-pub enum ScriptError {
-    /// The number of the first line that is no word.
-    Syntax(usize),
-    Memory,
-}
-
-impl From<AllocError> for ScriptError {
-    ghost from_gives = { λ _ e. e ≡ Memory };
-
-    fn from(_: AllocError) -> ScriptError {
-        ScriptError::Memory
-    }
-}
-
-impl<T: Drop> From<AllocFailed<T>> for ScriptError {
-    ghost from_gives = { λ _ e. e ≡ Memory };
-
-    fn from(_: AllocFailed<T>) -> ScriptError {
-        ScriptError::Memory
-    }
-}
-
-/// Reads the words of a script that is given so many pieces. Empty lines, and those that begin with `#`, are skipped,
+/// Reads the lines of a script that is given so many pieces. Empty lines, and those that begin with `#`, are skipped,
 /// but count in line numbers.
-pub fn words(alloc: Global, script: &[u8], pieces: usize) -> Result<Vec<NumberedWord>, ScriptError>
-    ensures read { IfOk result (λ all. script_of pieces script.now ≡ Ok (map numbered all.items)) }
-    ensures refused { IfErr result (λ e. Explains e (script_of pieces script.now)) }
+pub fn lines(alloc: Global, script: &[u8], pieces: usize) -> Result<Vec<NumberedLine>, AllocError>
+    ensures { IfOk result (λ all. map line_in all.items ≡ lines_of pieces script.now) }
 {
     let mut all = Vec::new(alloc);
     let mut number = 0;
@@ -109,10 +100,8 @@ pub fn words(alloc: Global, script: &[u8], pieces: usize) -> Result<Vec<Numbered
     for line in cut(script) {
         number += 1;
         if !is_skipped(line.content) {
-            match read_word(alloc, line.content, pieces)? {
-                Some(word) => all.push(NumberedWord { number, word })?,
-                None => return Err(ScriptError::Syntax(number)),
-            }
+            let said = read_line(alloc, line.content, pieces)?;
+            all.push(NumberedLine { number, said })?;
         }
     }
     Ok(all)
@@ -128,16 +117,32 @@ fn is_skipped(line: &[u8]) -> bool
     }
 }
 
+// What a line says, or `None` where it says nothing.
+fn read_line(alloc: Global, line: &[u8], pieces: usize) -> Result<Option<Said>, AllocError>
+    ensures { IfOk result (λ said. option_map line_by said ≡ line_of pieces line.now) }
+{
+    if line == b"undo".as_slice() {
+        return Ok(Some(Said::Undo));
+    }
+    if line == b"redo".as_slice() {
+        return Ok(Some(Said::Redo));
+    }
+    if line == b"begin".as_slice() {
+        return Ok(Some(Said::Begin));
+    }
+    if line == b"end".as_slice() {
+        return Ok(Some(Said::End));
+    }
+    match read_word(alloc, line, pieces)? {
+        Some(word) => Ok(Some(Said::Edit(word))),
+        None => Ok(None),
+    }
+}
+
 // The word that a line says, or `None` where it is none.
 fn read_word(alloc: Global, line: &[u8], pieces: usize) -> Result<Option<Word>, AllocError>
     ensures { IfOk result (λ word. option_map said_by word ≡ word_of pieces line.now) }
 {
-    if line == b"undo".as_slice() {
-        return Ok(Some(Word::Undo));
-    }
-    if line == b"redo".as_slice() {
-        return Ok(Some(Word::Redo));
-    }
     match parted(line, SPACE) {
         Some((name, rest)) => read_given(alloc, name, rest, pieces),
         None => Ok(None),

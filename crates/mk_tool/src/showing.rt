@@ -71,8 +71,8 @@ pub fn run_extract<S: Source, O: Sink, E: Sink>(
     }
 }
 
-// Reads the message that the input gives.
-fn read_doc<S: Source>(alloc: Global, input: &mut S) -> Result<Doc, Stop>
+/// Reads the message that the input gives.
+pub fn read_doc<S: Source>(alloc: Global, input: &mut S) -> Result<Doc, Stop>
     ensures all { IfOk result (λ doc. Consumes (S.remaining input.old) (S.remaining input.new) doc) }
     ensures ended { OnOk result (IsAtEnd (S.remaining input.new)) }
     ensures well { OnOk result (S.failures input.new ≡ S.failures input.old) }

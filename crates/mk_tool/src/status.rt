@@ -9,7 +9,7 @@ pub enum Status {
     Well,
     /// Something was refused, and all else was done.
     Refused,
-    /// The script has a line that is no word: nothing was done.
+    /// The script has a fault: nothing was done.
     Usage,
     /// A device failed: the run was given up.
     Fault,

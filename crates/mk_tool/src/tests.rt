@@ -1,11 +1,15 @@
 //! Runs of scripts on messages, over devices in memory. The expected bytes are worked out by hand.
 
 mod devices;
+mod directory;
 mod faults;
 mod fields;
+mod groups;
 mod memory;
 mod pieces;
+mod shelf;
 mod shown;
+mod unpacked;
 
 use crate::engine::run_edit;
 use crate::status::Status;
@@ -196,7 +200,7 @@ fn cases_are_run(rt: HostRuntime) -> Result<(), Fail> {
     Ok(())
 }
 
-/// Scripts of one or more lines, and the first line that is no word, or 0 where all are words.
+/// Scripts of one or more lines, and the first line that is a fault, or 0 where none is.
 const SCRIPTS: [(&[u8], usize); 24] = [
     (b"undo", 0),
     (b"redo\n", 0),
@@ -225,13 +229,13 @@ const SCRIPTS: [(&[u8], usize); 24] = [
 ];
 
 #[test]
-fn the_first_line_that_is_no_word_is_named(rt: HostRuntime) -> Result<(), Fail> {
+fn the_first_fault_is_named(rt: HostRuntime) -> Result<(), Fail> {
     let alloc = rt.alloc();
     for (script, line) in SCRIPTS {
-        let found = match crate::script::words(alloc, script, 0) {
+        let found = match crate::groups::steps(alloc, script, 0) {
             Ok(_) => 0,
-            Err(crate::script::ScriptError::Syntax(number)) => number,
-            Err(crate::script::ScriptError::Memory) => usize::MAX,
+            Err(crate::groups::ScriptError::Syntax(number)) => number,
+            Err(crate::groups::ScriptError::Memory) => usize::MAX,
         };
         assert_eq!(rt; found, line, "{script:?}");
     }

@@ -2,7 +2,7 @@
 use Rattle.std.proofs.Common.{◌≡◌, ◌≢◌, ◌-◌, ℕ, zero, suc, Bool, true, false, None, Some, List, [], ◌∷◌, refl, ap, filter, arith}
 use Rattle.mk_head.specs.Fields.{counted}
 
-counted_none : {X : Type 0} (xs : List X) → counted 0 xs ≡ None
+pub counted_none : {X : Type 0} (xs : List X) → counted 0 xs ≡ None
 counted_none [] = refl
 counted_none (x ∷ xs) = refl
 

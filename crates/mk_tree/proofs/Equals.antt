@@ -84,7 +84,7 @@ tail_self None = refl
 tail_self (Some p) = and_true (line_eq p.0 p.0) (lines_eq p.1 p.1) (line_self p.0) (lines_self p.1)
 
 mutual
-  entity_same : (d e : Entity) → entity_eq d e ≡ true → d ≡ e
+  pub entity_same : (d e : Entity) → entity_eq d e ≡ true → d ≡ e
   entity_same (leaf h ls) (leaf k ms) t =
       let p = both (head_eq h k) (lines_eq ls ms) t in
       λ i. leaf (head_same h k p.0 i) (lines_same ls ms p.1 i)

@@ -47,11 +47,11 @@ apart envelope fs e fields rest p =
     ∙ (sym (append_assoc (option_line envelope) (lines_before fs) ((fields ++ rest) ++ lines_after fs))
     ∙ ap (λ ls. (option_line envelope ++ lines_before fs) ++ ls) (append_assoc fields rest (lines_after fs))))
 
-text_apart : (xs ys zs : List TextLine) → text_of (xs ++ (ys ++ zs)) ≡ text_of xs ++ (text_of ys ++ text_of zs)
+pub text_apart : (xs ys zs : List TextLine) → text_of (xs ++ (ys ++ zs)) ≡ text_of xs ++ (text_of ys ++ text_of zs)
 text_apart xs ys zs = text_append xs (ys ++ zs) ∙ ap (λ t. text_of xs ++ t) (text_append ys zs)
 
 -- bytes put into the middle of three
-spliced_middle : (a h x new : List ℕ) (place count : ℕ) → length a ≤ place → place + count ≤ length a + length h → spliced place count new (a ++ (h ++ x)) ≡ a ++ (spliced (place - length a) count new h ++ x)
+pub spliced_middle : (a h x new : List ℕ) (place count : ℕ) → length a ≤ place → place + count ≤ length a + length h → spliced place count new (a ++ (h ++ x)) ≡ a ++ (spliced (place - length a) count new h ++ x)
 spliced_middle a h x new place count b e =
     let from = place - length a in
     let front : take place (a ++ (h ++ x)) ≡ a ++ take from h =
@@ -68,7 +68,7 @@ same_behind : (a y z : List ℕ) → a ++ y ≡ a ++ z → y ≡ z
 same_behind a y z e = sym (drop_at a y (length a) refl) ∙ (ap (drop (length a)) e ∙ drop_at a z (length a) refl)
 
 -- the head's bytes after the change are those of the new fields
-head_after : (t : Document) (path : List ℕ) (place count : ℕ) (new : List ℕ) (c : ChangesFields path place count new t)
+pub head_after : (t : Document) (path : List ℕ) (place count : ℕ) (new : List ℕ) (c : ChangesFields path place count new t)
     → spliced (place - (placed t.envelope c.around c.section).start) count new (text_of (field_lines c.section)) ≡ text_of c.fields
 head_after t path place count new c =
     let front = option_line t.envelope ++ lines_before c.around in

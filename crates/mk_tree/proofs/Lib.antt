@@ -2,6 +2,7 @@ pub mod Kept
 pub mod Equals
 pub mod OneCut
 pub mod Rows
+pub mod ChangeRows
 pub mod WellRead
 pub mod Plugs
 pub mod Stability
@@ -21,9 +22,11 @@ pub mod Roots
 pub mod ChangedNodes
 pub mod Respans
 pub mod OwnFields
+pub mod OwnNodes
 pub mod Leads
 pub mod FieldsChanged
 pub mod HeadChanged
 pub mod Spliced
 pub mod EntityRead
-pub mod WithinText
+pub mod Planned
+pub mod PartsPlanned

@@ -11,7 +11,8 @@ use Rattle.mk_tree.specs.Sections.{body_lines}
 use Rattle.mk_tree.specs.Spans.{size, tail_sizes, leaf_form, message_form, multi_form, span, no_spans, more_spans, span_of, spans_of, digest_below}
 use Rattle.mk_tree.specs.Reading.{IsWellRead, AreWellRead}
 use Rattle.mk_tree.specs.Places.{below}
-use Rattle.mk_tree.specs.Changed.{respan}
+use Rattle.mk_tree.specs.declared.changing.Own.TheVariants as own
+use Rattle.mk_tree.specs.Changed.{FitsOwn, own_changed}
 use Rattle.mk_tree.specs.Splicing.{IsDigestOf}
 use Rattle.mk_tree.proofs.Descent.{size_append}
 use Rattle.mk_tree.proofs.KindsSaid.{kind_by, kind_default}
@@ -73,7 +74,7 @@ fields_grow count added fields e c s = record {
 }
 
 pub own_fields : (n : ℕ) (d g : Bool) (count added : ℕ) (fields : List TextLine) (e : Entity) → count ≤ size (field_lines e) → size fields ≡ size (field_lines e) - count + added
-    → IsDigestOf g d fields e → IsWellRead n d e → IsWellRead n d (with_fields fields e) → (m : ℕ) → respan [] count added g (span_of d m e) ≡ span_of d m (with_fields fields e)
+    → IsDigestOf g d fields e → IsWellRead n d e → IsWellRead n d (with_fields fields e) → (m : ℕ) → own_changed (own.Fields g) count added (span_of d m e) ≡ span_of d m (with_fields fields e)
 own_fields n d g count added fields (leaf h ls) c s q v w m =
     let longer = (fields_grow count added fields (leaf h ls) c s).longer in
     λ i. span m (sym s i) (size (option_line h.separator)) (sym longer i) leaf_form no_spans
@@ -84,3 +85,8 @@ own_fields n d g count added fields (multi h b pre ps t) c s q v w m =
     let longer = (fields_grow count added fields (multi h b pre ps t) c s).longer in
     let parts : spans_of (digest_below d h) ps ≡ spans_of (is_digest (kind fields d)) ps = parts_alike (below n) (digest_below d h) (is_digest (kind fields d)) b ps v.2 w.2 in
     λ i. span m (sym s i) (size (option_line h.separator)) (sym longer i) (multi_form b (q i) (size pre) (tail_sizes t)) (parts i)
+
+pub fields_fit : (d g : Bool) (count : ℕ) (e : Entity) → count ≤ size (field_lines e) → (m : ℕ) → FitsOwn (own.Fields g) count (span_of d m e)
+fields_fit d g count (leaf h ls) c m = (c, omega (arith, size_entity (leaf h ls)))
+fields_fit d g count (message h e) c m = (c, omega (arith, size_entity (message h e)))
+fields_fit d g count (multi h b pre ps t) c m = (c, omega (arith, size_entity (multi h b pre ps t)))

@@ -69,22 +69,22 @@ part_changes (suc (suc k)) (part l e ps) = part_later k l e ps (part_at (suc k) 
 abbrev StepChanges : ℕ → Entity → Option (Frame × Entity) → Type 0
 StepChanges k e None = Unit {0}
 StepChanges k e (Some r) =
-    (ks : List ℕ) (count added : ℕ) (g d : Bool) (t : Entity) → Grows count added r.1 t
-    → ((n : ℕ) → respan ks count added g (span_of (digest_in d r.0) n r.1) ≡ span_of (digest_in d r.0) n t)
-    → (n : ℕ) → respan (k ∷ ks) count added g (span_of d n e) ≡ span_of d n (plug_one r.0 t)
+    (ks : List ℕ) (count added : ℕ) (own : Span → Span) (d : Bool) (t : Entity) → Grows count added r.1 t
+    → ((n : ℕ) → respan ks count added own (span_of (digest_in d r.0) n r.1) ≡ span_of (digest_in d r.0) n t)
+    → (n : ℕ) → respan (k ∷ ks) count added own (span_of d n e) ≡ span_of d n (plug_one r.0 t)
 
 message_changes : (h : Head) (x : Entity) → StepChanges 1 (message h x) (Some (in_message h, x))
-message_changes h x ks count added g d t w r n =
+message_changes h x ks count added own d t w r n =
     let longer = (grows_one count added (in_message h) x t w).longer in
     λ i. span n (size h.fields) (size (option_line h.separator)) (sym longer i) message_form (more_spans (r 0 i) no_spans)
 
 multi_changes : (k : ℕ) (h : Head) (b : List ℕ) (pre : List TextLine) (ps : Parts) (tail : Option (TextLine × List TextLine)) (o : Option (Parts × TextLine × Entity × Parts)) → MakesParts ps o → PartChanges k ps o
     → StepChanges k (multi h b pre ps tail) (option_map (λ q. (in_multi h b pre q.0 q.1 q.3 tail, q.2)) o)
 multi_changes k h b pre ps tail None m p = tt
-multi_changes k h b pre ps tail (Some q) m p = λ ks count added g d t w r n.
+multi_changes k h b pre ps tail (Some q) m p = λ ks count added own d t w r n.
     let longer : size (print (multi h b pre (append_parts q.0 (part q.1 t q.3)) tail)) ≡ size (print (multi h b pre ps tail)) - count + added =
     (grows_one count added (in_multi h b pre q.0 q.1 q.3 tail) q.2 t w).longer ∙ ap (λ qs. size (print (multi h b pre qs tail)) - count + added) m in
-    λ i. span n (size h.fields) (size (option_line h.separator)) (sym longer i) (multi_form b (digest_below d h) (size pre) (tail_sizes tail)) (p (digest_below d h) (respan ks count added g) t r i)
+    λ i. span n (size h.fields) (size (option_line h.separator)) (sym longer i) (multi_form b (digest_below d h) (size pre) (tail_sizes tail)) (p (digest_below d h) (respan ks count added own) t r i)
 
 step_changes : (k : ℕ) (e : Entity) → StepChanges k e (step_to k e)
 step_changes k (leaf h ls) = tt
@@ -97,16 +97,16 @@ step_changes k (multi h b pre ps t) = multi_changes k h b pre ps t (part_at k ps
 abbrev PlaceChanges : List ℕ → Entity → Option (List Frame × Entity) → Type 0
 PlaceChanges ks e None = Unit {0}
 PlaceChanges ks e (Some q) =
-    (count added : ℕ) (g d : Bool) (t : Entity) → Grows count added q.1 t
-    → ((n : ℕ) → respan [] count added g (span_of (default_at d q.0) n q.1) ≡ span_of (default_at d q.0) n t)
-    → Grows count added e (plug q.0 t) × ((n : ℕ) → respan ks count added g (span_of d n e) ≡ span_of d n (plug q.0 t))
+    (count added : ℕ) (own : Span → Span) (d : Bool) (t : Entity) → Grows count added q.1 t
+    → ((n : ℕ) → own (span_of (default_at d q.0) n q.1) ≡ span_of (default_at d q.0) n t)
+    → Grows count added e (plug q.0 t) × ((n : ℕ) → respan ks count added own (span_of d n e) ≡ span_of d n (plug q.0 t))
 
 place_changed : (k : ℕ) (ks : List ℕ) (e : Entity) (f : Frame) (x : Entity) (o : Option (List Frame × Entity)) → plug_one f x ≡ e → StepChanges k e (Some (f, x)) → PlaceChanges ks x o → PlaceChanges (k ∷ ks) e (option_map (λ q. (f ∷ q.0, q.1)) o)
 place_changed k ks e f x None m s p = tt
-place_changed k ks e f x (Some q) m s p = λ count added g d t w r.
-    let inner = p count added g (digest_in d f) t w r in (
+place_changed k ks e f x (Some q) m s p = λ count added own d t w r.
+    let inner = p count added own (digest_in d f) t w r in (
       subst (λ y. Grows count added y (plug_one f (plug q.0 t))) m (grows_one count added f x (plug q.0 t) inner.0),
-      s ks count added g d (plug q.0 t) inner.0 inner.1,
+      s ks count added own d (plug q.0 t) inner.0 inner.1,
     )
 
 places_changed : (k : ℕ) (ks : List ℕ) (e : Entity) → ((x : Entity) → PlaceChanges ks x (place_at ks x)) → (o : Option (Frame × Entity)) → MakesStep e o → StepChanges k e o
@@ -115,7 +115,7 @@ places_changed k ks e f None m s = tt
 places_changed k ks e f (Some r) m s = place_changed k ks e r.0 r.1 (place_at ks r.1) m s (f r.1)
 
 place_changes : (ks : List ℕ) (e : Entity) → PlaceChanges ks e (place_at ks e)
-place_changes [] e = λ count added g d t w r. (w, r)
+place_changes [] e = λ count added own d t w r. (w, r)
 place_changes (k ∷ ks) e = places_changed k ks e (place_changes ks) (step_to k e) (step_made k e) (step_changes k e)
 
 pub respan_place : (ks : List ℕ) (e : Entity) (fs : List Frame) (s : Entity) → place_at ks e ≡ Some (fs, s) → PlaceChanges ks e (Some (fs, s))

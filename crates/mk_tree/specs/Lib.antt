@@ -6,6 +6,7 @@ pub mod Cutting
 pub mod Spans
 pub mod Sections
 pub mod Places
+pub mod Planning
 pub mod Locality
 pub mod Reading
 pub mod Nodes

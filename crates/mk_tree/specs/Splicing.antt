@@ -1,13 +1,13 @@
--- Changing the fields of a section in place.
-use Rattle.std.specs.Prelude.{◌≡◌, ◌≤◌, ◌+◌, ◌-◌, ◌++◌, ℕ, Bool, false, Option, None, Some, List, ◌∷◌, take, drop}
-use Rattle.mk_line.specs.Lines.{TextLine, cut}
-use Rattle.mk_head.specs.Split.{fields_from}
+-- Changing a section of a document in place.
+use Rattle.std.specs.Prelude.{◌≡◌, ◌≤◌, ◌+◌, ◌-◌, ◌++◌, ℕ, suc, Bool, false, Option, None, Some, List, [], ◌∷◌, take, drop}
+use Rattle.mk_line.specs.Lines.{TextLine, cut, text_of}
+use Rattle.mk_head.specs.Split.{Head, head_lines, fields_from}
 use Rattle.mk_tree.specs.Kinds.{kind, is_digest}
-use Rattle.mk_tree.specs.Tree.{Entity, leaf, message, multi, field_lines, with_fields}
+use Rattle.mk_tree.specs.Tree.{Entity, leaf, message, multi, Parts, no_parts, part, print, entity_head, field_lines, with_fields}
 use Rattle.mk_tree.specs.Documents.{Document, IsStable, printed}
 use Rattle.mk_tree.specs.Spans.{size}
 use Rattle.mk_tree.specs.Sections.{Placed, section_at, head_text}
-use Rattle.mk_tree.specs.Places.{Frame, place_at, put, placed}
+use Rattle.mk_tree.specs.Places.{Frame, append_parts, place_at, put, placed}
 
 -- a text with `new` in the place of `count` bytes at `place`
 abbrev pub spliced : ℕ → ℕ → List ℕ → List ℕ → List ℕ
@@ -42,5 +42,67 @@ abbrev pub DigestsAt : ℕ → ℕ → List ℕ → Bool → Option Placed → T
 DigestsAt place count new g None = Unit {0}
 DigestsAt place count new g (Some p) = IsDigestOf g p.digest (changed_fields (place - p.start) count new p) p.entity
 
+-- the same by the path alone
 abbrev pub DigestsBelow : List ℕ → ℕ → ℕ → List ℕ → Document → Bool → Type 0
 DigestsBelow path place count new t g = DigestsAt place count new g (section_at path t)
+
+-- the section at a path becomes another entity, and the document that comes of it is stable
+pub record SectionBecomes (path : List ℕ) (P : Entity → Entity → Type 0) (t u : Document) : Type 0 where
+  pub numbers : List ℕ
+  pub around : List Frame
+  pub section : Entity
+  pub new : Entity
+  pub path_is : path ≡ 1 ∷ numbers
+  pub found : place_at numbers t.root ≡ Some (around, section)
+  pub becomes : P section new
+  pub result : u ≡ put t.envelope around new
+  pub stable : IsStable u
+
+-- other bytes behind its head: a body, or a separator that it had none of and a body
+abbrev pub HasBody : List ℕ → Entity → Entity → Type 0
+HasBody text s e = text_of (print e) ≡ text_of (head_lines (entity_head s)) ++ text
+
+-- other bytes, all of them
+abbrev pub HasText : List ℕ → Entity → Entity → Type 0
+HasText text s e = text_of (print e) ≡ text
+
+-- how many parts there are
+abbrev pub part_count : Parts → ℕ
+part_count no_parts = 0
+part_count (part l e ps) = suc (part_count ps)
+
+-- a multipart with a part more, behind so many: a delimiter and an entity
+pub record HasPart (place : ℕ) (text : List ℕ) (s e : Entity) : Type 0 where
+  pub head : Head
+  pub boundary : List ℕ
+  pub preamble : List TextLine
+  pub before : Parts
+  pub delimiter : TextLine
+  pub new : Entity
+  pub after : Parts
+  pub tail : Option (TextLine × List TextLine)
+  pub section_is : s ≡ multi head boundary preamble (append_parts before after) tail
+  pub result_is : e ≡ multi head boundary preamble (append_parts before (part delimiter new after)) tail
+  pub place_is : part_count before ≡ place
+  pub text_is : text_of (delimiter ∷ print new) ≡ text
+
+-- a multipart without its part of a number, counted from 1, and without the delimiter of that part
+pub record LacksPart (number : ℕ) (s e : Entity) : Type 0 where
+  pub head : Head
+  pub boundary : List ℕ
+  pub preamble : List TextLine
+  pub before : Parts
+  pub delimiter : TextLine
+  pub old : Entity
+  pub after : Parts
+  pub tail : Option (TextLine × List TextLine)
+  pub section_is : s ≡ multi head boundary preamble (append_parts before (part delimiter old after)) tail
+  pub result_is : e ≡ multi head boundary preamble (append_parts before after) tail
+  pub number_is : suc (part_count before) ≡ number
+
+-- the part at a path goes
+pub record PartGoes (path : List ℕ) (t u : Document) : Type 0 where
+  pub around : List ℕ
+  pub number : ℕ
+  pub path_is : path ≡ around ++ number ∷ []
+  pub becomes : SectionBecomes around (LacksPart number) t u

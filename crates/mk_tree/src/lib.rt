@@ -10,6 +10,7 @@ mod doc;
 pub mod laws;
 mod marking;
 mod node;
+mod planning;
 mod reading;
 mod section;
 mod shapes;
@@ -20,7 +21,7 @@ pub use describing::{Described, describe};
 pub use doc::{Doc, LEVELS};
 pub use section::Section;
 pub use shapes::Kind;
-pub use splicing::{Change, replace};
+pub use splicing::{Change, replace, replace_within};
 
 #[cfg(test)]
 mod tests;

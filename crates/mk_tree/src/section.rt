@@ -50,7 +50,7 @@ impl<'a> Section<'a> {
     ghost use Rattle.mk_head.specs.Split.{head_lines};
     ghost use Rattle.mk_head.specs.Types.{field_value};
     ghost use Rattle.mk_head.specs.Views.{field_view};
-    ghost use Rattle.mk_tree.specs.Forms.{kind_in};
+    ghost use Rattle.mk_tree.specs.Forms.{form_digest, form_in, kind_in};
     ghost use Rattle.mk_tree.specs.Spans.{size};
     ghost use Rattle.mk_tree.specs.Tree.{entity_head, field_lines, print};
     ghost use Rattle.mk_tree.specs.Sections.{boundary_in, body_text, children as sections_below, content_text, epilogue_lines, head_text, preamble_lines, raw_of, section_fields};
@@ -153,6 +153,13 @@ impl<'a> Section<'a> {
         ensures { result ≡ self.now.digest }
     {
         self.digest
+    }
+
+    // Whether a missing type means a message in its parts.
+    pub(crate) fn parts_default(&self) -> bool
+        ensures { result ≡ form_digest (form_in self.now.digest self.now.entity) }
+    {
+        self.node.shape.is_digest()
     }
 
     /// Whether lines stand behind it in the document. The next is a delimiter or close line then.

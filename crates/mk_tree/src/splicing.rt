@@ -6,90 +6,40 @@ ghost use Rattle.mk_tree.specs.Documents.{tree};
 ghost use Rattle.mk_tree.specs.Sections.{head_text};
 ghost use Rattle.mk_tree.specs.Splicing.{changed_fields, spliced, ChangesFields, IsDigestOf};
 
+use crate::changing::Own;
 use crate::describing::{Described, describe};
 use crate::doc::Doc;
+use crate::planning::{Plan, SectionChange, levels_below, plan_change};
 use crate::section::Section;
 use crate::shapes::Kind;
 use std::alloc::{AllocError, Global};
 
-/// A change of the bytes of a section: `text` in the place of `count` bytes at `place`, an offset in bytes from 0 in the
-/// document.
+/// A change of a section of a document.
 #[derive(Debug, Drop)]
 pub enum Change {
-    /// Among the lines of the section's fields.
+    /// `text` comes in the place of `count` bytes at `place`, an offset in bytes from 0 in the document, among the lines of
+    /// the section's fields.
     Header {
         place: usize,
         count: usize,
         text: Vec<u8>,
     },
-    /// The body of a leaf, with the empty line before it where the head has none.
+    /// `text` comes in the place of all bytes behind the section's head: its body, and before it an empty line where the head
+    /// has none.
     Body {
-        place: usize,
-        count: usize,
         text: Vec<u8>,
     },
-    /// The whole section.
+    /// `text` comes in the place of the whole section.
     Entity {
-        place: usize,
-        count: usize,
         text: Vec<u8>,
     },
-    /// A part more, with its delimiter, between the parts of a multipart.
+    /// A multipart has a part more, behind `place` others: `text` is its delimiter line and the part.
     Part {
-        place: usize,
-        count: usize,
+        place: u32,
         text: Vec<u8>,
     },
-    /// A part less: nothing in the place of it and its delimiter.
-    NoPart {
-        place: usize,
-        count: usize,
-        text: Vec<u8>,
-    },
-}
-
-impl Change {
-    ghost use Rattle.std.specs.Prelude.{◌≡◌};
-    ghost use Rattle.mk_tree.specs.ChangeViews.{count_of, new_of, place_of};
-
-    /// Where it begins, in bytes from 0 in the document.
-    pub fn place(&self) -> usize
-        ensures { result ≡ place_of self.now }
-    {
-        match self {
-            Change::Header { place, .. }
-            | Change::Body { place, .. }
-            | Change::Entity { place, .. }
-            | Change::Part { place, .. }
-            | Change::NoPart { place, .. } => *place,
-        }
-    }
-
-    /// How many bytes go.
-    pub fn count(&self) -> usize
-        ensures { result ≡ count_of self.now }
-    {
-        match self {
-            Change::Header { count, .. }
-            | Change::Body { count, .. }
-            | Change::Entity { count, .. }
-            | Change::Part { count, .. }
-            | Change::NoPart { count, .. } => *count,
-        }
-    }
-
-    /// The bytes that come.
-    pub fn text(&self) -> &[u8]
-        ensures { result.now ≡ new_of self.now }
-    {
-        match self {
-            Change::Header { text, .. }
-            | Change::Body { text, .. }
-            | Change::Entity { text, .. }
-            | Change::Part { text, .. }
-            | Change::NoPart { text, .. } => text,
-        }
-    }
+    /// The section, a part, goes with its delimiter line.
+    NoPart,
 }
 
 /// Puts `text` in the place of `count` bytes at `place`. Where there is no memory, nothing changes.
@@ -115,6 +65,16 @@ pub fn replace(
     }
     overwrite(items, place, text);
     Ok(())
+}
+
+/// The same where there is room.
+pub fn replace_within(items: &mut Vec<u8>, place: usize, count: usize, text: &[u8])
+    requires inside { place + count ≤ vec_len items.old }
+    requires room { vec_len items.old + length text.now ≤ vec_capacity items.old + count }
+    ensures items { items.new.items ≡ spliced place count text.now items.old.items }
+    ensures capacity { vec_capacity items.old ≤ vec_capacity items.new }
+{
+    let _room = replace(items, place, count, text);
 }
 
 // Writes `text` over as many bytes at `place`.
@@ -153,50 +113,62 @@ fn digest_after(
 
 impl Doc {
     ghost use Rattle.std.specs.Prelude.{◌≡◌, ◌+◌, ◌≤◌, length, IfOk, IfErr, OnOk, OnErr};
-    ghost use Rattle.mk_tree.specs.Documents.{tree};
-    ghost use Rattle.mk_tree.specs.Splicing.{spliced, ChangesFields, DigestsBelow};
-    ghost use Rattle.mk_tree.specs.ChangeViews.{Changes, changed_text};
+    ghost use Rattle.mk_tree.specs.Documents.{Document, tree, printed};
+    ghost use Rattle.mk_tree.specs.Splicing.{spliced, ChangesFields, DigestsBelow, SectionBecomes};
+    ghost use Rattle.mk_tree.specs.ChangeViews.{Changes, ChangesTo};
+    ghost use Rattle.mk_tree.specs.Planning.{Becomes, Puts};
 
     /// Changes the section at a path, where the document that comes of it is stable: the bytes, and of the tree the
-    /// sections on the path. Where there is no memory nothing changes, and the change comes back.
+    /// sections on the path. It reads the new bytes and the head of the section. Where there is no memory nothing changes,
+    /// and the change comes back.
     pub fn splice(&mut self, path: &[u32], change: Change) -> Result<(), (Change, AllocError)>
         requires { Changes path.now change (tree self.old) }
-        ensures ok { OnOk result (self.new ≡ changed_text change self.old) }
+        ensures ok { OnOk result ((u : Document) → ChangesTo path.now change (tree self.old) u → self.new ≡ printed u) }
         ensures same { OnErr result (self.new ≡ self.old) }
         ensures change { IfErr result (λ e. e.0 ≡ change) }
     {
-        let (place, count) = (change.place(), change.count());
-        let changed = match &change {
-            Change::Header { .. } => self.change_fields(path, place, count, change.text()),
-            Change::Body { .. }
-            | Change::Entity { .. }
-            | Change::Part { .. }
-            | Change::NoPart { .. } => self.read_changed(place, count, change.text()),
-        };
-        match changed {
+        match self.change(path, &change) {
             Ok(()) => Ok(()),
             Err(error) => Err((change, error)),
         }
     }
 
-    // Reads the changed text anew.
-    fn read_changed(&mut self, place: usize, count: usize, text: &[u8]) -> Result<(), AllocError>
-        requires { place + count ≤ length self.old }
-        ensures ok { OnOk result (self.new ≡ spliced place count text.now self.old) }
+    fn change(&mut self, path: &[u32], change: &Change) -> Result<(), AllocError>
+        requires { Changes path.now change.now (tree self.old) }
+        ensures ok { OnOk result ((u : Document) → ChangesTo path.now change.now (tree self.old) u → self.new ≡ printed u) }
+        ensures err { OnErr result (self.new ≡ self.old) }
+    {
+        match change {
+            Change::Header { place, count, text } => {
+                self.change_fields(path, *place, *count, text)
+            }
+            Change::Body { text } => self.change_section(path, SectionChange::Body(text)),
+            Change::Entity { text } => self.change_section(path, SectionChange::Entity(text)),
+            Change::Part { place, text } => {
+                self.change_section(path, SectionChange::Part(*place, text))
+            }
+            Change::NoPart => match path.split_last() {
+                Some((number, around)) => {
+                    self.change_section(around, SectionChange::NoPart(*number))
+                }
+                None => Ok(()),
+            },
+        }
+    }
+
+    fn change_section(&mut self, path: &[u32], change: SectionChange<'_>) -> Result<(), AllocError>
+        requires { (u : Document) × SectionBecomes path.now (Becomes change) (tree self.old) u }
+        ensures ok { OnOk result ((u : Document) → SectionBecomes path.now (Becomes change.entry) (tree self.old) u → self.new ≡ printed u) }
         ensures err { OnErr result (self.new ≡ self.old) }
     {
         let alloc = *self.text.allocator();
-        let size = self.text.len() - count + text.len();
-        let mut changed = Vec::with_capacity(alloc, size)?;
-        changed.extend_from_slice(&self.text[..place])?;
-        changed.extend_from_slice(text)?;
-        changed.extend_from_slice(&self.text[place + count..])?;
-        match Doc::read(alloc, changed) {
-            Ok(doc) => {
-                *self = doc;
-                Ok(())
+        let left = levels_below(path.len() - 1);
+        match self.section(path) {
+            Some(section) => {
+                let plan = plan_change(alloc, &section, left, change)?;
+                self.put(path, plan, change.text())
             }
-            Err((_, error)) => Err(error),
+            None => Ok(()),
         }
     }
 
@@ -212,9 +184,20 @@ impl Doc {
         ensures err { OnErr result (self.new ≡ self.old) }
     {
         let digest = self.digest_below(path, place, count, text)?;
-        replace(&mut self.text, place, count, text)?;
-        self.root
-            .change_fields(&path[1..], count, text.len(), digest);
+        let own = Own::Fields(digest);
+        self.put(path, Plan { place, count, own }, text)
+    }
+
+    // Makes what is planned. What can fail comes first.
+    fn put(&mut self, path: &[u32], plan: Plan, text: &[u8]) -> Result<(), AllocError>
+        requires { Puts path.now text.now (tree self.old) plan }
+        ensures ok { OnOk result (self.new ≡ spliced plan.place plan.count text.now self.old) }
+        ensures err { OnErr result (self.new ≡ self.old) }
+    {
+        let Plan { place, count, own } = plan;
+        self.text.reserve(text.len().saturating_sub(count))?;
+        self.root.change(&path[1..], count, text.len(), own)?;
+        replace_within(&mut self.text, place, count, text);
         Ok(())
     }
 

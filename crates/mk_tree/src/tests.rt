@@ -1,5 +1,7 @@
 //! What no clause says: that reading succeeds, and that the clauses mean what users of messages expect. Expected values
 //! are from the RFCs and our own rules.
+ghost use Rattle.std.specs.Prelude.{◌≡◌};
+
 mod changes;
 mod rows;
 
@@ -12,7 +14,9 @@ use std::test::Fail;
 /// More levels than the rows have.
 const LEVELS: u8 = 5;
 
-fn read(rt: &impl Abort, alloc: Global, text: &[u8]) -> Doc {
+fn read(rt: &impl Abort, alloc: Global, text: &[u8]) -> Doc
+    ensures { result ≡ text.now }
+{
     let bytes = Vec::from_slice(alloc, text).expect(rt, "memory");
     match Doc::read(alloc, bytes) {
         Ok(doc) => doc,

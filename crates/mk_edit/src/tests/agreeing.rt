@@ -38,7 +38,7 @@ const LINES: [&[u8]; 14] = [
 ];
 
 /// The edits that are tried at each section.
-const ASKED: [Asked; 52] = [
+const ASKED: [Asked; 56] = [
     Asked::AddField {
         top: false,
         text: b"N: v\n",
@@ -218,10 +218,26 @@ const ASKED: [Asked; 52] = [
         text: b"Content-Type: text/plain\n",
     },
     Asked::RemovePart,
+    Asked::Wrap {
+        subtype: b"mixed",
+        boundary: b"c",
+    },
+    Asked::Wrap {
+        subtype: b"digest",
+        boundary: b"b",
+    },
+    Asked::Wrap {
+        subtype: b"x",
+        boundary: b"a:b",
+    },
+    Asked::Wrap {
+        subtype: b"mixed",
+        boundary: b"b ",
+    },
 ];
 
 /// Of all messages of a front, three lines and an ending every so many.
-const STRIDE: usize = 53;
+const STRIDE: usize = 101;
 
 /// How many there are of them.
 const COUNT: usize = FRONTS.len() * (LINES.len() + 1) * (LINES.len() + 1) * (LINES.len() + 1) * 4;

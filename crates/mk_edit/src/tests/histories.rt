@@ -1,7 +1,8 @@
 //! Runs of commands: the answer to each, and the text behind it.
 
+use super::groups::reason;
 use super::{Asked, MIXED, PART, check_state, edit_at, session_over};
-use crate::{Command, EditError, Session};
+use crate::{Command, EditError, Reply, Session};
 use mk_line::Meter;
 use std::alloc::{AllocError, Global};
 use std::process::Abort;
@@ -116,6 +117,7 @@ fn reply(rt: &impl Abort, session: &mut Session, command: &Command) -> Option<Ed
             assert_eq!(rt; checked, answer);
             answer
         }
+        Command::Group(list) => session.group(list, &mut Meter::new()).map_err(reason),
         Command::Undo => session.undo(),
         Command::Redo => session.redo(),
     };
@@ -132,7 +134,7 @@ fn check_steps(rt: &impl Abort, alloc: Global, text: &[u8], steps: &[Step]) -> R
         assert_eq!(rt; reply(rt, &mut session, &command), *refused, "{order:?}");
         check_state(rt, alloc, &session, after, "a history")?;
         commands.push(command)?;
-        wanted.push(*refused)?;
+        wanted.push(refused.map_or(Reply::Obeyed, Reply::Refused))?;
     }
     let mut other = session_over(alloc, text)?;
     let replies = other.obey_all(alloc, &commands, &mut Meter::new())?;

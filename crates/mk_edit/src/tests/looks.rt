@@ -89,3 +89,28 @@ fn unblanked(bytes: &[u8]) -> &[u8] {
     }
     bytes.get(..size).unwrap_or(bytes)
 }
+
+/// Whether a text may be a boundary (RFC 2046, 5.1.1).
+pub fn is_boundary(text: &[u8]) -> bool {
+    let mut is_good = !text.is_empty() && text.len() <= 70 && !text.ends_with(b" ");
+    for byte in text {
+        is_good = is_good && (byte.is_ascii_alphanumeric() || b" '()+_,-./:=?".contains(byte));
+    }
+    is_good
+}
+
+/// Whether a text is a token (RFC 2045, 5.1).
+pub fn is_token(text: &[u8]) -> bool {
+    let mut is_good = !text.is_empty();
+    for byte in text {
+        is_good = is_good && byte.is_ascii_graphic() && !b"()<>@,;:\\\"/[]?=".contains(byte);
+    }
+    is_good
+}
+
+/// Whether the name of a field begins with `Content-`, letters of both cases being alike.
+pub fn is_of_content(field: &[u8]) -> bool {
+    let name = name_of(field);
+    let front = name.get(..8).unwrap_or(b"");
+    front.eq_ignore_ascii_case(b"Content-")
+}

@@ -1,13 +1,14 @@
 //! Memory that is refused once: the call then changes nothing, and goes through when it is made again.
 
+use super::groups::reason;
 use super::{Asked, MIXED, PART, edit_at};
-use crate::{Command, EditError, Session};
+use crate::{Command, EditError, Reply, Session};
 use mk_line::Meter;
 use std::alloc::{AllocError, Global};
 use std::process::Abort;
 
 /// An edit of each kind that is accepted, one behind another.
-const ASKED: [(&[u32], Asked); 8] = [
+const ASKED: [(&[u32], Asked); 9] = [
     (
         &[1, 1],
         Asked::AddField {
@@ -48,10 +49,17 @@ const ASKED: [(&[u32], Asked); 8] = [
         },
     ),
     (&[1, 2], Asked::RemovePart),
+    (
+        &[1, 1],
+        Asked::Wrap {
+            subtype: b"mixed",
+            boundary: b"c",
+        },
+    ),
 ];
 
 const AFTER: &[u8] =
-    b"Content-Type: multipart/mixed; boundary=\"b\"\n\npre\n--b\n\nx\n--b \t\nContent-Transfer-Encoding: base64\n\naGk=\n--b--\nepi\n";
+    b"Content-Type: multipart/mixed; boundary=\"b\"\n\npre\n--b\nContent-Type: multipart/mixed; boundary=\"c\"\n\n--c\n\nx\n--c--\n--b \t\nContent-Transfer-Encoding: base64\n\naGk=\n--b--\nepi\n";
 
 // Makes a call that may want memory. Where it does, all is as before, and a second call goes through.
 fn insist(rt: &impl Abort, session: &mut Session, command: &Command) {
@@ -72,6 +80,7 @@ fn once(session: &mut Session, command: &Command) -> Result<(), EditError> {
             session.check(edit, &mut Meter::new())?;
             session.edit(edit, &mut Meter::new())
         }
+        Command::Group(list) => session.group(list, &mut Meter::new()).map_err(reason),
         Command::Undo => session.undo(),
         Command::Redo => session.redo(),
     }
@@ -124,8 +133,8 @@ fn commands_that_want_memory_leave_a_front_done(rt: HostRuntime) {
     if let (Ok(commands), Ok(mut session)) = (commands(alloc), started(&rt, alloc)) {
         match session.obey_all(alloc, &commands, &mut Meter::new()) {
             Ok(replies) => {
-                assert_eq!(rt; replies.as_slice(), [None; 8].as_slice());
-                assert_eq!(rt; session.done(), 8);
+                assert_eq!(rt; replies.as_slice(), [Reply::Obeyed; 9].as_slice());
+                assert_eq!(rt; session.done(), 9);
             }
             Err(_) => {
                 let rest = commands.get(session.done()..).unwrap_or(&commands);

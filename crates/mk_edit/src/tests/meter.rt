@@ -22,7 +22,7 @@ struct Limit {
     most: u64,
 }
 
-const LIMITS: [Limit; 4] = [
+const LIMITS: [Limit; 5] = [
     Limit {
         path: &[1, 500],
         asked: FIELD,
@@ -40,6 +40,14 @@ const LIMITS: [Limit; 4] = [
             text: PART,
         },
         most: 12,
+    },
+    Limit {
+        path: &[1, 500],
+        asked: Asked::Wrap {
+            subtype: b"mixed",
+            boundary: b"c",
+        },
+        most: 14,
     },
     Limit {
         path: &[1, 500],

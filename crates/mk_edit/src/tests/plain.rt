@@ -2,6 +2,7 @@
 //! again, and compares the two lists.
 use super::flat::{Item, What, below, flattened, item_of};
 use super::looks::{ending_of, first_line_of, has_mark, is_name, is_one_field, name_of, named};
+use super::wrapping::Wrapped;
 use super::{Asked, read};
 use crate::EditError;
 use mk_tree::Kind;
@@ -34,6 +35,15 @@ pub fn answer(
         Asked::SetSection { text } => flat.set_section(text, section.default_message()),
         Asked::InsertPart { place, text } => flat.insert(place, text, eol),
         Asked::RemovePart => flat.remove(),
+        Asked::Wrap { subtype, boundary } => {
+            let wrapped = Wrapped {
+                alloc,
+                path,
+                eol,
+                is_followed: section.followed(),
+            };
+            wrapped.answer(flat.items, subtype, boundary)
+        }
     }
 }
 
@@ -290,8 +300,8 @@ fn put_alone(
     Ok(())
 }
 
-// The bytes of a list, where no reason is against them.
-fn judge(
+/// The bytes of a list, where no reason is against them.
+pub fn judge(
     alloc: Global,
     items: &[Item],
     path: &[u32],

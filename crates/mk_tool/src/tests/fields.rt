@@ -1,7 +1,7 @@
 //! Scripts that take fields out, rename them and put others in their place.
 
 use super::{Case, SIZES, check_case};
-use crate::script::{ScriptError, words};
+use crate::groups::{ScriptError, steps};
 use crate::status::Status;
 use std::test::Fail;
 
@@ -226,10 +226,10 @@ const OTHERS: [&[u8]; 31] = [
 fn lines_are_words_or_not(rt: HostRuntime) -> Result<(), Fail> {
     let alloc = rt.alloc();
     for line in WORDS {
-        assert_eq!(rt; words(alloc, line, 0)?.len(), 1, "{line:?}");
+        assert_eq!(rt; steps(alloc, line, 0)?.len(), 1, "{line:?}");
     }
     for line in OTHERS {
-        let found = words(alloc, line, 0);
+        let found = steps(alloc, line, 0);
         assert_eq!(rt; found, Err(ScriptError::Syntax(1)), "{line:?}");
     }
     Ok(())

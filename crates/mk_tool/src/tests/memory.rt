@@ -2,11 +2,13 @@
 //! each test. Each test then sees the defined answer, or want of memory with all as before.
 
 use super::devices::{Page, Text};
+use super::shelf::Slot;
 use crate::engine::run_edit;
+use crate::groups::{ScriptError, steps};
 use crate::path::path;
-use crate::script::{ScriptError, words};
 use crate::status::Status;
 use crate::transfer::{Stop, read_all};
+use crate::unpacking::unpack;
 use std::alloc::Global;
 use std::process::Abort;
 
@@ -14,7 +16,7 @@ const MESSAGE: &[u8] =
     b"A: b\nContent-Type: multipart/mixed; boundary=\"a:b\"\n\n--a:b\n\nx\n--a:b--\n";
 
 const SCRIPT: &[u8] =
-    b"add 1.1 --a:b\nadd 1 C: d\nset 1 A 1 E: f\nren 1 E 1 G\ndel 1 C 1\nundo\nredo\n";
+    b"add 1.1 --a:b\nbegin\nadd 1 C: d\nset 1 A 1 E: f\nend\nren 1 E 1 G\ndel 1 C 1\nundo\nredo\n";
 
 const OUTPUT: &[u8] =
     b"G: f\nContent-Type: multipart/mixed; boundary=\"a:b\"\n\n--a:b\n\nx\n--a:b--\n";
@@ -34,13 +36,13 @@ fn memory_for_a_path(rt: HostRuntime) {
 }
 
 #[test]
-fn memory_for_words(rt: HostRuntime) {
+fn memory_for_steps(rt: HostRuntime) {
     let alloc = rt.alloc();
-    match words(alloc, SCRIPT, 0) {
-        Ok(all) => assert_eq!(rt; all.len(), 7),
+    match steps(alloc, SCRIPT, 0) {
+        Ok(all) => assert_eq!(rt; all.len(), 6),
         Err(error) => {
             assert_eq!(rt; error, ScriptError::Memory);
-            assert!(rt; words(alloc, SCRIPT, 0).is_ok());
+            assert!(rt; steps(alloc, SCRIPT, 0).is_ok());
         }
     }
 }
@@ -79,5 +81,42 @@ fn check_run(rt: &impl Abort, alloc: Global, mut out: Page, mut err: Page) {
         assert_eq!(rt; status, Status::Refused);
         assert_eq!(rt; out.bytes(), OUTPUT);
         assert_eq!(rt; err.bytes(), ERRORS);
+    }
+}
+
+const SPOILT: &[u8] =
+    b"Content-Type: multipart/mixed; boundary=b\n\n--b\nContent-Transfer-Encoding: base64\n\naGl=\n--b\nContent-Type: image/gif; name=x\n\nhi\n--b--\n";
+
+const SAID: &[u8] = b"x (image/gif)\n";
+
+const TOLD: &[u8] = b"1.1: BadBase64\n";
+
+#[test]
+fn memory_for_unpacking(rt: HostRuntime) {
+    let alloc = rt.alloc();
+    let (Ok(out), Ok(err)) = (Page::new(alloc, SIZE), Page::new(alloc, SIZE)) else {
+        return;
+    };
+    let Ok(dir) = Slot::new(alloc, SIZE) else {
+        return;
+    };
+    check_unpacking(&rt, alloc, out, err, dir);
+}
+
+// All is unpacked, or a front of it.
+fn check_unpacking(rt: &impl Abort, alloc: Global, mut out: Page, mut err: Page, mut dir: Slot) {
+    let mut input = Text::new(SPOILT, SIZE);
+    let status = unpack(
+        alloc, &mut input, &mut out, &mut err, &mut dir, true, false, false,
+    );
+    if status == Status::Memory {
+        assert_eq!(rt; out.bytes(), b"".as_slice());
+        assert!(rt; err.bytes().ends_with(b"mimetool: memory\n"));
+        assert!(rt; dir.file() == (b"", b"") || dir.file() == (b"x", b"hi"));
+    } else {
+        assert_eq!(rt; status, Status::Refused);
+        assert_eq!(rt; out.bytes(), SAID);
+        assert_eq!(rt; err.bytes(), TOLD);
+        assert!(rt; dir.file() == (b"x", b"hi"));
     }
 }

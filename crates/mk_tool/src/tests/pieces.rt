@@ -1,7 +1,7 @@
 //! Scripts that put pieces into a message, and take parts out.
 
 use super::{Case, SIZES, check_with};
-use crate::script::{ScriptError, words};
+use crate::groups::{ScriptError, steps};
 use crate::status::Status;
 use std::test::Fail;
 
@@ -304,10 +304,10 @@ const OTHERS: [&[u8]; 17] = [
 fn lines_with_pieces_are_words_or_not(rt: HostRuntime) -> Result<(), Fail> {
     let alloc = rt.alloc();
     for line in WORDS {
-        assert_eq!(rt; words(alloc, line, 2)?.len(), 1, "{line:?}");
+        assert_eq!(rt; steps(alloc, line, 2)?.len(), 1, "{line:?}");
     }
     for line in OTHERS {
-        let found = words(alloc, line, 2);
+        let found = steps(alloc, line, 2);
         assert_eq!(rt; found, Err(ScriptError::Syntax(1)), "{line:?}");
     }
     Ok(())

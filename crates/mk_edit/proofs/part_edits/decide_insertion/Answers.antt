@@ -1,6 +1,4 @@
 use Rattle.std.proofs.Common.{◌∙◌, refl, sym}
-use Rattle.mk_tree.specs.Documents.{tree}
-use Rattle.mk_tree.specs.Sections.{section_at}
 use Rattle.mk_edit.specs.Edits.{InsertPart}
 use Rattle.mk_edit.specs.LocalAnswers.{behind_first}
 use Rattle.mk_edit.specs.SectionAnswers.{insertion_answer}

@@ -2,7 +2,6 @@ use Rattle.std.proofs.Common.{◌∙◌, refl, sym}
 use Rattle.mk_tree.specs.Documents.{tree}
 use Rattle.mk_tree.specs.Sections.{section_at}
 use Rattle.mk_edit.specs.Edits.{RemovePart}
-use Rattle.mk_edit.specs.LocalAnswers.{behind_first}
 use Rattle.mk_edit.specs.SectionAnswers.{outer_path, last_number, removal_answer}
 use Rattle.mk_edit.proofs.RemovalFits.{removal_answers}
 use Rattle.mk_edit.proofs.Decisions.{told_ok, told_err, told_none}

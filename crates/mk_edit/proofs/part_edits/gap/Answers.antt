@@ -1,6 +1,5 @@
 use Rattle.std.proofs.Common.{length, arith, ap}
 use Rattle.mk_edit.proofs.Gaps.{preamble_within, print_apart, first_gap}
-use Rattle.mk_edit.proofs.Parents.{around_told}
 use Rattle.mk_edit.proofs.part_edits.gap.Goals as goal
 
 pub overflow_sub-behind : goal.overflow_sub-behind

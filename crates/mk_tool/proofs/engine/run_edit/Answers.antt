@@ -1,7 +1,7 @@
 use Rattle.std.proofs.Common.{Err, length, sym, subst}
-use Rattle.mk_tool.specs.RunClauses.{held, LeavesWords}
+use Rattle.mk_tool.specs.RunClauses.{held, LeavesSteps}
 use Rattle.mk_tool.specs.Runs.{run_of}
-use Rattle.mk_tool.specs.Script.{script_of}
+use Rattle.mk_tool.specs.ScriptSteps.{script_of}
 use Rattle.mk_tool.specs.ScriptViews.{texts_of}
 use Rattle.mk_tool.proofs.RunLemmas.{Leaves-given_up}
 use Rattle.mk_tool.proofs.ScriptTurns.{texts_length}
@@ -11,7 +11,7 @@ pub returns-in-Err-clause-leaves : goal.returns-in-Err-clause-leaves
 returns-in-Err-clause-leaves g c =
     let before = held (g.S.Source.remaining c.args.input.now) (g.O.Sink.contents c.args.out.now) (g.E.Sink.contents c.args.err.now) in
     let between = held (g.S.Source.remaining c.run_script.new.input) (g.O.Sink.contents c.run_script.new.out) (g.E.Sink.contents c.run_script.new.err) in
-    let left = subst (λ n. LeavesWords (Err c.in-Err.cause) (texts_of c.args.pieces.now) (script_of n c.args.script.now) before between) (sym (texts_length c.args.pieces.now)) c.in-Err.ensures.leaves in
+    let left = subst (λ n. LeavesSteps (Err c.in-Err.cause) (texts_of c.args.pieces.now) (script_of n c.args.script.now) before between) (sym (texts_length c.args.pieces.now)) c.in-Err.ensures.leaves in
     let run = run_of (texts_of c.args.pieces.now) left.0 c.args.script.now in
     let after = held (g.S.Source.remaining c.run_script.new.input) (g.O.Sink.contents c.run_script.new.out) (g.E.Sink.contents c.give_up.new.err) in
     rw c.give_up.ensures.status (

@@ -7,10 +7,10 @@ use Rattle.mk_edit.proofs.session.Session.obey_all.Goals as goal
 pub loop-command-preserved : goal.loop-command-preserved
 loop-command-preserved c =
     let same = c.command-item.is in
-    let left = c.in_ok-reply.ensures.history ∙ ap (λ k. after (order_of k) c.loop-command.self) same in
+    let left = c.in_ok-reply.ensures.1 ∙ ap (λ k. after (order_of k) c.loop-command.self) same in
     record {
       told = told_next order_of c.args.commands.now c.loop-command.command-index c.command-item.result c.loop-command.all.items c.push_reserved.new.self.items _ c.in_ok-reply.reply c.loop-command.self c.reply.new.self c.loop-command-test.true
-          (c.in_ok-reply.ensures.reply ∙ ap (λ k. Some (refusal (step (order_of k) c.loop-command.self))) same) left c.push_reserved.ensures.items c.loop-command.invariant.told;
+          (c.in_ok-reply.ensures.0 ∙ ap (λ k. Some (refusal (step (order_of k) c.loop-command.self))) same) left c.push_reserved.ensures.items c.loop-command.invariant.told;
       rest = rest_next order_of c.args.commands.now c.loop-command.command-index c.command-item.result c.loop-command.self c.reply.new.self _ c.loop-command-test.true left c.loop-command.invariant.rest;
       front = front_next order_of c.args.commands.now c.loop-command.command-index c.command-item.result c.loop-command.self c.reply.new.self _ c.loop-command-test.true left c.loop-command.invariant.front;
       size = omega (arith, c.push_reserved.ensures.len, c.loop-command.invariant.size);

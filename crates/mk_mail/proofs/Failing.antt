@@ -1,0 +1,48 @@
+-- The first that fails a test, and texts written one behind another.
+use Rattle.std.proofs.Common.{◌≡◌, ◌+◌, ◌++◌, ℕ, zero, suc, Bool, true, false, Option, None, Some, List, [], ◌∷◌, refl, ap, sym, ◌∙◌, subst, length, map, drop, get_or, arith, append_assoc, ◌<◌, ◌≤◌}
+use Rattle.std.proofs.lemmas.List.{drop_more}
+use Rattle.std.specs.List.{flat_map}
+use Rattle.std.specs.Option.{option_map}
+use Rattle.mk_mail.specs.Building.{first_failing}
+
+-- a place behind so many others
+abbrev pub behind : ℕ → Option ℕ → Option ℕ
+behind n o = option_map (λ k. n + k) o
+
+behind_one : (n : ℕ) (o : Option ℕ) → behind n (option_map suc o) ≡ behind (n + 1) o
+behind_one n None = refl
+behind_one n (Some k) = ap (λ m. Some m) (omega arith)
+
+-- the first that fails is not among those that were looked at
+abbrev first_by : {X : Type 0} → (X → Bool) → Bool → List X → Option ℕ
+first_by test true xs = option_map suc (first_failing test xs)
+first_by test false xs = Some 0
+
+first_is : {X : Type 0} (test : X → Bool) (x : X) (xs : List X) (t : Bool) → test x ≡ t → first_failing test (x ∷ xs) ≡ first_by test t xs
+first_is test x xs true h = rw h refl
+first_is test x xs false h = rw h refl
+
+pub passes : {X : Type 0} (test : X → Bool) (n : ℕ) (xs rest : List X) (x : X) (o : Option ℕ) → xs ≡ x ∷ rest → test x ≡ true → behind n (first_failing test xs) ≡ o → behind (n + 1) (first_failing test rest) ≡ o
+passes test n xs rest x o e t h = sym (behind_one n (first_failing test rest)) ∙ (ap (behind n) (sym (ap (first_failing test) e ∙ first_is test x rest true t)) ∙ h)
+
+some_at : (n : ℕ) → ◌≡◌ {A = Option ℕ} (Some n) (behind n (Some 0))
+some_at n = let e : n ≡ n + 0 = omega arith in ap (λ m. Some m) e
+
+pub fails : {X : Type 0} (test : X → Bool) (n : ℕ) (xs rest : List X) (x : X) (o : Option ℕ) → xs ≡ x ∷ rest → test x ≡ false → behind n (first_failing test xs) ≡ o → Some n ≡ o
+fails test n xs rest x o e t h = some_at n ∙ (ap (behind n) (sym (ap (first_failing test) e ∙ first_is test x rest false t)) ∙ h)
+
+-- the list from an index on
+pub from_index : {X Y : Type 0} (f : X → Y) (i : ℕ) (xs : List X) (x : X) → i < length xs → x ≡ get_or xs i x → drop i (map f xs) ≡ f x ∷ drop (i + 1) (map f xs)
+from_index f i [] x h e = absurd (omega (arith, h))
+from_index f zero (y ∷ ys) x h e = ap (λ z. f z ∷ map f ys) (sym e)
+from_index f (suc i) (y ∷ ys) x h e = let n : suc (i + 1) ≡ suc i + 1 = omega arith in from_index f i ys x (omega (arith, h)) e ∙ ap (λ k. f x ∷ drop k (map f (y ∷ ys))) n
+
+pub at_end : {X Y : Type 0} (f : X → Y) (i : ℕ) (xs : List X) → length xs ≤ i → drop i (map f xs) ≡ []
+at_end f zero [] h = refl
+at_end f (suc i) [] h = refl
+at_end f zero (y ∷ ys) h = absurd (omega (arith, h))
+at_end f (suc i) (y ∷ ys) h = at_end f i ys (omega (arith, h))
+
+-- a text and what is still to be written
+pub written_one : {Y : Type 0} (g : Y → List ℕ) (old new goal_text : List ℕ) (ys rest : List Y) (y : Y) → ys ≡ y ∷ rest → new ≡ old ++ g y → old ++ flat_map g ys ≡ goal_text → new ++ flat_map g rest ≡ goal_text
+written_one g old new goal_text ys rest y e w h = ap (λ t. t ++ flat_map g rest) w ∙ (append_assoc old (g y) (flat_map g rest) ∙ (ap (λ zs. old ++ flat_map g zs) (sym e) ∙ h))

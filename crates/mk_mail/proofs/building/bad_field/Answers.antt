@@ -1,0 +1,18 @@
+use Rattle.std.proofs.Common.{ap, sym, ◌∙◌, ◌+◌, ◌≡◌, map, drop, length, arith, None}
+use Rattle.mk_mail.specs.Building.{first_failing, is_free_field}
+use Rattle.mk_mail.proofs.Failing.{behind, passes, fails, from_index, at_end}
+use Rattle.mk_mail.proofs.building.bad_field.Goals as goal
+
+pub loop-index-preserved : goal.loop-index-preserved
+loop-index-preserved c =
+    let xs = c.args.fields.now in
+    let i = c.loop-index.index in
+    let x = c.index-fields-index.result in
+    passes is_free_field i (drop i (map (λ f. f.items) xs)) (drop (i + 1) (map (λ f. f.items) xs)) _ (first_failing is_free_field (map (λ f. f.items) xs)) (from_index (λ f. f.items) i xs x (omega (arith, c.loop-index-test.true)) c.index-fields-index.is) (ap is_free_field (sym c.deref.ensures.value) ∙ (sym c.is_free_field.ensures ∙ c.if-not-is_free_field.false)) c.loop-index.invariant
+
+pub returns-then-not-is_free_field : goal.returns-then-not-is_free_field
+returns-then-not-is_free_field c =
+    let xs = c.args.fields.now in
+    let i = c.loop-index.index in
+    let x = c.index-fields-index.result in
+    fails is_free_field i (drop i (map (λ f. f.items) xs)) (drop (i + 1) (map (λ f. f.items) xs)) _ (first_failing is_free_field (map (λ f. f.items) xs)) (from_index (λ f. f.items) i xs x (omega (arith, c.loop-index-test.true)) c.index-fields-index.is) (ap is_free_field (sym c.deref.ensures.value) ∙ (sym c.is_free_field.ensures ∙ c.if-not-is_free_field.true)) c.loop-index.invariant

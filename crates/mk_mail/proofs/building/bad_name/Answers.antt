@@ -1,0 +1,19 @@
+use Rattle.std.proofs.Common.{ap, sym, ◌∙◌, ◌+◌, ◌≡◌, map, drop, length, arith, None}
+use Rattle.mk_mail.specs.BuildViews.{attached_of}
+use Rattle.mk_mail.specs.Building.{first_failing, is_name_or_none}
+use Rattle.mk_mail.proofs.Failing.{behind, passes, fails, from_index, at_end}
+use Rattle.mk_mail.proofs.building.bad_name.Goals as goal
+
+pub loop-index-preserved : goal.loop-index-preserved
+loop-index-preserved c =
+    let xs = c.args.parts.now in
+    let i = c.loop-index.index in
+    let x = c.index-parts-index.result in
+    passes (λ a. is_name_or_none a.name) i (drop i (map attached_of xs)) (drop (i + 1) (map attached_of xs)) _ (first_failing (λ a. is_name_or_none a.name) (map attached_of xs)) (from_index attached_of i xs x (omega (arith, c.loop-index-test.true)) c.index-parts-index.is) (sym c.has_name.ensures ∙ c.if-not-has_name.false) c.loop-index.invariant
+
+pub returns-then-not-has_name : goal.returns-then-not-has_name
+returns-then-not-has_name c =
+    let xs = c.args.parts.now in
+    let i = c.loop-index.index in
+    let x = c.index-parts-index.result in
+    fails (λ a. is_name_or_none a.name) i (drop i (map attached_of xs)) (drop (i + 1) (map attached_of xs)) _ (first_failing (λ a. is_name_or_none a.name) (map attached_of xs)) (from_index attached_of i xs x (omega (arith, c.loop-index-test.true)) c.index-parts-index.is) (sym c.has_name.ensures ∙ c.if-not-has_name.true) c.loop-index.invariant

@@ -1,0 +1,19 @@
+use Rattle.std.proofs.Common.{ap, sym, ◌∙◌, ◌+◌, ◌≡◌, map, drop, length, arith, None}
+use Rattle.mk_mail.specs.BuildViews.{attached_of}
+use Rattle.mk_mail.specs.Building.{first_failing, is_media}
+use Rattle.mk_mail.proofs.Failing.{behind, passes, fails, from_index, at_end}
+use Rattle.mk_mail.proofs.building.bad_type.Goals as goal
+
+pub loop-index-preserved : goal.loop-index-preserved
+loop-index-preserved c =
+    let xs = c.args.parts.now in
+    let i = c.loop-index.index in
+    let x = c.index-parts-index.result in
+    passes (λ a. is_media a.media) i (drop i (map attached_of xs)) (drop (i + 1) (map attached_of xs)) _ (first_failing (λ a. is_media a.media) (map attached_of xs)) (from_index attached_of i xs x (omega (arith, c.loop-index-test.true)) c.index-parts-index.is) (ap is_media (sym c.deref.ensures.value) ∙ (sym c.is_media.ensures ∙ c.if-not-is_media.false)) c.loop-index.invariant
+
+pub returns-then-not-is_media : goal.returns-then-not-is_media
+returns-then-not-is_media c =
+    let xs = c.args.parts.now in
+    let i = c.loop-index.index in
+    let x = c.index-parts-index.result in
+    fails (λ a. is_media a.media) i (drop i (map attached_of xs)) (drop (i + 1) (map attached_of xs)) _ (first_failing (λ a. is_media a.media) (map attached_of xs)) (from_index attached_of i xs x (omega (arith, c.loop-index-test.true)) c.index-parts-index.is) (ap is_media (sym c.deref.ensures.value) ∙ (sym c.is_media.ensures ∙ c.if-not-is_media.true)) c.loop-index.invariant

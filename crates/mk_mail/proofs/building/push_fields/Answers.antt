@@ -1,0 +1,12 @@
+use Rattle.std.proofs.Common.{ap, ◌∙◌, ◌+◌, ◌++◌, map, drop, length, arith}
+use Rattle.mk_mail.specs.Building.{closed_field}
+use Rattle.mk_mail.proofs.Failing.{from_index, written_one}
+use Rattle.mk_mail.proofs.building.push_fields.Goals as goal
+
+pub loop-field-preserved : goal.loop-field-preserved
+loop-field-preserved c =
+    let xs = c.args.fields.now in
+    let i = c.loop-field.field-index in
+    let x = c.field-item.result in
+    written_one (closed_field c.args.eol) c.loop-field.text.items c.push_field.new.text.items _ (drop i (map (λ f. f.items) xs)) (drop (i + 1) (map (λ f. f.items) xs)) x.items
+    (from_index (λ f. f.items) i xs x (omega (arith, c.loop-field-test.true)) c.field-item.is) (c.in_ok-push_field.ensures ∙ ap (λ t. c.loop-field.text.items ++ closed_field c.args.eol t) c.deref.ensures.value) c.loop-field.invariant

@@ -1,0 +1,23 @@
+use Rattle.std.proofs.Common.{ap, ◌∙◌, ◌++◌, codes, OnOk}
+use Rattle.mk_line.specs.Lines.{ending_bytes}
+use Rattle.mk_mail.specs.BuildViews.{attached_of}
+use Rattle.mk_mail.specs.Building.{attached}
+use Rattle.mk_mail.proofs.Joined.{on_ok, written, joined}
+use Rattle.mk_mail.proofs.building.push_part.Goals as goal
+
+pub returns : goal.returns
+returns c =
+    let end = ending_bytes c.args.eol in
+    let b = c.args.boundary.now in
+    let a = attached c.args.eol (attached_of c.args.part.now) in
+    let one = c.extend_from_slice.new.self.items in
+    let two = c.extend_from_slice-2.new.self.items in
+    let three = c.extend_from_slice-3.new.self.items in
+    let four = c.push_attached.new.text.items in
+    let last = c.extend_from_slice-4.new.self.items in
+    on_ok c.extend_from_slice-4.result _ _ (written c.extend_from_slice-4.result four c.bytes_of-2.result.now last c.extend_from_slice-4.ensures.items)
+    (λ h.
+    joined c.args.text.now.items (codes "--") (b ++ (end ++ (a ++ end))) one last c.in_ok-extend_from_slice.ensures.items
+    (joined one b (end ++ (a ++ end)) two last c.in_ok-extend_from_slice-2.ensures.items
+    (joined two end (a ++ end) three last (c.in_ok-extend_from_slice-3.ensures.items ∙ ap (λ x. two ++ x) c.bytes_of.ensures)
+    (joined three a end four last c.in_ok-push_attached.ensures (h ∙ ap (λ x. four ++ x) c.bytes_of-2.ensures)))))

@@ -1,0 +1,27 @@
+-- What is attached, in memory, as plain data; and the refusals.
+use Rattle.std.specs.Prelude.{◌≡◌, ℕ, Option, None, Some, List}
+use Rattle.std.specs.Option.{option_map}
+use Rattle.mk_mail.specs.declared.attachment.Attach.{Attach}
+use Rattle.mk_mail.specs.declared.attaching.AttachError.{AttachError}
+use Rattle.mk_mail.specs.declared.attaching.AttachError.TheVariants as attach
+use Rattle.mk_mail.specs.declared.building.BuildError.{BuildError}
+use Rattle.mk_mail.specs.declared.building.BuildError.TheVariants as build
+use Rattle.mk_mail.specs.Building.{Attached, attach_refusal, build_refusal}
+
+-- its fields as lists
+abbrev pub attached_of : Attach → Attached
+attached_of a = record { media = a.media.items; name = option_map (λ v. v.items) a.name; text = a.text.items; base64 = a.base64 }
+
+-- the reason is the first; memory may be wanted at any time
+abbrev pub IsAttachRefused : Attached → AttachError → Type 0
+IsAttachRefused a attach.BadType = attach_refusal a ≡ Some attach.BadType
+IsAttachRefused a attach.BadName = attach_refusal a ≡ Some attach.BadName
+IsAttachRefused a attach.Memory = Unit {0}
+
+-- the same of a message that isn't built
+abbrev pub IsBuildRefused : List (List ℕ) → List Attached → List ℕ → BuildError → Type 0
+IsBuildRefused fields parts boundary (build.BadField index) = build_refusal fields parts boundary ≡ Some (build.BadField index)
+IsBuildRefused fields parts boundary (build.BadType index) = build_refusal fields parts boundary ≡ Some (build.BadType index)
+IsBuildRefused fields parts boundary (build.BadName index) = build_refusal fields parts boundary ≡ Some (build.BadName index)
+IsBuildRefused fields parts boundary build.BadBoundary = build_refusal fields parts boundary ≡ Some build.BadBoundary
+IsBuildRefused fields parts boundary build.Memory = Unit {0}

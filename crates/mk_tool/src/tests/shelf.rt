@@ -1,0 +1,142 @@
+//! Folders in memory: one that tells its files and fails when it is told to, and one that takes no memory once it is made.
+
+ghost use Rattle.std.specs.Prelude.{◌≡◌, None, Some, true, false, OnErr, OnOk};
+ghost use Rattle.mk_tool.specs.Folders.{Gets, IsFree, IsThere};
+ghost use Rattle.mk_tool.specs.Kept.{texts_in};
+
+use crate::folder::Folder;
+use mk_mail::Fault;
+use std::alloc::{AllocError, Global};
+use std::collections::BTreeMap;
+
+type Kept = BTreeMap<Vec<u8>, Vec<u8>>;
+
+/// A folder that keeps its files in a map.
+#[derive(Drop)]
+pub struct Shelf {
+    alloc: Global,
+    kept: Kept,
+    good: u64,
+    puts: u64,
+    faults: u64,
+}
+
+impl Shelf {
+    /// A folder without files that never fails, but for want of memory.
+    pub fn new(alloc: Global) -> Shelf {
+        Shelf::failing(alloc, u64::MAX)
+    }
+
+    /// The same, which fails after so many good calls.
+    pub fn failing(alloc: Global, good: u64) -> Shelf {
+        Shelf {
+            alloc,
+            kept: Kept::new(alloc),
+            good,
+            puts: 0,
+            faults: 0,
+        }
+    }
+
+    /// Keeps a file, before any call is counted.
+    pub fn add(&mut self, name: &[u8], text: &[u8]) -> Result<(), AllocError> {
+        keep(self.alloc, &mut self.kept, name, text)
+    }
+
+    /// How many files it has.
+    pub fn count(&self) -> usize {
+        self.kept.len()
+    }
+
+    /// The text under a name.
+    pub fn text(&self, name: &[u8]) -> Option<&[u8]> {
+        Some(self.kept.get(name)?.as_slice())
+    }
+}
+
+fn has(kept: &Kept, name: &[u8]) -> bool
+    ensures there { result ≡ true → IsThere (Some (texts_in kept.now)) name.now }
+    ensures free { result ≡ false → IsFree (Some (texts_in kept.now)) name.now }
+{
+    kept.contains_key(name)
+}
+
+fn keep(alloc: Global, kept: &mut Kept, name: &[u8], text: &[u8]) -> Result<(), AllocError>
+    ensures put { OnOk result (Gets (Some (texts_in kept.old)) (Some (texts_in kept.new)) name.now text.now) }
+    ensures same { OnErr result (Some (texts_in kept.new) ≡ Some (texts_in kept.old)) }
+{
+    let name = Vec::from_slice(alloc, name)?;
+    let text = Vec::from_slice(alloc, text)?;
+    kept.insert(name, text)?;
+    Ok(())
+}
+
+impl Folder for Shelf {
+    ghost files = { λ s. Some (texts_in s.kept) };
+
+    ghost failures = { λ s. s.faults };
+
+    fn put(&mut self, name: &[u8], text: &[u8], over: bool) -> Result<bool, Fault> {
+        if self.puts < self.good {
+            self.puts = self.puts.saturating_add(1);
+            if !over && has(&self.kept, name) {
+                return Ok(false);
+            }
+            if keep(self.alloc, &mut self.kept, name, text).is_ok() {
+                return Ok(true);
+            }
+        }
+        self.faults = self.faults.saturating_add(1);
+        Err(Fault)
+    }
+
+    fn faults(&self) -> u64 {
+        self.faults
+    }
+}
+
+/// A folder with room for one file, which it doesn't tell.
+#[derive(Drop)]
+pub struct Slot {
+    name: Vec<u8>,
+    text: Vec<u8>,
+    faults: u64,
+}
+
+impl Slot {
+    /// An empty folder, with room for a name and a text of so many bytes each.
+    pub fn new(alloc: Global, room: usize) -> Result<Slot, AllocError> {
+        Ok(Slot {
+            name: Vec::with_capacity(alloc, room)?,
+            text: Vec::with_capacity(alloc, room)?,
+            faults: 0,
+        })
+    }
+
+    /// The name of the file and its text, both empty where there is none.
+    pub fn file(&self) -> (&[u8], &[u8]) {
+        (&self.name, &self.text)
+    }
+}
+
+impl Folder for Slot {
+    ghost files = { λ _. None };
+
+    ghost failures = { λ s. s.faults };
+
+    fn put(&mut self, name: &[u8], text: &[u8], _over: bool) -> Result<bool, Fault> {
+        let is_empty = self.name.is_empty();
+        if is_empty
+            && self.name.extend_from_slice(name).is_ok()
+            && self.text.extend_from_slice(text).is_ok()
+        {
+            return Ok(true);
+        }
+        self.faults = self.faults.saturating_add(1);
+        Err(Fault)
+    }
+
+    fn faults(&self) -> u64 {
+        self.faults
+    }
+}
