@@ -19,3 +19,4 @@ pub mod WordsKept
 pub mod WordsBack
 pub mod Characters
 mod Vectors
+pub mod NoReturns

@@ -1,5 +1,10 @@
 pub mod Depths
 pub mod Sections
+pub mod LeavesAt
+pub mod BuiltLines
+pub mod PartTypes
+pub mod BuiltBodies
+pub mod FieldLines
 pub mod Taken
 pub mod NamesKnown
 pub mod InTurn
@@ -7,3 +12,10 @@ pub mod SafeNames
 pub mod Rows
 pub mod Joined
 pub mod Failing
+pub mod LineBytes
+pub mod MessageLines
+pub mod LinesGathered
+pub mod Intaking
+pub mod MailboxRuns
+pub mod PieceLaws
+pub mod FieldNames

@@ -1,7 +1,7 @@
 -- The sections of a document one by one: a section, and what is below it.
 use Rattle.std.proofs.Common.{◌≡◌, ◌+◌, ◌++◌, ◌<◌, ◌≤◌, if◌then◌else◌, ℕ, zero, suc, nat_le, List, [], ◌∷◌, refl, ap, sym, ◌∙◌, append_assoc, arith}
 use Rattle.std.specs.List.{flat_map}
-use Rattle.std.proofs.lemmas.Grind.{common_steps}
+use Rattle.std.proofs.lemmas.Grind.{common_steps, flat_map-append}
 use Rattle.mk_tree.specs.Sections.{Placed, children}
 use Rattle.mk_mail.specs.Listed.{Listed, depth, greatest_number, along, listed_within, listed_from}
 use Rattle.mk_mail.proofs.Depths.{AreLower, are_lower, has_level}
@@ -61,3 +61,18 @@ sections_end f now new total path below number q qs rest b r h k t e =
     ∙ ((λ i. now ++ flat_map f (listed_from (b i) q))
     ∙ ((λ i. now ++ flat_map f (sym (last_one path number q qs h k) i))
     ∙ ((λ i. now ++ flat_map f (along listed_from path number (sym r i))) ∙ t)))
+
+one_first : (path : List ℕ) (number : ℕ) (q : Placed) (qs : List Placed) → number ≤ greatest_number → along listed_from path number (q ∷ qs) ≡ listed_from (path ++ number ∷ []) q ++ along listed_from path (number + 1) qs
+one_first path number q qs h = grind arith
+
+-- one more section is made into something, and the next number is one greater
+pub sections_next : {A : Type 0} (f : Listed → List A) (now new total : List A) (path below : List ℕ) (number next : ℕ) (q : Placed) (qs rest : List Placed)
+    → below ≡ path ++ number ∷ [] → rest ≡ q ∷ qs → number ≤ greatest_number → next ≡ number + 1
+    → now ++ flat_map f (along listed_from path number rest) ≡ total → new ≡ now ++ flat_map f (listed_from below q) → new ++ flat_map f (along listed_from path next qs) ≡ total
+sections_next f now new total path below number next q qs rest b r h n t e =
+    (λ i. e i ++ flat_map f (along listed_from path (n i) qs))
+    ∙ (append_assoc now (flat_map f (listed_from below q)) (flat_map f (along listed_from path (number + 1) qs))
+    ∙ ((λ i. now ++ (flat_map f (listed_from (b i) q) ++ flat_map f (along listed_from path (number + 1) qs)))
+    ∙ ((λ i. now ++ sym (flat_map-append f (listed_from (path ++ number ∷ []) q) (along listed_from path (number + 1) qs)) i)
+    ∙ ((λ i. now ++ flat_map f (sym (one_first path number q qs h) i))
+    ∙ ((λ i. now ++ flat_map f (along listed_from path number (sym r i))) ∙ t)))))

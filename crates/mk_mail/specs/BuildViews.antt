@@ -1,5 +1,5 @@
 -- What is attached, in memory, as plain data; and the refusals.
-use Rattle.std.specs.Prelude.{◌≡◌, ℕ, Option, None, Some, List}
+use Rattle.std.specs.Prelude.{◌≡◌, ℕ, Some, List}
 use Rattle.std.specs.Option.{option_map}
 use Rattle.mk_mail.specs.declared.attachment.Attach.{Attach}
 use Rattle.mk_mail.specs.declared.attaching.AttachError.{AttachError}

@@ -1,5 +1,5 @@
 -- Messages built from files: what is attached, and the message around it (RFC 2045, 5 and 6; RFC 2046, 5.1; RFC 2183).
-use Rattle.std.specs.Prelude.{◌==◌, ◌&&◌, ◌||◌, ◌++◌, if◌then◌else◌, ℕ, zero, suc, Bool, true, false, not, Option, None, Some, List, [], ◌∷◌, codes, length, nat_eq, nat_le}
+use Rattle.std.specs.Prelude.{◌==◌, ◌&&◌, ◌||◌, ◌++◌, if◌then◌else◌, ℕ, suc, Bool, true, false, not, Option, None, Some, List, [], ◌∷◌, codes, length, nat_eq, nat_le}
 use Rattle.std.specs.List.{list_all, ends_with, flat_map, starts_with}
 use Rattle.std.specs.Option.{option_map}
 use Rattle.std.specs.Str.{bytes_eq}

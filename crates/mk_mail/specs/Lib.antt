@@ -5,7 +5,17 @@ pub mod Listing
 pub mod Extracts
 pub mod FileNames
 pub mod NameViews
+pub mod LeafViews
 pub mod GivenNames
 pub mod Taken
 pub mod Building
 pub mod BuildViews
+pub mod Pieces
+pub mod Held
+pub mod Mailboxes
+pub mod Gathered
+pub mod Intakes
+pub mod MailboxLaws
+pub mod Letters
+pub mod LetterViews
+pub mod LetterWork

@@ -1,5 +1,5 @@
 //! The content of a section, taken out of a document.
-ghost use Rattle.std.specs.Prelude.{◌≡◌, ◌↔◌, Err, None, IfErr, IfOk};
+ghost use Rattle.std.specs.Prelude.{◌≡◌, ◌↔◌, Err, None, Some, IfErr, IfOk};
 ghost use Rattle.mk_tree.specs.Documents.{tree};
 ghost use Rattle.mk_tree.specs.Sections.{section_at};
 ghost use Rattle.mk_mail.specs.Extracts.{IsContentOf, IsExtract, IsExtractRefused, IsRefusedOf, extract_reason};
@@ -35,11 +35,19 @@ pub fn extract(alloc: Global, doc: &Doc, path: &[u32]) -> Result<Vec<u8>, Extrac
     ensures missing { (section_at path.now (tree doc.now) ≡ None) ↔ (result ≡ Err ExtractError.NoSuchSection) }
 {
     match doc.section(path) {
-        Some(section) => match content_of(alloc, &section) {
-            Ok(bytes) => Ok(bytes),
-            Err(error) => Err(extract_error(error)),
-        },
+        Some(section) => content(alloc, &section),
         None => Err(ExtractError::NoSuchSection),
+    }
+}
+
+/// The content of a section, which is there: never `NoSuchSection`.
+pub fn content(alloc: Global, section: &Section<'_>) -> Result<Vec<u8>, ExtractError>
+    ensures content { IfOk result (λ bytes. IsExtract (Some section.now) bytes.items) }
+    ensures refused { IfErr result (λ error. IsExtractRefused (Some section.now) error) }
+{
+    match content_of(alloc, section) {
+        Ok(bytes) => Ok(bytes),
+        Err(error) => Err(extract_error(error)),
     }
 }
 

@@ -2,9 +2,11 @@
 ghost use Rattle.std.specs.Prelude.{◌≡◌, ◌<◌, ◌≤◌, ◌+◌, ◌^◌, [], ◌∷◌, ℕ, List, None, Some, true, if◌then◌else◌, is_some, map, IfOk, OnOk};
 ghost use Rattle.std.specs.Str.{bytes_eq};
 ghost use Rattle.mk_mail.specs.GivenNames.{AreGiven, IsGiven, is_safe, numbered as numbered_by};
-ghost use Rattle.mk_mail.specs.NameViews.{named_view};
+ghost use Rattle.mk_tree.specs.Documents.{Document};
+ghost use Rattle.mk_mail.specs.LeafViews.{AreAt, leaf_view};
 ghost use Rattle.mk_mail.specs.Taken.{Knows, number_at};
 
+use crate::storing::Leaf;
 use crate::writing::push_number;
 use std::alloc::{AllocError, Global};
 use std::collections::BTreeMap;
@@ -14,20 +16,27 @@ const DOT: u8 = b'.';
 // The names that were given so far, each with the number that is tried first behind it.
 type Taken = BTreeMap<Vec<u8>, u64>;
 
-/// Gives sections their names in turn, from those that they would get by themselves.
-pub(crate) fn give_all(
-    alloc: Global,
-    list: Vec<(Vec<u32>, Vec<u8>)>,
-) -> Result<Vec<(Vec<u32>, Vec<u8>)>, AllocError>
-    ensures { IfOk result (λ names. AreGiven [] (map named_view list.items) (map named_view names.items)) }
+/// Gives leaves their names in turn, from those that they would get by themselves.
+pub(crate) fn give_all<'a>(alloc: Global, list: Vec<Leaf<'a>>) -> Result<Vec<Leaf<'a>>, AllocError>
+    ensures given { IfOk result (λ leaves. AreGiven [] (map leaf_view list.entry.items) (map leaf_view leaves.items)) }
+    ensures placed { IfOk result (λ leaves. (t : Document) → AreAt t list.entry.items → AreAt t leaves.items) }
 {
     let mut taken = Taken::new(alloc);
-    let mut names = Vec::new(alloc);
-    for (path, own) in list {
-        let given = give(alloc, &mut taken, own)?;
-        names.push((path, given))?;
+    let mut leaves = Vec::new(alloc);
+    for leaf in list {
+        let Leaf {
+            path,
+            name: own,
+            section,
+        } = leaf;
+        let name = give(alloc, &mut taken, own)?;
+        leaves.push(Leaf {
+            path,
+            name,
+            section,
+        })?;
     }
-    Ok(names)
+    Ok(leaves)
 }
 
 // Gives a name that is none of those given so far: the own one, or that with a number behind it.

@@ -1,25 +1,16 @@
-//! Names for the leaves of a document that are stored as files.
-ghost use Rattle.std.specs.Prelude.{◌≡◌, ◌++◌, [], codes, map, IfOk, OnOk};
-ghost use Rattle.std.specs.List.{flat_map};
+//! Names that leaves stored as files would get by themselves.
+ghost use Rattle.std.specs.Prelude.{◌≡◌, codes, IfOk};
 ghost use Rattle.std.specs.Option.{option_map};
 ghost use Rattle.mk_head.specs.Types.{field_value};
 ghost use Rattle.mk_head.specs.Values.{param_of};
 ghost use Rattle.mk_head.specs.ValueViews.{media_type_of};
-ghost use Rattle.mk_tree.specs.declared.shapes.Kind.TheVariants.{Leaf};
 ghost use Rattle.mk_tree.specs.Tree.{field_lines};
-ghost use Rattle.mk_tree.specs.Documents.{tree};
-ghost use Rattle.mk_mail.specs.GivenNames.{AreDistinct, AreGiven, AreSafe};
-ghost use Rattle.mk_mail.specs.Listed.{listed_from};
 ghost use Rattle.mk_mail.specs.Listing.{type_of};
-ghost use Rattle.mk_mail.specs.FileNames.{all_stored, behind_last, cleaned as cleaned_of, is_divider as divides, is_stored_by, leading as leading_of, name_by, part_name as name_of_part, plain as plain_of, raw_name as raw_name_of, stored, stored_by, disposed_name};
-ghost use Rattle.mk_mail.specs.NameViews.{named_view};
+ghost use Rattle.mk_mail.specs.FileNames.{behind_last, cleaned as cleaned_of, is_divider as divides, is_stored_by, leading as leading_of, name_by, part_name as name_of_part, plain as plain_of, raw_name as raw_name_of, disposed_name};
 
-use crate::giving::give_all;
-use crate::listing::path_below;
-use crate::typing::media_type;
 use crate::writing::push_path;
 use mk_head::{ContentType, content_type};
-use mk_tree::{Doc, Kind, Section};
+use mk_tree::Section;
 use std::alloc::{AllocError, Global};
 
 const DOT: u8 = b'.';
@@ -37,83 +28,8 @@ const MOST_BYTES: usize = 100;
 
 const TEXT: &[u8] = b"text";
 
-/// Names the leaves of a document, in its order, for storing them as files: the path of each and its name. The name is the
-/// parameter `filename` of Content-Disposition, else `name` of Content-Type (RFC 2183, 2.3; RFC 2045, 5.1), of which what
-/// could lead elsewhere is taken off; without one it is `part-` and the path. A leaf of a text type without a name is left
-/// out unless `texts`. Where an earlier leaf has the name, a number is put behind it.
-pub fn names(alloc: Global, doc: &Doc, texts: bool) -> Result<Vec<(Vec<u32>, Vec<u8>)>, AllocError>
-    ensures given { IfOk result (λ names. AreGiven [] (all_stored texts (tree doc.now)) (map named_view names.items)) }
-    ensures distinct { IfOk result (λ names. AreDistinct [] (map named_view names.items)) }
-    ensures safe { IfOk result (λ names. AreSafe (map named_view names.items)) }
-{
-    let mut list = Vec::new(alloc);
-    push_stored(alloc, texts, &mut list, &[1], &doc.root())?;
-    give_all(alloc, list)
-}
-
-// Puts the leaves that are stored, from a section on, behind others, with the names that they would get by themselves.
-fn push_stored(
-    alloc: Global,
-    texts: bool,
-    list: &mut Vec<(Vec<u32>, Vec<u8>)>,
-    path: &[u32],
-    section: &Section<'_>,
-) -> Result<(), AllocError>
-    ensures { OnOk result (map named_view list.new.items ≡ map named_view list.old.items ++ flat_map (stored texts) (listed_from path.now section.now)) }
-{
-    push_own(alloc, texts, list, path, section)?;
-    let mut number = 1u32;
-    for child in section.children() {
-        let child_path = path_below(alloc, path, number)?;
-        push_stored(alloc, texts, list, &child_path, &child)?;
-        let Some(next) = number.checked_add(1) else {
-            return Ok(());
-        };
-        number = next;
-    }
-    Ok(())
-}
-
-// Puts a section itself behind others, if it is stored.
-#[tactic(auto, unfolding(crate::specs::FileNames::stored))]
-fn push_own(
-    alloc: Global,
-    texts: bool,
-    list: &mut Vec<(Vec<u32>, Vec<u8>)>,
-    path: &[u32],
-    section: &Section<'_>,
-) -> Result<(), AllocError>
-    ensures { OnOk result (map named_view list.new.items ≡ map named_view list.old.items ++ stored texts (record { path = path.now; section = section.now })) }
-{
-    match section.kind() {
-        Kind::Leaf => push_leaf(alloc, texts, list, path, section),
-        Kind::Multi | Kind::Message => Ok(()),
-    }
-}
-
-// Puts a leaf behind others, if it is stored.
-fn push_leaf(
-    alloc: Global,
-    texts: bool,
-    list: &mut Vec<(Vec<u32>, Vec<u8>)>,
-    path: &[u32],
-    section: &Section<'_>,
-) -> Result<(), AllocError>
-    ensures { OnOk result (map named_view list.new.items ≡ map named_view list.old.items ++ stored_by texts Leaf path.now (type_of section.now) (raw_name_of section.now)) }
-{
-    let media = media_type(alloc, section)?;
-    let raw = raw_name(alloc, section, &media)?;
-    if !is_stored(texts, &media, &raw) {
-        return Ok(());
-    }
-    let name = own_name(alloc, path, &raw)?;
-    let path = Vec::from_slice(alloc, path)?;
-    list.push((path, name))?;
-    Ok(())
-}
-
-// Whether a leaf of a type, with the name that its fields say, is stored.
-fn is_stored(texts: bool, media: &ContentType, raw: &Option<Vec<u8>>) -> bool
+/// Whether a leaf of a type, with the name that its fields say, is stored: a text without a name only where texts are.
+pub(crate) fn is_stored(texts: bool, media: &ContentType, raw: &Option<Vec<u8>>) -> bool
     ensures { result ≡ is_stored_by texts (media_type_of media.now) (option_map (λ name. name.items) raw.now) }
 {
     match raw {
@@ -122,8 +38,8 @@ fn is_stored(texts: bool, media: &ContentType, raw: &Option<Vec<u8>>) -> bool
     }
 }
 
-// The name that the fields of a section with this content type say.
-fn raw_name(
+/// The name that the fields of a section with this content type say.
+pub(crate) fn raw_name(
     alloc: Global,
     section: &Section<'_>,
     media: &ContentType,
@@ -157,8 +73,12 @@ fn parameter(alloc: Global, media: &ContentType, name: &[u8]) -> Result<Option<V
     }
 }
 
-// The name that a section at a path would get by itself.
-fn own_name(alloc: Global, path: &[u32], raw: &Option<Vec<u8>>) -> Result<Vec<u8>, AllocError>
+/// The name that a section at a path would get by itself.
+pub(crate) fn own_name(
+    alloc: Global,
+    path: &[u32],
+    raw: &Option<Vec<u8>>,
+) -> Result<Vec<u8>, AllocError>
     ensures { IfOk result (λ name. name.items ≡ name_by path.now (option_map (λ name. name.items) raw.now)) }
 {
     if let Some(raw) = raw {

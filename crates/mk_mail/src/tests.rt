@@ -1,7 +1,9 @@
 //! Rows of listings, of contents and of built messages.
 mod builds;
+mod letters;
+mod mailboxes;
 
-use crate::{ExtractError, extract, list, names};
+use crate::{ExtractError, content, extract, leaves, list, names};
 use mk_tree::Doc;
 use std::alloc::Global;
 
@@ -124,6 +126,28 @@ fn names_the_leaves(rt: HostRuntime) {
         for (given, wanted) in named.iter().zip(want) {
             assert_eq!(rt; given.0.as_slice(), wanted.0);
             assert_eq!(rt; given.1.as_slice(), wanted.1);
+        }
+    }
+}
+
+const NAMED_LEAVES: &[u8] =
+    b"Content-Type: multipart/mixed; boundary=b\n\n--b\nContent-Transfer-Encoding: base64\n\naGk=\n--b\nContent-Type: image/png; name=p\n\nx\n--b--\n";
+
+// The path, the name and the content of each leaf.
+const LEAVES: [(&[u32], &[u8], &[u8]); 2] = [(&[1, 1], b"part-1.1", b"hi"), (&[1, 2], b"p", b"x")];
+
+#[test]
+fn leaves_have_their_sections(rt: HostRuntime) {
+    let alloc = rt.alloc();
+    let doc = doc(alloc, NAMED_LEAVES).expect(&rt, "memory");
+    let all = leaves(alloc, &doc, true).expect(&rt, "memory");
+    assert_eq!(rt; all.len(), 2);
+    for (leaf, (path, name, want)) in all.iter().zip(LEAVES) {
+        assert_eq!(rt; leaf.path.as_slice(), path);
+        assert_eq!(rt; leaf.name.as_slice(), name);
+        match content(alloc, &leaf.section) {
+            Ok(bytes) => assert_eq!(rt; bytes.as_slice(), want),
+            Err(_) => assert!(rt; false, "no content"),
         }
     }
 }

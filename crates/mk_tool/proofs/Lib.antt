@@ -14,3 +14,4 @@ pub mod ShownLemmas
 pub mod PieceWords
 mod UnpackLemmas
 mod KeptLemmas
+mod PackLemmas

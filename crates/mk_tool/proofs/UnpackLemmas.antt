@@ -1,7 +1,7 @@
 -- What is left of leaves that are unpacked in turn.
 use Rattle.std.proofs.Common.{◌≡◌, ◌⊎◌, ◌||◌, if◌then◌else◌, ℕ, Bool, true, false, not, List, [], ◌∷◌, ◌++◌, Option, refl, sym, ap, ◌∙◌, subst, append_assoc, inl, inr}
 use Rattle.std.proofs.lemmas.List.{append-nil}
-use Rattle.std.specs.Io.KnownBytes.{Appends}
+use Rattle.std.specs.Io.KnownBytes.{Appends, IsAtEnd, Keeps}
 use Rattle.std.proofs.KnownBytes.{Appends-trans}
 use Rattle.mk_line.specs.Lines.{is_nil}
 use Rattle.mk_tree.specs.Documents.{Document}
@@ -10,11 +10,18 @@ use Rattle.mk_mail.specs.declared.extracting.ExtractError.{ExtractError}
 use Rattle.mk_mail.specs.Extracts.{IsExtract, IsExtractRefused}
 use Rattle.mk_mail.specs.Devices.{AppendsFront}
 use Rattle.mk_mail.specs.FileNames.{Named}
+use Rattle.mk_tool.specs.declared.status.Cause.{Cause}
+use Rattle.mk_tool.specs.declared.status.Cause.TheVariants.{Read, Write, Memory as NoMemory}
+use Rattle.mk_tool.specs.declared.status.Status.{Status}
+use Rattle.mk_tool.specs.declared.status.Status.TheVariants.{Well, Refused, Fault, Memory}
+use Rattle.mk_tool.specs.declared.transfer.Stop.{Stop}
+use Rattle.mk_tool.specs.declared.transfer.Stop.TheVariants.{Fault as Stopped, Memory as Wanting}
 use Rattle.mk_tool.specs.declared.unpacking.Manner.{Manner}
 use Rattle.mk_tool.specs.Folders.{Files}
-use Rattle.mk_tool.specs.Unpacking.{Said, silence, said_behind, Unpacks, UnpacksLeaf, stored_line, exists_line}
-use Rattle.mk_tool.specs.Shown.{extract_line, is_wanting}
-use Rattle.mk_tool.specs.UnpackClauses.{Written, written, GetsNext, PutsText, PutsNone, PutsFront, UnpackedAll, UnpackedSome}
+use Rattle.mk_tool.specs.RunClauses.{held, cause_line, cause_of_writing, status_of}
+use Rattle.mk_tool.specs.Unpacking.{AreLeaves, Said, silence, said_behind, Unpacks, UnpacksLeaf, stored_line, exists_line}
+use Rattle.mk_tool.specs.Shown.{extract_line, is_wanting, shown}
+use Rattle.mk_tool.specs.UnpackClauses.{Written, written, GetsNext, PutsText, PutsNone, PutsFront, UnpackedAll, UnpackedSome, IsUnpacked, IsBrokenOff, Stores}
 use Rattle.mk_tool.proofs.Fronts.{AppendsFront-behind, not-is_nil-append}
 use Rattle.mk_tool.proofs.RunLemmas.{AppendsFront-none}
 
@@ -161,3 +168,54 @@ front-leaf over t leaf bytes old new content h = elim h [
   | inl same ↦ inl same
   | inr put ↦ inr (record { bytes = bytes; content = content; put = put })
 ]
+
+shown_status : (said : Said) (b : Bool) (status : Status) → b ≡ not (is_nil said.errors) → status ≡ (if b then Refused else Well) → (shown said.output said.errors).status ≡ status
+shown_status said b status h e = by_errors said.errors b status h e
+  where
+    by_errors : (errors : List ℕ) (b : Bool) (status : Status) → b ≡ not (is_nil errors) → status ≡ (if b then Refused else Well) → (shown said.output errors).status ≡ status
+    by_errors [] b status h e = sym (e ∙ ap (λ (c : Bool). if c then Refused else Well) h)
+    by_errors (byte ∷ bytes) b status h e = sym (e ∙ ap (λ (c : Bool). if c then Refused else Well) h)
+
+-- all leaves were unpacked, and the run ended by itself
+pub IsUnpacked-all : (manner : Manner) (texts : Bool) (t : Document) (leaves : List Named) (refused : Bool) (status : Status) (input left out sent err told : Option (List ℕ)) (old new : Option Files)
+    → AreLeaves texts t leaves → UnpackedAll manner t leaves refused (written out err old) (written sent told new) → status ≡ (if refused then Refused else Well) → IsAtEnd left
+    → IsUnpacked manner texts t status (held input out err) (held left sent told) old new
+IsUnpacked-all manner texts t leaves refused status input left out sent err told old new are u e end = record {
+  leaves = leaves;
+  are_leaves = are;
+  said = u.said;
+  unpacks = u.unpacks;
+  run = record { status_is = shown_status u.said refused status u.refused_is e; written = record { output = u.output; errors = u.errors }; read = end };
+}
+
+-- some leaves were unpacked, and the run was given up
+IsBrokenOff-some : (manner : Manner) (texts : Bool) (t : Document) (leaves : List Named) (cause : Cause) (status : Status) (input left out sent err between told : Option (List ℕ)) (old new : Option Files)
+    → AreLeaves texts t leaves → UnpackedSome manner t leaves (written out err old) (written sent between new) → status_of cause ≡ status → (cause ≡ Read → Keeps out sent) → AppendsFront between told (cause_line cause)
+    → IsBrokenOff manner texts t status (held input out err) (held left sent told) old new
+IsBrokenOff-some manner texts t leaves cause status input left out sent err between told old new are u e silent line = record {
+  leaves = leaves;
+  are_leaves = are;
+  done = u.done;
+  rest = u.rest;
+  leaves_are = u.leaves_are;
+  said = u.said;
+  between = u.between;
+  unpacks = u.unpacks;
+  next = u.next;
+  run = record { output = u.output; cause = cause; status_is = e; between = between; errors = u.errors; line = line; silent = silent };
+}
+
+not_read : {A : Type 0} → Write ≡ Read → A
+not_read e = absurd cc
+
+not_read_either : {A : Type 0} → NoMemory ≡ Read → A
+not_read_either e = absurd cc
+
+-- writing was stopped
+pub Stores-stopped : (manner : Manner) (texts : Bool) (t : Document) (leaves : List Named) (stop : Stop) (status : Status) (input left out sent err between told : Option (List ℕ)) (old new : Option Files)
+    → AreLeaves texts t leaves → UnpackedSome manner t leaves (written out err old) (written sent between new) → status ≡ status_of (cause_of_writing stop) → AppendsFront between told (cause_line (cause_of_writing stop))
+    → Stores manner texts t status (held input out err) (held left sent told) old new
+Stores-stopped manner texts t leaves Stopped status input left out sent err between told old new are u e line =
+    rw e (inr (IsBrokenOff-some manner texts t leaves Write Fault input left out sent err between told old new are u refl (λ h. not_read h) line))
+Stores-stopped manner texts t leaves Wanting status input left out sent err between told old new are u e line =
+    rw e (inr (IsBrokenOff-some manner texts t leaves NoMemory Memory input left out sent err between told old new are u refl (λ h. not_read_either h) line))

@@ -13,3 +13,5 @@ pub mod Folders
 pub mod Unpacking
 pub mod UnpackClauses
 pub mod Kept
+pub mod Packing
+pub mod Parts

@@ -8,6 +8,8 @@ mod folder;
 mod groups;
 pub mod laws;
 mod options;
+mod packing;
+mod parts;
 mod path;
 mod pieces;
 mod program;

@@ -32,6 +32,13 @@ pub const SILENT: &str = "silent";
 
 pub const DIR: &str = "DIR";
 
+/// The subcommand that builds a message of files.
+pub const PACK: &str = "pack";
+
+pub const BOUNDARY: &str = "BOUNDARY";
+
+pub const SPEC: &str = "SPEC";
+
 /// The command line of the program.
 pub fn command<'a>(alloc: Global) -> Result<Command<'a>, AllocError> {
     Command::new(alloc, "mimetool")
@@ -43,7 +50,8 @@ pub fn command<'a>(alloc: Global) -> Result<Command<'a>, AllocError> {
         .subcommand(edit_command(alloc)?)?
         .subcommand(sections_command(alloc)?)?
         .subcommand(extract_command(alloc)?)?
-        .subcommand(unpack_command(alloc)?)
+        .subcommand(unpack_command(alloc)?)?
+        .subcommand(pack_command(alloc)?)
 }
 
 // mimetool sections
@@ -77,6 +85,26 @@ fn unpack_command<'a>(alloc: Global) -> Result<Command<'a>, AllocError> {
         .arg(flag(alloc, TEXTS, "Write texts without a name too").short('t'))?
         .arg(flag(alloc, SILENT, "Print no names").long(SILENT))?
         .arg(dir)
+}
+
+// mimetool pack -b BOUNDARY SPEC..
+fn pack_command<'a>(alloc: Global) -> Result<Command<'a>, AllocError> {
+    let boundary = Arg::new(alloc, BOUNDARY)
+        .short('b')
+        .help("The boundary between the parts, as =_b")
+        .required(true)
+        .allow_hyphen_values(true)
+        .action(ArgAction::Set);
+    let specs = Arg::new(alloc, SPEC)
+        .help("The parts, each as TYPE:FILE, as image/gif:dot.gif")
+        .required(true)
+        .action(ArgAction::Append);
+    Command::new(alloc, PACK)
+        .about(
+            "Builds a multipart of files behind the fields that come from standard input, and prints it",
+        )
+        .arg(boundary)?
+        .arg(specs)
 }
 
 // An option without a value.

@@ -4,8 +4,11 @@ use crate::device::Input;
 use crate::engine::{give_up, run_edit};
 use crate::folder::Directory;
 use crate::options::{
-    DIR, EDIT, EXTRACT, OVER, PATH, PIECE, SCRIPT, SECTIONS, SILENT, TEXTS, UNPACK, command,
+    BOUNDARY, DIR, EDIT, EXTRACT, OVER, PACK, PATH, PIECE, SCRIPT, SECTIONS, SILENT, SPEC, TEXTS,
+    UNPACK, command,
 };
+use crate::packing::run_pack;
+use crate::parts::Spec;
 use crate::path::numbers;
 use crate::showing::{run_extract, run_sections};
 use crate::status::{Cause, Status};
@@ -13,7 +16,7 @@ use crate::transfer::{Stop, read_all, write_all};
 use crate::unpacking::unpack;
 use clap::ArgMatches;
 use clap::error::ErrorKind;
-use mk_mail::{Sink, Source};
+use mk_mail::{Attach, Sink, Source};
 use std::rt::{Env, Files};
 use std::{env, fs, io};
 
@@ -85,6 +88,8 @@ fn run_matches<R: Files + AllocGlobal, S: Source, O: Sink, E: Sink>(
         extract(rt, matches, input, out, err)
     } else if let Some(matches) = matches.subcommand_matches(UNPACK) {
         unpack_into(rt, matches, input, out, err)
+    } else if let Some(matches) = matches.subcommand_matches(PACK) {
+        pack(rt, matches, input, out, err)
     } else if matches.subcommand_matches(SECTIONS).is_some() {
         run_sections(rt.alloc(), input, out, err)
     } else {
@@ -151,6 +156,43 @@ fn unpack_into<R: Files + AllocGlobal, S: Source, O: Sink, E: Sink>(
     let over = matches.get_flag(OVER);
     let silent = matches.get_flag(SILENT);
     unpack(rt.alloc(), input, out, err, &mut dir, texts, over, silent)
+}
+
+// mimetool pack
+fn pack<R: Files + AllocGlobal, S: Source, O: Sink, E: Sink>(
+    rt: &R,
+    matches: &ArgMatches<'_>,
+    input: &mut S,
+    out: &mut O,
+    err: &mut E,
+) -> Status {
+    let Some(boundary) = matches.get_str(BOUNDARY) else {
+        return usage(err);
+    };
+    let words = matches.get_strs(SPEC).unwrap_or(&[]);
+    if !words.iter().all(|word| Spec::of(word.as_bytes()).is_some()) {
+        return usage(err);
+    }
+    match attachments(rt, words) {
+        Ok(parts) => run_pack(rt.alloc(), input, out, err, boundary.as_bytes(), &parts),
+        Err(Stop::Fault) => give_up(err, Cause::Read),
+        Err(Stop::Memory) => give_up(err, Cause::Memory),
+    }
+}
+
+// The files to be packed, read whole in the order of the command line.
+fn attachments<R: Files + AllocGlobal>(rt: &R, words: &[&str]) -> Result<Vec<Attach>, Stop> {
+    let mut parts = Vec::new(rt.alloc());
+    for word in words {
+        if let Some(spec) = Spec::of(word.as_bytes()) {
+            let Ok(path) = std::str::from_utf8(spec.path) else {
+                return Err(Stop::Fault);
+            };
+            let text = file(rt, path)?;
+            parts.push(spec.attach(rt.alloc(), text)?)?;
+        }
+    }
+    Ok(parts)
 }
 
 // The script and the pieces, read whole in the order of the command line.

@@ -88,8 +88,8 @@ pub fn read_doc<S: Source>(alloc: Global, input: &mut S) -> Result<Doc, Stop>
     }
 }
 
-// Writes an answer, and says how the run ends.
-fn finish<O: Sink, E: Sink>(out: &mut O, err: &mut E, answer: &Answer) -> Status
+/// Writes an answer, and says how the run ends.
+pub fn finish<O: Sink, E: Sink>(out: &mut O, err: &mut E, answer: &Answer) -> Status
     ensures written { Writes result (run_of_answer answer.now) (O.contents out.old) (O.contents out.new) (E.contents err.old) (E.contents err.new) }
     ensures blamed { result ≡ Status.Fault → Rose (O.failures out.old) (O.failures out.new) ⊎ Rose (E.failures err.old) (E.failures err.new) }
     ensures output_clean { ends_itself result ≡ true → O.failures out.new ≡ O.failures out.old }

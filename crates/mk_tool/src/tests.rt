@@ -6,6 +6,7 @@ mod faults;
 mod fields;
 mod groups;
 mod memory;
+mod packed;
 mod pieces;
 mod shelf;
 mod shown;

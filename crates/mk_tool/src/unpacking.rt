@@ -1,11 +1,10 @@
 //! A message unpacked into a folder, over any devices.
 
-ghost use Rattle.std.specs.Prelude.{◌≡◌, ◌⊎◌, ◌∷◌, [], if◌then◌else◌, true, map, None, Ok, IfOk, IfErr, IfSome, OnOk, OnErr};
-ghost use Rattle.mk_tree.specs.Documents.{tree};
-ghost use Rattle.mk_tree.specs.Sections.{section_at};
+ghost use Rattle.std.specs.Prelude.{◌≡◌, ◌⊎◌, ◌∷◌, [], if◌then◌else◌, true, map, None, Some, Ok, IfOk, IfErr, IfSome, OnOk, OnErr};
+ghost use Rattle.mk_tree.specs.Documents.{Document};
 ghost use Rattle.mk_mail.specs.Devices.{Rose};
 ghost use Rattle.mk_mail.specs.GivenNames.{AreSafe, is_safe};
-ghost use Rattle.mk_mail.specs.NameViews.{named_view};
+ghost use Rattle.mk_mail.specs.LeafViews.{AreAt, IsAt, leaf_view};
 ghost use Rattle.mk_tool.specs.RunClauses.{held, counts, Sends, SameFailures, ReadFailed, WriteFailed, ends_itself};
 ghost use Rattle.mk_tool.specs.Shown.{extract_line};
 ghost use Rattle.mk_tool.specs.Unpacking.{exists_line as line_of_exists, stored_line as line_of_stored, tried as name_tried};
@@ -17,8 +16,8 @@ use crate::folder::Folder;
 use crate::showing::read_doc;
 use crate::status::{Cause, Status};
 use crate::transfer::{Stop, send};
-use mk_mail::{ExtractError, Fault, Sink, Source, extract, names, numbered, push_type};
-use mk_tree::Doc;
+use mk_mail::{ExtractError, Fault, Leaf, Sink, Source, content, leaves, numbered, push_type};
+use mk_tree::Section;
 use std::alloc::{AllocError, Global};
 
 /// How many names are tried for a leaf: its own, and that with the numbers from 1 on behind it.
@@ -64,11 +63,11 @@ pub fn unpack<S: Source, O: Sink, E: Sink, F: Folder>(
         Ok(doc) => doc,
         Err(stop) => return give_up(err, reading(stop)),
     };
-    let leaves = match names(alloc, &doc, texts) {
-        Ok(leaves) => leaves,
+    let stored = match leaves(alloc, &doc, texts) {
+        Ok(stored) => stored,
         Err(_) => return give_up(err, Cause::Memory),
     };
-    match unpack_all(alloc, &doc, Manner { over, silent }, leaves, out, err, dir) {
+    match unpack_all(alloc, Manner { over, silent }, stored, out, err, dir) {
         Ok(refused) => {
             if refused {
                 Status::Refused
@@ -83,18 +82,17 @@ pub fn unpack<S: Source, O: Sink, E: Sink, F: Folder>(
 // Unpacks the leaves of a document in turn. Answers whether one was reported.
 fn unpack_all<O: Sink, E: Sink, F: Folder>(
     alloc: Global,
-    doc: &Doc,
     manner: Manner,
-    leaves: Vec<(Vec<u32>, Vec<u8>)>,
+    leaves: Vec<Leaf<'_>>,
     out: &mut O,
     err: &mut E,
     dir: &mut F,
 ) -> Result<bool, Stop>
-    requires { AreSafe (map named_view leaves.items) }
-    ensures all { IfOk result (λ refused. UnpackedAll manner (tree doc.now) (map named_view leaves.items) refused
+    requires { AreSafe (map leaf_view leaves.items) }
+    ensures all { IfOk result (λ refused. (t : Document) → AreAt t leaves.entry.items → UnpackedAll manner t (map leaf_view leaves.entry.items) refused
         (written (O.contents out.old) (E.contents err.old) (F.files dir.old))
         (written (O.contents out.new) (E.contents err.new) (F.files dir.new))) }
-    ensures some { OnErr result (UnpackedSome manner (tree doc.now) (map named_view leaves.items)
+    ensures some { OnErr result ((t : Document) → AreAt t leaves.entry.items → UnpackedSome manner t (map leaf_view leaves.entry.items)
         (written (O.contents out.old) (E.contents err.old) (F.files dir.old))
         (written (O.contents out.new) (E.contents err.new) (F.files dir.new))) }
     ensures failed { IfErr result (λ stop. stop ≡ Stop.Fault → SomeFailed
@@ -106,7 +104,7 @@ fn unpack_all<O: Sink, E: Sink, F: Folder>(
 {
     let mut refused = false;
     for leaf in leaves {
-        refused |= unpack_leaf(alloc, doc, manner, &leaf, out, err, dir)?;
+        refused |= unpack_leaf(alloc, manner, &leaf, out, err, dir)?;
     }
     Ok(refused)
 }
@@ -114,18 +112,17 @@ fn unpack_all<O: Sink, E: Sink, F: Folder>(
 // Unpacks one leaf. Answers whether it was reported.
 fn unpack_leaf<O: Sink, E: Sink, F: Folder>(
     alloc: Global,
-    doc: &Doc,
     manner: Manner,
-    leaf: &(Vec<u32>, Vec<u8>),
+    leaf: &Leaf<'_>,
     out: &mut O,
     err: &mut E,
     dir: &mut F,
 ) -> Result<bool, Stop>
-    requires { is_safe leaf.now.1.items ≡ true }
-    ensures all { IfOk result (λ refused. UnpackedAll manner (tree doc.now) (named_view leaf.now ∷ []) refused
+    requires { is_safe leaf.now.name.items ≡ true }
+    ensures all { IfOk result (λ refused. (t : Document) → IsAt t leaf.now → UnpackedAll manner t (leaf_view leaf.now ∷ []) refused
         (written (O.contents out.old) (E.contents err.old) (F.files dir.old))
         (written (O.contents out.new) (E.contents err.new) (F.files dir.new))) }
-    ensures some { OnErr result (UnpackedSome manner (tree doc.now) (named_view leaf.now ∷ [])
+    ensures some { OnErr result ((t : Document) → IsAt t leaf.now → UnpackedSome manner t (leaf_view leaf.now ∷ [])
         (written (O.contents out.old) (E.contents err.old) (F.files dir.old))
         (written (O.contents out.new) (E.contents err.new) (F.files dir.new))) }
     ensures failed { IfErr result (λ stop. stop ≡ Stop.Fault → SomeFailed
@@ -135,23 +132,22 @@ fn unpack_leaf<O: Sink, E: Sink, F: Folder>(
         (failures (O.failures out.old) (E.failures err.old) (F.failures dir.old))
         (failures (O.failures out.new) (E.failures err.new) (F.failures dir.new))) }
 {
-    let (path, name) = leaf;
-    let content = match extract(alloc, doc, path) {
-        Ok(content) => content,
+    let text = match content(alloc, &leaf.section) {
+        Ok(text) => text,
         Err(ExtractError::Memory) => return Err(Stop::Memory),
         Err(reason) => {
-            return match report_undecoded(alloc, err, path, reason) {
+            return match report_undecoded(alloc, err, &leaf.path, reason) {
                 Ok(()) => Ok(true),
                 Err(stop) => Err(stop),
             };
         }
     };
-    match put_free(alloc, dir, name, &content, manner.over) {
-        Ok(Some(target)) => match say_stored(alloc, out, doc, path, &target, manner.silent) {
+    match put_free(alloc, dir, &leaf.name, &text, manner.over) {
+        Ok(Some(target)) => match say_stored(alloc, out, &leaf.section, &target, manner.silent) {
             Ok(()) => Ok(false),
             Err(stop) => Err(stop),
         },
-        Ok(None) => match report_exists(alloc, err, name) {
+        Ok(None) => match report_exists(alloc, err, &leaf.name) {
             Ok(()) => Ok(true),
             Err(stop) => Err(stop),
         },
@@ -198,38 +194,34 @@ fn tried(alloc: Global, name: &[u8], number: u64) -> Result<Vec<u8>, AllocError>
     }
 }
 
-// Says under which name the section at a path was put, unless nothing is to be said.
+// Says under which name a section was put, unless nothing is to be said.
 fn say_stored<O: Sink>(
     alloc: Global,
     out: &mut O,
-    doc: &Doc,
-    path: &[u32],
+    section: &Section<'_>,
     target: &[u8],
     silent: bool,
 ) -> Result<(), Stop>
-    ensures { Sends result (if silent then [] else line_of_stored (section_at path.now (tree doc.now)) target.now)
+    ensures { Sends result (if silent then [] else line_of_stored (Some section.now) target.now)
         (O.contents out.old) (O.contents out.new) (O.failures out.old) (O.failures out.new) }
 {
     if silent {
         return Ok(());
     }
-    match stored_line(alloc, doc, path, target) {
+    match stored_line(alloc, section, target) {
         Ok(line) => send(out, &line),
         Err(_) => Err(Stop::Memory),
     }
 }
 
-// The line that says under which name the section at a path was put.
-fn stored_line(alloc: Global, doc: &Doc, path: &[u32], target: &[u8]) -> Result<Vec<u8>, AllocError>
-    ensures { IfOk result (λ line. line.items ≡ line_of_stored (section_at path.now (tree doc.now)) target.now) }
+// The line that says under which name a section was put.
+fn stored_line(alloc: Global, section: &Section<'_>, target: &[u8]) -> Result<Vec<u8>, AllocError>
+    ensures { IfOk result (λ line. line.items ≡ line_of_stored (Some section.now) target.now) }
 {
-    let mut line = Vec::new(alloc);
-    if let Some(section) = doc.section(path) {
-        line.extend_from_slice(target)?;
-        line.extend_from_slice(b" (")?;
-        push_type(alloc, &mut line, &section)?;
-        line.extend_from_slice(b")\n")?;
-    }
+    let mut line = Vec::from_slice(alloc, target)?;
+    line.extend_from_slice(b" (")?;
+    push_type(alloc, &mut line, section)?;
+    line.extend_from_slice(b")\n")?;
     Ok(line)
 }
 

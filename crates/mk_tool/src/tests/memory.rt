@@ -5,10 +5,13 @@ use super::devices::{Page, Text};
 use super::shelf::Slot;
 use crate::engine::run_edit;
 use crate::groups::{ScriptError, steps};
+use crate::packing::run_pack;
+use crate::parts::Spec;
 use crate::path::path;
 use crate::status::Status;
 use crate::transfer::{Stop, read_all};
 use crate::unpacking::unpack;
+use mk_mail::Attach;
 use std::alloc::Global;
 use std::process::Abort;
 
@@ -118,5 +121,37 @@ fn check_unpacking(rt: &impl Abort, alloc: Global, mut out: Page, mut err: Page,
         assert_eq!(rt; out.bytes(), SAID);
         assert_eq!(rt; err.bytes(), TOLD);
         assert!(rt; dir.file() == (b"x", b"hi"));
+    }
+}
+
+const PICTURED: &[u8] =
+    b"A: b\nMIME-Version: 1.0\nContent-Type: multipart/mixed; boundary=\"b\"\n\n--b\nContent-Type: image/gif; name=\"x\"\nContent-Disposition: attachment; filename=\"x\"\nContent-Transfer-Encoding: base64\n\n\n--b--\n";
+
+#[test]
+fn memory_for_packing(rt: HostRuntime) {
+    let alloc = rt.alloc();
+    let (Ok(out), Ok(err)) = (Page::new(alloc, SIZE), Page::new(alloc, SIZE)) else {
+        return;
+    };
+    let Some(spec) = Spec::of(b"image/gif:d/x") else {
+        return;
+    };
+    match spec.attach(alloc, Vec::new(alloc)) {
+        Ok(part) => check_packing(&rt, alloc, out, err, part),
+        Err(_) => assert!(rt; spec.attach(alloc, Vec::new(alloc)).is_ok()),
+    }
+}
+
+// The message goes out, or the run is given up for want of memory.
+fn check_packing(rt: &impl Abort, alloc: Global, mut out: Page, mut err: Page, part: Attach) {
+    let mut input = Text::new(b"A: b", SIZE);
+    let status = run_pack(alloc, &mut input, &mut out, &mut err, b"b", &[part]);
+    if status == Status::Memory {
+        assert_eq!(rt; out.bytes(), b"".as_slice());
+        assert!(rt; err.bytes().ends_with(b"mimetool: memory\n"));
+    } else {
+        assert_eq!(rt; status, Status::Well);
+        assert_eq!(rt; out.bytes(), PICTURED);
+        assert_eq!(rt; err.bytes(), b"".as_slice());
     }
 }

@@ -1,9 +1,8 @@
-use Rattle.std.proofs.Common.{◌≡◌, ◌++◌, ◌∷◌, [], map, rules, ap, sym, refl, ◌∙◌, append_assoc}
+use Rattle.std.proofs.Common.{◌≡◌, ◌++◌, ◌∷◌, [], map, rules, ap, sym, subst, refl, ◌∙◌, append_assoc}
 use Rattle.std.proofs.lemmas.Result.{err_from_is_err_and}
 use Rattle.std.proofs.KnownBytes.{Appends-nil}
 use Rattle.std.specs.Vec.Iter.{into_iter_items}
-use Rattle.mk_tree.specs.Documents.{tree}
-use Rattle.mk_mail.specs.NameViews.{named_view}
+use Rattle.mk_mail.specs.LeafViews.{AreAt, leaf_view}
 use Rattle.mk_tool.proofs.UnpackLemmas.{UnpackedAll-none, UnpackedAll-behind, UnpackedSome-behind}
 use Rattle.mk_tool.proofs.unpacking.unpack_all.Goals as goal
 
@@ -11,7 +10,7 @@ pub loop-leaf-init : goal.loop-leaf-init
 loop-leaf-init g c =
     let items : into_iter_items c.into_iter-leaf-iterator.result ≡ c.args.leaves.items = search rules in
     record {
-      done = ([], rw items refl, UnpackedAll-none c.args.manner (tree c.args.doc.now) _ _ _ (Appends-nil _) (Appends-nil _));
+      done = ([], rw items refl, λ t h. (subst (AreAt t) (sym items) h, UnpackedAll-none c.args.manner t _ _ _ (Appends-nil _) (Appends-nil _)));
       well = record { output = refl; errors = refl; folder = refl };
       safe = rw items c.requires;
     }
@@ -20,8 +19,11 @@ pub returns-in_err-refused-clause-some : goal.returns-in_err-refused-clause-some
 returns-in_err-refused-clause-some g c =
     let stopped = err_from_is_err_and c.from_residual.result c.from_residual.ensures.1 in
     let done = c.loop-leaf.invariant.done in
-    let leaves = done.1 ∙ ap (λ items. done.0 ++ map named_view items) c.in-Some.ensures.steps.0 in
-    rw stopped.1 (UnpackedSome-behind c.args.manner (tree c.args.doc.now) done.0 (named_view c.in-Some.leaf ∷ []) _ _ _ _ _ _ done.2 c.in_err-refused.ensures.some leaves)
+    let leaves = done.1 ∙ ap (λ items. done.0 ++ map leaf_view items) c.in-Some.ensures.steps.0 in
+    rw stopped.1 (λ t h.
+    let sofar = done.2 t h in
+    let here = subst (AreAt t) c.in-Some.ensures.steps.0 sofar.0 in
+    UnpackedSome-behind c.args.manner t done.0 (leaf_view c.in-Some.leaf ∷ []) _ _ _ _ _ _ sofar.1 (c.in_err-refused.ensures.some t here.0) leaves)
 
 pub loop-leaf-preserved : goal.loop-leaf-preserved
 loop-leaf-preserved g c =
@@ -29,13 +31,16 @@ loop-leaf-preserved g c =
     let before = c.loop-leaf.invariant.well in
     let well = c.in_ok-refused.ensures.well in
     let items = c.in-Some.ensures.steps.0 in
-    let leaves = done.1 ∙ ap (λ items. done.0 ++ map named_view items) items ∙ sym (append_assoc done.0 (named_view c.in-Some.leaf ∷ []) _) in
+    let leaves = done.1 ∙ ap (λ items. done.0 ++ map leaf_view items) items ∙ sym (append_assoc done.0 (leaf_view c.in-Some.leaf ∷ []) _) in
     let safe = rw items at c.loop-leaf.invariant.safe in
     record {
       done = (
-        done.0 ++ named_view c.in-Some.leaf ∷ [],
+        done.0 ++ leaf_view c.in-Some.leaf ∷ [],
         leaves,
-        UnpackedAll-behind c.args.manner (tree c.args.doc.now) done.0 (named_view c.in-Some.leaf ∷ []) _ _ _ _ _ done.2 c.in_ok-refused.ensures.all,
+        λ t h.
+            let sofar = done.2 t h in
+            let here = subst (AreAt t) items sofar.0 in
+            (here.1, UnpackedAll-behind c.args.manner t done.0 (leaf_view c.in-Some.leaf ∷ []) _ _ _ _ _ sofar.1 (c.in_ok-refused.ensures.all t here.0)),
       );
       well = record { output = well.output ∙ before.output; errors = well.errors ∙ before.errors; folder = well.folder ∙ before.folder };
       safe = safe.1;

@@ -1,0 +1,133 @@
+-- What a call of a mailbox answers, by what was gathered.
+use Rattle.std.proofs.Common.{◌≡◌, ◌<◌, ◌≤◌, ◌+◌, ◌*◌, ◌-◌, ◌^◌, ◌⊎◌, ◌++◌, ℕ, zero, suc, nat_lt, if◌then◌else◌, Bool, true, false, List, [], ◌∷◌, Option, Some, refl, ap, sym, ◌∙◌, length, slice_get, subst, length-append, append-nil, append_assoc, inl, inr, drop, take, take-append-drop, arith}
+use Rattle.std.proofs.lemmas.Bool.{ltb-false}
+use Rattle.std.proofs.lemmas.List.{drop-drop, drop-take}
+use Rattle.std.proofs.KnownBytes.{Consumes-trans}
+use Rattle.std.specs.Io.KnownBytes.{Consumes}
+use Rattle.mk_line.specs.Lines.{cut}
+use Rattle.mk_mail.specs.Gathered.{IsLastSplit, IsSplit, later_of}
+use Rattle.mk_line.specs.Meters.{ticked}
+use Rattle.mk_mail.specs.Devices.{IsFull}
+use Rattle.mk_mail.specs.Held.{Held, unread}
+use Rattle.mk_mail.specs.Mailboxes.{FitsReads, IsNextPiece, IsOpenInFront, chunk_bytes}
+use Rattle.mk_mail.specs.Pieces.{mailbox_pieces}
+use Rattle.mk_mail.proofs.MessageLines.{pieces_of}
+
+longer : (piece new old : List ℕ) → old ≡ piece ++ new → 0 < length piece → 0 < length old
+longer piece new old p s = let e : length old ≡ length (piece ++ new) = ap length p in omega (arith, e, s, length-append piece new)
+
+longer_on : (old more : List ℕ) → 0 < length old → 0 < length (old ++ more)
+longer_on old more h = omega (arith, h, length-append old more)
+
+split_pieces : (piece old new more : List ℕ) → IsSplit piece old new → mailbox_pieces (old ++ more) ≡ piece ∷ mailbox_pieces (new ++ more)
+split_pieces piece old new more s =
+    pieces_of (old ++ more) (longer_on old more (longer piece new old s.parts s.some))
+    ∙ (ap (λ p. p ∷ later_of false (old ++ more)) (s.front more) ∙ ap (λ ps. piece ∷ ps) (s.later more))
+
+first_of : (old piece : List ℕ) (pieces : List (List ℕ)) → mailbox_pieces (old ++ []) ≡ piece ∷ pieces → slice_get (mailbox_pieces old) 0 ≡ Some piece
+first_of old piece pieces e = ap (λ x. slice_get (mailbox_pieces x) 0) (sym (append-nil old)) ∙ ap (λ ps. slice_get ps 0) e
+
+none_long : {A : Type 0} (xs : List ℕ) → xs ≡ [] → 0 < length xs → A
+none_long xs e h = let z : length xs ≡ 0 = ap length e in absurd (omega (arith, z, h))
+
+-- a message is whole, whatever is read behind it
+pub piece_next : (piece read : List ℕ) (old new : Held) → IsSplit piece (old.kept ++ read) new.kept → IsNextPiece piece old read new
+piece_next piece read old new s = record {
+  whole = s.parts;
+  first = first_of (old.kept ++ read) piece (mailbox_pieces (new.kept ++ [])) (split_pieces piece (old.kept ++ read) new.kept [] s);
+  stays = λ more _. split_pieces piece (old.kept ++ read) new.kept more s;
+  some = s.some;
+  all = λ e. none_long new.kept e s.rest;
+  closed = λ h. absurd (s.closed [] (subst (λ x. IsOpenInFront (cut x)) (sym (append-nil new.kept)) h));
+}
+
+last_pieces : (piece old new more : List ℕ) → more ≡ [] → IsLastSplit piece old new → mailbox_pieces (old ++ more) ≡ piece ∷ mailbox_pieces (new ++ more)
+last_pieces piece old new more e s =
+    ap (λ m. mailbox_pieces (old ++ m)) e
+    ∙ (ap mailbox_pieces (append-nil old)
+    ∙ (pieces_of old (longer piece new old s.parts s.some)
+    ∙ (ap (λ p. p ∷ later_of false old) s.front
+    ∙ (ap (λ ps. piece ∷ ps) s.later
+    ∙ (ap (λ x. piece ∷ mailbox_pieces x) (sym (append-nil new)) ∙ ap (λ m. piece ∷ mailbox_pieces (new ++ m)) (sym e))))))
+
+-- a message of an input that has ended
+pub last_next : (piece read : List ℕ) (old new : Held) → new.ended ≡ true → IsLastSplit piece (old.kept ++ read) new.kept → IsNextPiece piece old read new
+last_next piece read old new e s = record {
+  whole = s.parts;
+  first = first_of (old.kept ++ read) piece (mailbox_pieces (new.kept ++ [])) (last_pieces piece (old.kept ++ read) new.kept [] refl s);
+  stays = λ more h. last_pieces piece (old.kept ++ read) new.kept more (h e) s;
+  some = s.some;
+  all = λ _. e;
+  closed = λ _. e;
+}
+
+-- a chunk of which all was taken
+pub unread_none : (chunk : List ℕ) (at filled : ℕ) → at ≡ filled → unread chunk at filled ≡ []
+unread_none chunk at filled e = ap (λ n. drop n (take filled chunk)) e ∙ none_left filled chunk
+  where
+    none_left : (n : ℕ) (xs : List ℕ) → drop n (take n xs) ≡ []
+    none_left zero [] = refl
+    none_left zero (x ∷ xs) = refl
+    none_left (suc n) [] = refl
+    none_left (suc n) (x ∷ xs) = none_left n xs
+
+-- bytes that came from one read more, or from none
+ticked_by : (t : Bool) (n old new : ℕ) → nat_lt old (2 ^ 64 - 1) ≡ t → n ≤ chunk_bytes → new ≡ (if t then old + 1 else old) → (n + chunk_bytes * old ≤ chunk_bytes * new) ⊎ IsFull new
+ticked_by true n old new h l e = inl (omega (arith, l, e))
+ticked_by false n old new h l e = inr (omega (arith, ltb-false old (2 ^ 64 - 1) h, e))
+
+pub fits_read : (read : List ℕ) (old new : ℕ) → length read ≤ chunk_bytes → new ≡ ticked old → FitsReads read old new
+fits_read read old new l e = ticked_by (nat_lt old (2 ^ 64 - 1)) (length read) old new refl l e
+
+pub fits_none : (reads : ℕ) → FitsReads [] reads reads
+fits_none reads = inl (omega arith)
+
+-- bytes that were taken from the chunk
+part_is : (chunk : List ℕ) (at filled : ℕ) → at ≤ filled → take (filled - at) (drop at chunk) ≡ unread chunk at filled
+part_is chunk at filled o = sym (drop-take at (filled - at) chunk) ∙ ap (λ n. drop at (take n chunk)) (omega (arith, o))
+
+pub taken_over : (chunk old new : List ℕ) (at filled count : ℕ) → at ≤ filled → new ≡ old ++ take count (take (filled - at) (drop at chunk)) → new ++ unread chunk (at + count) filled ≡ old ++ unread chunk at filled
+taken_over chunk old new at filled count o e =
+    let u = unread chunk at filled in
+    ap (λ x. x ++ unread chunk (at + count) filled) (e ∙ ap (λ x. old ++ take count x) (part_is chunk at filled o))
+    ∙ (append_assoc old (take count u) (unread chunk (at + count) filled)
+    ∙ ap (λ x. old ++ x) (ap (λ x. take count u ++ x) (sym (drop-drop count at (take filled chunk))) ∙ take-append-drop count u))
+
+-- bytes that were read in two parts
+fits_more : (first next : List ℕ) (old mid new : ℕ) → FitsReads first old mid → FitsReads next mid new → FitsReads (first ++ next) old new
+fits_more first next old mid new f n =
+    elim n [
+      | inr full ↦ inr full
+      | inl more ↦ elim f [
+        | inr full ↦ inr (omega (arith, full, more))
+        | inl less ↦ inl (omega (arith, less, more, length-append first next))
+      ]
+    ]
+
+pub read_more : (left between right : Option (List ℕ)) (ended : Bool) (kept mid new first next : List ℕ) (old reads now : ℕ)
+    → Consumes left between first → (ended ≡ true → first ≡ []) → FitsReads first old reads → mid ≡ kept ++ first
+    → Consumes between right next → (ended ≡ true → ⊥) → new ≡ mid ++ next → FitsReads next reads now
+    → (read : List ℕ) × Consumes left right read × (ended ≡ true → read ≡ []) × FitsReads read old now × (new ≡ kept ++ read)
+read_more left between right ended kept mid new first next old reads now c e f k d n l g = (
+  first ++ next,
+  Consumes-trans left between right first next c d,
+  (λ t. absurd (n t)),
+  fits_more first next old reads now f g,
+  l ∙ (ap (λ x. x ++ next) k ∙ append_assoc kept first next),
+)
+
+-- one turn more
+counted_by : (t : Bool) (old turn mid new : ℕ) → nat_lt mid (2 ^ 64 - 1) ≡ t → (old + turn ≤ mid) ⊎ IsFull mid → new ≡ (if t then mid + 1 else mid) → (old + (turn + 1) ≤ new) ⊎ IsFull new
+counted_by true old turn mid new h c e =
+    elim c [
+      | inl l ↦ inl (omega (arith, l, e))
+      | inr full ↦ inr (omega (arith, full, e))
+    ]
+counted_by false old turn mid new h c e = inr (omega (arith, ltb-false mid (2 ^ 64 - 1) h, e))
+
+pub counted_on : (old turn mid new : ℕ) → (old + turn ≤ mid) ⊎ IsFull mid → new ≡ ticked mid → (old + (turn + 1) ≤ new) ⊎ IsFull new
+counted_on old turn mid new c e = counted_by (nat_lt mid (2 ^ 64 - 1)) old turn mid new refl c e
+
+pub true_or_false : {A : Type 0} (t : Bool) → t ≡ true → t ≡ false → A
+true_or_false true a b = cc
+true_or_false false a b = cc

@@ -1,0 +1,102 @@
+-- Messages of a mailbox by whole lines: a line belongs to a message, or begins the next one.
+use Rattle.std.proofs.Common.{◌≡◌, ◌==◌, ◌<◌, ◌++◌, if◌then◌else◌, ℕ, Bool, true, false, List, [], ◌∷◌, refl, ap, sym, ◌∙◌, map, length, length-append, append-nil, arith}
+use Rattle.std.proofs.lemmas.Bool.{or_parts}
+use Rattle.mk_line.specs.declared.cutting.Ending.{Ending}
+use Rattle.mk_line.specs.declared.cutting.Ending.TheVariants.{Crlf, Lf, Missing}
+use Rattle.mk_line.specs.Lines.{TextLine, cut, ended, has_line_feed, is_nil, is_open, printed_line, text_line, text_of, with_byte}
+use Rattle.mk_line.proofs.Cuts.{cut_other, text_cut}
+use Rattle.mk_mail.specs.Gathered.{IsWholeLine, front_of, later_of}
+use Rattle.mk_mail.specs.Mailboxes.{IsOpenInFront}
+use Rattle.mk_mail.specs.Pieces.{is_first, front, later, parted, mailbox_pieces}
+
+-- a line with its line feed, and what follows it
+cut_line : (before more : List ℕ) → has_line_feed before ≡ false → cut ((before ++ 10 ∷ []) ++ more) ≡ ended before ∷ cut more
+cut_line [] more h = refl
+cut_line (byte ∷ bytes) more h =
+    let f = or_parts (byte == 10) (has_line_feed bytes) h in
+    rw (cut_other byte ((bytes ++ 10 ∷ []) ++ more) f.0, cut_line bytes more f.1) refl
+
+printed_ended : (before : List ℕ) → has_line_feed before ≡ false → printed_line (ended before) ≡ before ++ 10 ∷ []
+printed_ended before h =
+    sym (append-nil (printed_line (ended before)))
+    ∙ (ap text_of (sym (cut_line before [] h)) ∙ (text_cut ((before ++ 10 ∷ []) ++ []) ∙ append-nil (before ++ 10 ∷ [])))
+
+closed_if : (t : Bool) (byte : ℕ) → is_open (if t then text_line [] Crlf else text_line (byte ∷ []) Lf).ending ≡ false
+closed_if true byte = refl
+closed_if false byte = refl
+
+closed_with : (byte : ℕ) (content : List ℕ) (e : Ending) → is_open e ≡ false → is_open (with_byte byte (text_line content e)).ending ≡ false
+closed_with byte content Crlf h = refl
+closed_with byte [] Lf h = closed_if (byte == 13) byte
+closed_with byte (next ∷ bytes) Lf h = refl
+closed_with byte content Missing h = h
+
+closed_ended : (before : List ℕ) → is_open (ended before).ending ≡ false
+closed_ended [] = refl
+closed_ended (byte ∷ bytes) = closed_with byte (ended bytes).content (ended bytes).ending (closed_ended bytes)
+
+whole_cut : (line content more : List ℕ) (w : IsWholeLine line content) → cut (line ++ more) ≡ ended w.before ∷ cut more
+whole_cut line content more w = ap (λ t. cut (t ++ more)) w.parts ∙ cut_line w.before more w.no_feed
+
+-- a line with its line feed isn't open
+pub whole_closed : (line content more : List ℕ) → IsWholeLine line content → IsOpenInFront (cut (line ++ more)) → ⊥
+whole_closed line content more w h =
+    let o : IsOpenInFront (ended w.before ∷ cut more) = rw (whole_cut line content more w) at h in
+    open_closed (is_open (ended w.before).ending) o (closed_ended w.before)
+  where
+    open_closed : (t : Bool) → t ≡ true → t ≡ false → ⊥
+    open_closed true a b = cc
+    open_closed false a b = cc
+
+pub whole_some : (line content : List ℕ) → IsWholeLine line content → 0 < length line
+whole_some line content w = let e : length line ≡ length (w.before ++ 10 ∷ []) = ap length w.parts in omega (arith, e, length-append w.before (10 ∷ []))
+
+-- by its content a line belongs to the message, or begins the next one
+front_stays : (e : Bool) (l : TextLine) (ls : List TextLine) → is_first e l.content ≡ false → text_of (front e (l ∷ ls)) ≡ printed_line l ++ text_of (front (is_nil l.content) ls)
+front_stays e l ls t = rw t refl
+
+later_stays : (e : Bool) (l : TextLine) (ls : List TextLine) → is_first e l.content ≡ false → map text_of (later e (l ∷ ls)) ≡ map text_of (later (is_nil l.content) ls)
+later_stays e l ls t = rw t refl
+
+front_begins : (e : Bool) (l : TextLine) (ls : List TextLine) → is_first e l.content ≡ true → text_of (front e (l ∷ ls)) ≡ []
+front_begins e l ls t = rw t refl
+
+later_begins : (e : Bool) (l : TextLine) (ls : List TextLine) → is_first e l.content ≡ true → map text_of (later e (l ∷ ls)) ≡ map text_of (parted (l ∷ ls))
+later_begins e l ls t = rw t refl
+
+line_is : (line content : List ℕ) (w : IsWholeLine line content) → printed_line (ended w.before) ≡ line
+line_is line content w = printed_ended w.before w.no_feed ∙ sym w.parts
+
+first_is : (e : Bool) (t : Bool) (line content : List ℕ) (w : IsWholeLine line content) → is_first e content ≡ t → is_first e (ended w.before).content ≡ t
+first_is e t line content w h = ap (is_first e) (sym w.content_is) ∙ h
+
+pub front_line : (e : Bool) (line content more : List ℕ) → IsWholeLine line content → is_first e content ≡ false → front_of e (line ++ more) ≡ line ++ front_of (is_nil content) more
+front_line e line content more w t =
+    ap (λ ls. text_of (front e ls)) (whole_cut line content more w)
+    ∙ (front_stays e (ended w.before) (cut more) (first_is e false line content w t)
+    ∙ (ap (λ x. x ++ front_of (is_nil (ended w.before).content) more) (line_is line content w)
+    ∙ ap (λ c. line ++ front_of (is_nil c) more) (sym w.content_is)))
+
+pub later_line : (e : Bool) (line content more : List ℕ) → IsWholeLine line content → is_first e content ≡ false → later_of e (line ++ more) ≡ later_of (is_nil content) more
+later_line e line content more w t =
+    ap (λ ls. map text_of (later e ls)) (whole_cut line content more w)
+    ∙ (later_stays e (ended w.before) (cut more) (first_is e false line content w t)
+    ∙ ap (λ c. later_of (is_nil c) more) (sym w.content_is))
+
+pub front_first : (e : Bool) (line content more : List ℕ) → IsWholeLine line content → is_first e content ≡ true → front_of e (line ++ more) ≡ []
+front_first e line content more w t =
+    ap (λ ls. text_of (front e ls)) (whole_cut line content more w) ∙ front_begins e (ended w.before) (cut more) (first_is e true line content w t)
+
+pub later_first : (e : Bool) (line content more : List ℕ) → IsWholeLine line content → is_first e content ≡ true → later_of e (line ++ more) ≡ mailbox_pieces (line ++ more)
+later_first e line content more w t =
+    ap (λ ls. map text_of (later e ls)) (whole_cut line content more w)
+    ∙ (later_begins e (ended w.before) (cut more) (first_is e true line content w t)
+    ∙ ap (λ ls. map text_of (parted ls)) (sym (whole_cut line content more w)))
+
+-- the first message, and those behind it
+parted_some : (ls : List TextLine) → 0 < length (text_of ls) → map text_of (parted ls) ≡ text_of (front false ls) ∷ map text_of (later false ls)
+parted_some [] h = absurd (omega (arith, h))
+parted_some (l ∷ ls) h = refl
+
+pub pieces_of : (text : List ℕ) → 0 < length text → mailbox_pieces text ≡ front_of false text ∷ later_of false text
+pieces_of text h = let e : length (text_of (cut text)) ≡ length text = ap length (text_cut text) in parted_some (cut text) (omega (arith, e, h))

@@ -1,0 +1,43 @@
+use Rattle.std.proofs.Common.{◌≡◌, ◌∙◌, true, inr, subst, rules}
+use Rattle.std.proofs.lemmas.Result.{err_from_is_err_and}
+use Rattle.mk_mail.specs.Gathered.{IsSplit}
+use Rattle.mk_mail.specs.Intakes.{held_of, kept_by}
+use Rattle.mk_mail.proofs.Intaking.{counted_on, piece_next, read_more, true_or_false}
+use Rattle.mk_mail.proofs.intake.Intake.next.Goals as goal
+
+pub returns-in-Ok-Some-clause-exact : goal.returns-in-Ok-Some-clause-exact
+returns-in-Ok-Some-clause-exact g c =
+    let t = c.loop-read.invariant.told in
+    let piece = c.in-Ok-Some.piece.items in (
+      t.0,
+      t.1,
+      t.2,
+      t.3,
+      piece_next piece t.0 (held_of c.args.self.now) (held_of c.take_lines.new.self)
+          (subst (λ k. IsSplit piece k (kept_by c.take_lines.new.self)) t.4 (rw c.in-Ok-Some.field-0-is at c.in-Ok-Some.ensures.piece)),
+    )
+
+pub returns-in_err-read-clause-exact : goal.returns-in_err-read-clause-exact
+returns-in_err-read-clause-exact g c =
+    let t = c.loop-read.invariant.told in
+    let b = c.read.ensures.bytes in
+    let same = rw c.in-Ok-None.field-0-is at c.in-Ok-None.ensures.piece in
+    let stopped = err_from_is_err_and c.from_residual.result c.from_residual.ensures.1 in
+    rw stopped.1
+    (read_more _ _ _ c.args.self.now.ended (kept_by c.args.self.now) (kept_by c.take_lines.new.self) (kept_by c.read.new.self) t.0 b.0 _ _ _ t.1 t.2 t.3 (same ∙ t.4) b.1
+    (λ e. true_or_false c.take_lines.new.self.ended (c.take_lines.ensures.ended ∙ (c.loop-read.invariant.stays e).0) c.if-self.false) b.2 b.3)
+
+pub loop-read-preserved : goal.loop-read-preserved
+loop-read-preserved g c =
+    let t = c.loop-read.invariant.told in
+    let b = c.read.ensures.bytes in
+    let same = rw c.in-Ok-None.field-0-is at c.in-Ok-None.ensures.piece in
+    let goes_on : c.args.self.now.ended ≡ true → ⊥ = λ e. true_or_false c.take_lines.new.self.ended (c.take_lines.ensures.ended ∙ (c.loop-read.invariant.stays e).0) c.if-self.false in
+    record {
+      intake = c.in_ok-read.ensures.intake;
+      told = read_more _ _ _ c.args.self.now.ended (kept_by c.args.self.now) (kept_by c.take_lines.new.self) (kept_by c.read.new.self) t.0 b.0 _ _ _ t.1 t.2 t.3 (same ∙ t.4) b.1 goes_on b.2 b.3;
+      ended = λ e. inr (c.read.ensures.ended e);
+      stays = λ e. absurd (goes_on e);
+      well = search rules;
+      count = counted_on _ _ _ _ c.loop-read.invariant.count c.in_ok-read.ensures.counted;
+    }

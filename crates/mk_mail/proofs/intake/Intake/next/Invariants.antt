@@ -1,0 +1,19 @@
+use Rattle.std.proofs.Common.{◌≡◌, ◌≤◌, ◌+◌, ◌++◌, ◌⊎◌, ℕ, List, [], true}
+use Rattle.std.specs.Io.KnownBytes.{Consumes, IsAtEnd}
+use Rattle.mk_mail.specs.Devices.{IsFull}
+use Rattle.mk_mail.specs.Intakes.{IsIntake, kept_by}
+use Rattle.mk_mail.specs.Mailboxes.{FitsReads}
+use Rattle.mk_mail.proofs.intake.Intake.next.Given as goal
+
+abbrev pub invariant-loop-read : goal.invariant-loop-read
+invariant-loop-read g l = record {
+  intake : IsIntake l.self;
+  told : (read : List ℕ) × Consumes (g.S.Source.remaining l.fn.r) (g.S.Source.remaining l.r) read
+      × (l.fn.self.ended ≡ true → read ≡ [])
+      × FitsReads read (g.S.Source.read_count l.fn.r) (g.S.Source.read_count l.r)
+      × (kept_by l.self ≡ kept_by l.fn.self ++ read);
+  ended : l.self.ended ≡ true → (l.fn.self.ended ≡ true) ⊎ IsAtEnd (g.S.Source.remaining l.r);
+  stays : l.fn.self.ended ≡ true → (l.self.ended ≡ true) × (g.S.Source.remaining l.r ≡ g.S.Source.remaining l.fn.r);
+  well : g.S.Source.failures l.r ≡ g.S.Source.failures l.fn.r;
+  count : (g.S.Source.read_count l.fn.r + l._read ≤ g.S.Source.read_count l.r) ⊎ IsFull (g.S.Source.read_count l.r);
+}

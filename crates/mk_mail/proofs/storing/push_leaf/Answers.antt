@@ -1,0 +1,10 @@
+use Rattle.std.proofs.Common.{◌≡◌, ap, ◌∙◌, subst, sym}
+use Rattle.mk_tree.specs.Sections.{section_at}
+use Rattle.mk_mail.specs.LeafViews.{AreAt}
+use Rattle.mk_mail.proofs.LeavesAt.{at_more}
+use Rattle.mk_mail.proofs.storing.push_leaf.Goals as goal
+
+pub returns-clause-placed : goal.returns-clause-placed
+returns-clause-placed c = λ t here at_old.
+    let path : c.in_ok-path.path.items ≡ c.args.path.now = c.in_ok-path.ensures.items in
+    subst (AreAt t) (sym c.in_ok-push.ensures.items) (at_more t _ _ at_old (ap (λ ns. section_at ns t) path ∙ here))

@@ -1,0 +1,17 @@
+-- What reads a mailbox in chunks, as what it holds; for private contracts.
+use Rattle.std.specs.Prelude.{◌++◌, ℕ, List}
+use Rattle.mk_mail.specs.declared.intake.Intake.{Intake}
+use Rattle.mk_mail.specs.Gathered.{IsChunk, IsGathered}
+use Rattle.mk_mail.specs.Held.{Held, unread}
+
+-- the bytes that were read and not given yet: the lines gathered, and those in the chunk
+abbrev pub kept_by : Intake → List ℕ
+kept_by i = i.gathered.bytes.items ++ unread i.chunk.items i.at i.filled
+
+abbrev pub held_of : Intake → Held
+held_of i = record { kept = kept_by i; ended = i.ended }
+
+-- what is gathered is one message so far, and the chunk is filled up to a place
+pub record IsIntake (i : Intake) : Type 0 where
+  pub gathered : IsGathered i.gathered.bytes.items i.gathered.line i.gathered.behind_empty
+  pub chunk : IsChunk i.chunk.items i.at i.filled

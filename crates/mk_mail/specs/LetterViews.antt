@@ -1,0 +1,23 @@
+-- Letters in memory as plain data.
+use Rattle.std.specs.Prelude.{ℕ, Option, List}
+use Rattle.std.specs.Global.{Vec}
+use Rattle.std.specs.Option.{option_map}
+use Rattle.mk_mail.specs.declared.letters.Letters.{Letters}
+use Rattle.mk_mail.specs.Letters.{PlainLetters}
+
+abbrev pub bytes_in : Option (Vec ℕ) → Option (List ℕ)
+bytes_in o = option_map (λ v. v.items) o
+
+-- letters as they are
+abbrev pub letters_of : Letters → PlainLetters
+letters_of l = record {
+  rename = option_map (λ p. (p.0.items, p.1.items)) l.rename;
+  add_if = bytes_in l.add_if;
+  add = bytes_in l.add;
+  prefixed = bytes_in l.prefixed;
+  only = bytes_in l.only;
+  first = bytes_in l.first;
+  last = bytes_in l.last;
+  take = bytes_in l.take;
+  whole = bytes_in l.whole;
+}

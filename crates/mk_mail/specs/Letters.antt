@@ -1,0 +1,217 @@
+-- Letters: a filter of the fields of a message, as a list of edits of its root (own, after formail).
+use Rattle.std.specs.Prelude.{◌+◌, ◌++◌, ◌&&◌, ◌||◌, if◌then◌else◌, ℕ, Bool, true, false, not, Option, None, Some, List, [], ◌∷◌, codes, drop, filter, is_some, map, nat_lt, take, unwrap_or}
+use Rattle.std.specs.List.{list_all, list_any, prefix_len}
+use Rattle.std.specs.Str.{bytes_eq, str_to_ascii_lowercase}
+use Rattle.mk_line.specs.declared.cutting.Ending.{Ending}
+use Rattle.mk_line.specs.Ascii.{colon, is_blank, is_name_byte}
+use Rattle.mk_line.specs.Lines.{cut, ending_bytes, eol_of}
+use Rattle.mk_head.specs.Fields.{is_one_field}
+use Rattle.mk_head.specs.Values.{behind}
+use Rattle.mk_tree.specs.Documents.{tree}
+use Rattle.mk_tree.specs.Sections.{root_of, section_fields}
+use Rattle.mk_edit.specs.Edits.{PlainEdit, AddField, RemoveField, RenameField}
+use Rattle.mk_edit.specs.FieldEdits.{is_name}
+use Rattle.mk_mail.specs.Building.{is_open_text}
+
+-- what is asked for; a name stands without its colon
+pub record PlainLetters : Type 0 where
+  -- `--rename`: each field of a name gets another
+  pub rename : Option (List ℕ × List ℕ)
+  -- `-a`: a field, unless one of its name is there
+  pub add_if : Option (List ℕ)
+  -- `-A`: a field
+  pub add : Option (List ℕ)
+  -- `-i`: a field, those of its name renamed
+  pub prefixed : Option (List ℕ)
+  -- `-I`: a field in the place of those of its name
+  pub only : Option (List ℕ)
+  -- `-u`: the first field of a name alone
+  pub first : Option (List ℕ)
+  -- `-U`: the last field of a name alone
+  pub last : Option (List ℕ)
+  -- `-x`: what the fields of a name hold
+  pub take : Option (List ℕ)
+  -- `-X`: the fields of a name
+  pub whole : Option (List ℕ)
+
+-- exactly one field, whose last line has no ending
+abbrev pub is_given_field : List ℕ → Bool
+is_given_field text = is_one_field (cut text) && is_open_text text
+
+-- only blanks stand behind the first colon; a line feed is none
+abbrev pub is_bare : List ℕ → Bool
+is_bare text = list_all is_blank (unwrap_or (behind colon text) [])
+
+-- a field that may be added by itself
+abbrev pub is_full_field : List ℕ → Bool
+is_full_field text = is_given_field text && not (is_bare text)
+
+abbrev pub are_names : List ℕ × List ℕ → Bool
+are_names p = is_name p.0 && is_name p.1
+
+-- what is asked for passes a test
+abbrev pub passes : {X : Type 0} → (X → Bool) → Option X → Bool
+passes test None = true
+passes test (Some x) = test x
+
+-- whether a letter that edits is there
+abbrev pub edits_some : PlainLetters → Bool
+edits_some l = is_some l.rename || is_some l.add_if || is_some l.add || is_some l.prefixed || is_some l.only || is_some l.first || is_some l.last
+
+-- `-x` and `-X` stand alone
+abbrev pub stand_together : PlainLetters → Bool
+stand_together l = not (is_some l.take && is_some l.whole) && not ((is_some l.take || is_some l.whole) && edits_some l)
+
+-- the values that letters may have
+abbrev pub have_values : PlainLetters → Bool
+have_values l =
+    passes are_names l.rename && passes is_full_field l.add_if && passes is_full_field l.add && passes is_given_field l.prefixed && passes is_given_field l.only
+    && passes is_name l.first && passes is_name l.last && passes is_name l.take && passes is_name l.whole
+
+-- letters that may be asked for
+abbrev pub are_allowed : PlainLetters → Bool
+are_allowed l = have_values l && stand_together l
+
+-- the name of a field, as it is spelt
+abbrev pub name_in : List ℕ → List ℕ
+name_in field = take (prefix_len is_name_byte field) field
+
+-- names are equal without regard to ASCII case
+abbrev pub same_name : List ℕ → List ℕ → Bool
+same_name name own = bytes_eq (str_to_ascii_lowercase own) (str_to_ascii_lowercase name)
+
+-- those of some names that are one, and the others
+abbrev pub those : List ℕ → List (List ℕ) → List (List ℕ)
+those name names = filter (same_name name) names
+
+abbrev pub others : List ℕ → List (List ℕ) → List (List ℕ)
+others name names = filter (λ own. not (same_name name own)) names
+
+-- what letters did so far: the names that the fields now have, and the edits
+pub record Work : Type 0 where
+  pub names : List (List ℕ)
+  pub edits : List PlainEdit
+
+-- the path of the root
+abbrev pub root_path : List ℕ
+root_path = 1 ∷ []
+
+-- each name that is one, made another
+abbrev pub replaced : List ℕ → (List ℕ → List ℕ) → List (List ℕ) → List (List ℕ)
+replaced name f names = map (λ own. if same_name name own then f own else own) names
+
+-- all fields of a name get another, which isn't the same
+abbrev pub renamed_all : List ℕ → List ℕ → List (List ℕ) → Work
+renamed_all old new names = record { names = replaced old (λ own. new) names; edits = map (λ own. RenameField root_path old 1 new) (those old names) }
+
+-- the greatest number that an edit can name a field by
+abbrev pub greatest_number : ℕ
+greatest_number = 4294967295
+
+-- the number behind a number, as far as numbers go
+abbrev pub next_number : ℕ → Option ℕ
+next_number k = if nat_lt k greatest_number then Some (k + 1) else None
+
+-- a name that is spelt in another way, where the first field of it has a number, or none has
+abbrev pub respelt : List ℕ → List ℕ → Option ℕ → List (List ℕ) → List (List ℕ)
+respelt old new number [] = []
+respelt old new None (own ∷ names) = own ∷ names
+respelt old new (Some k) (own ∷ names) = if same_name old own then new ∷ respelt old new (next_number k) names else own ∷ respelt old new (Some k) names
+
+-- the edits for that
+abbrev pub respelling : List ℕ → List ℕ → Option ℕ → List (List ℕ) → List PlainEdit
+respelling old new number [] = []
+respelling old new None (own ∷ names) = []
+respelling old new (Some k) (own ∷ names) =
+    if same_name old own then RenameField root_path old k new ∷ respelling old new (next_number k) names else respelling old new (Some k) names
+
+abbrev pub respelt_all : List ℕ → List ℕ → List (List ℕ) → Work
+respelt_all old new names = record { names = respelt old new (Some 1) names; edits = respelling old new (Some 1) names }
+
+-- `--rename`
+abbrev pub rename_letter : List ℕ × List ℕ → List (List ℕ) → Work
+rename_letter p names = if same_name p.0 p.1 then respelt_all p.0 p.1 names else renamed_all p.0 p.1 names
+
+-- nothing is done
+abbrev pub untouched : List (List ℕ) → Work
+untouched names = record { names = names; edits = [] }
+
+-- a field more at the end, with an ending
+abbrev pub added : Ending → List ℕ → List (List ℕ) → Work
+added eol field names = record { names = names ++ name_in field ∷ []; edits = AddField root_path false (field ++ ending_bytes eol) ∷ [] }
+
+-- `-a`
+abbrev pub add_if_letter : Ending → List ℕ → List (List ℕ) → Work
+add_if_letter eol field names = if list_any (same_name (name_in field)) names then untouched names else added eol field names
+
+-- a field more, if it isn't bare
+abbrev pub added_full : Ending → List ℕ → List (List ℕ) → Work
+added_full eol field names = if is_bare field then untouched names else added eol field names
+
+-- what is done after other work
+abbrev pub then_do : Work → (List (List ℕ) → Work) → Work
+then_do w f = record { names = (f w.names).names; edits = w.edits ++ (f w.names).edits }
+
+-- a name behind `Old-`
+abbrev pub old_name : List ℕ → List ℕ
+old_name own = codes "Old-" ++ own
+
+-- all fields of a name get theirs behind `Old-`
+abbrev pub made_old : List ℕ → List (List ℕ) → Work
+made_old name names = record { names = replaced name old_name names; edits = map (λ own. RenameField root_path name 1 (old_name own)) (those name names) }
+
+-- `-i`
+abbrev pub prefixed_letter : Ending → List ℕ → List (List ℕ) → Work
+prefixed_letter eol field names = then_do (made_old (name_in field) names) (added_full eol field)
+
+-- all fields of a name go
+abbrev pub removed_all : List ℕ → List (List ℕ) → Work
+removed_all name names = record { names = others name names; edits = map (λ own. RemoveField root_path name 1) (those name names) }
+
+-- `-I`
+abbrev pub only_letter : Ending → List ℕ → List (List ℕ) → Work
+only_letter eol field names = then_do (removed_all (name_in field) names) (added_full eol field)
+
+-- the names but for those that are one and aren't the first such
+abbrev pub with_first : List ℕ → List (List ℕ) → List (List ℕ)
+with_first name [] = []
+with_first name (own ∷ names) = own ∷ (if same_name name own then others name names else with_first name names)
+
+-- `-u`
+abbrev pub first_letter : List ℕ → List (List ℕ) → Work
+first_letter name names = record { names = with_first name names; edits = map (λ own. RemoveField root_path name 2) (drop 1 (those name names)) }
+
+-- `-U`, the last letter
+abbrev pub last_edits : List ℕ → List (List ℕ) → List PlainEdit
+last_edits name names = map (λ own. RemoveField root_path name 1) (drop 1 (those name names))
+
+-- a letter's work, where it is asked for
+abbrev pub letter : {X : Type 0} → (X → List (List ℕ) → Work) → Option X → Work → Work
+letter f None w = w
+letter f (Some x) w = then_do w (f x)
+
+abbrev pub last_of : Option (List ℕ) → List (List ℕ) → List PlainEdit
+last_of None names = []
+last_of (Some name) names = last_edits name names
+
+-- the work of all letters but the last, on fields of these names
+abbrev pub worked : Ending → PlainLetters → List (List ℕ) → Work
+worked eol l names =
+    letter first_letter l.first
+    (letter (only_letter eol) l.only
+    (letter (prefixed_letter eol) l.prefixed
+    (letter (added eol) l.add
+    (letter (add_if_letter eol) l.add_if
+    (letter rename_letter l.rename (untouched names))))))
+
+-- the edits of all letters, on fields of these names
+abbrev pub letter_edits : Ending → PlainLetters → List (List ℕ) → List PlainEdit
+letter_edits eol l names = (worked eol l names).edits ++ last_of l.last (worked eol l names).names
+
+-- the names of the root's fields
+abbrev pub root_names : List ℕ → List (List ℕ)
+root_names text = map (λ f. f.name) (section_fields (root_of (tree text)))
+
+-- the edits of letters on the document of a text, whose ending they give
+abbrev pub edits_of : List ℕ → PlainLetters → List PlainEdit
+edits_of text l = letter_edits (eol_of (cut text)) l (root_names text)

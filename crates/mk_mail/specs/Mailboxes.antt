@@ -1,0 +1,40 @@
+-- What the calls of a mailbox answer (own).
+use Rattle.std.specs.Prelude.{◌≡◌, ◌<◌, ◌≤◌, ◌+◌, ◌*◌, ◌++◌, ◌⊎◌, ℕ, true, List, [], ◌∷◌, Option, None, Some, length, slice_get}
+use Rattle.mk_line.specs.Lines.{TextLine, cut, is_open}
+use Rattle.mk_mail.specs.Devices.{IsFull}
+use Rattle.mk_mail.specs.Held.{Held}
+use Rattle.mk_mail.specs.Pieces.{mailbox_pieces}
+
+-- the first line has no ending
+abbrev pub IsOpenInFront : List TextLine → Type 0
+IsOpenInFront [] = ⊥
+IsOpenInFront (l ∷ ls) = is_open l.ending ≡ true
+
+-- a piece is the first message of what was kept and read, and what stands behind it is kept
+pub record IsNextPiece (piece : List ℕ) (old : Held) (read : List ℕ) (new : Held) : Type 0 where
+  pub whole : old.kept ++ read ≡ piece ++ new.kept
+  pub first : slice_get (mailbox_pieces (old.kept ++ read)) 0 ≡ Some piece
+  -- it stays so, whatever is read later
+  pub stays : (more : List ℕ) → (new.ended ≡ true → more ≡ []) → mailbox_pieces ((old.kept ++ read) ++ more) ≡ piece ∷ mailbox_pieces (new.kept ++ more)
+  pub some : 0 < length piece
+  pub all : new.kept ≡ [] → new.ended ≡ true
+  pub closed : IsOpenInFront (cut new.kept) → new.ended ≡ true
+
+-- nothing was kept or read, and the input has ended
+pub record IsOver (old : Held) (read : List ℕ) (new : Held) : Type 0 where
+  pub none : old.kept ++ read ≡ []
+  pub kept : new.kept ≡ []
+  pub ended : new.ended ≡ true
+
+-- a call that read these bytes answers a message, or that there is none
+abbrev pub Answers : Option (List ℕ) → Held → List ℕ → Held → Type 0
+Answers (Some piece) old read new = IsNextPiece piece old read new
+Answers None old read new = IsOver old read new
+
+-- the most bytes of one read
+abbrev pub chunk_bytes : ℕ
+chunk_bytes = 65536
+
+-- these bytes came from reads that were counted
+abbrev pub FitsReads : List ℕ → ℕ → ℕ → Type 0
+FitsReads read old new = (length read + chunk_bytes * old ≤ chunk_bytes * new) ⊎ IsFull new

@@ -1,0 +1,383 @@
+//! The fields of a message by their names, and the edits that letters make of them.
+ghost use Rattle.std.specs.Prelude.{◌≡◌, ◌≤◌, ◌++◌, Some, false, drop, length, map, IfOk, OnOk};
+ghost use Rattle.std.specs.List.{list_all, list_any, prefix_len};
+ghost use Rattle.mk_line.specs.Ascii.{is_blank as blank, is_name_byte as name_byte};
+ghost use Rattle.mk_line.specs.Lines.{ending_bytes};
+ghost use Rattle.mk_edit.specs.Edits.{AddField, RemoveField, RenameField};
+ghost use Rattle.mk_edit.specs.Views.{edit_of};
+ghost use Rattle.mk_mail.specs.LetterWork.{plain_edits, texts_of, work_of};
+ghost use Rattle.mk_mail.specs.Letters.{add_if_letter, added as added_field, added_full, first_letter, is_bare as bare, last_of, made_old, name_in, old_name, only_letter, others, prefixed_letter, removed_all, rename_letter, renamed_all as all_renamed, replaced, respelling, respelt, root_names, root_path, same_name, then_do, those, untouched, with_first};
+ghost use Rattle.mk_mail.specs.LetterViews.{bytes_in};
+
+use memchr::memchr;
+use mk_code::bytes_of;
+use mk_edit::Edit;
+use mk_head::each_field;
+use mk_line::{Ending, is_blank};
+use mk_tree::Doc;
+use std::alloc::{AllocError, Global};
+use std::mem;
+
+const COLON: u8 = b':';
+
+const FIRST_OF_NAME: u8 = b'!';
+
+const LAST_OF_NAME: u8 = b'~';
+
+const OLD: &[u8; 4] = b"Old-";
+
+/// The names that the fields of the root have, and the edits that led to them.
+#[derive(Drop)]
+pub(crate) struct Filter {
+    names: Vec<Vec<u8>>,
+    edits: Vec<Edit>,
+}
+
+impl Filter {
+    /// The fields as they stand in a document.
+    pub(crate) fn new(alloc: Global, doc: &Doc) -> Result<Filter, AllocError>
+        ensures { IfOk result (λ f. work_of f ≡ untouched (root_names doc.now)) }
+    {
+        Ok(Filter {
+            names: names_of(alloc, doc)?,
+            edits: Vec::new(alloc),
+        })
+    }
+
+    /// Gives the fields of a name another.
+    pub(crate) fn rename(&mut self, old: &[u8], new: &[u8]) -> Result<(), AllocError>
+        ensures { OnOk result (work_of self.new ≡ then_do (work_of self.old) (rename_letter (old.now, new.now))) }
+    {
+        let names = self.take_names();
+        self.names = if is_same(old, new) {
+            respell(names, &mut self.edits, old, new)?
+        } else {
+            rename_all(names, &mut self.edits, old, new)?
+        };
+        Ok(())
+    }
+
+    /// Adds a field, unless one of its name is there.
+    pub(crate) fn add_if(&mut self, field: &[u8], eol: Ending) -> Result<(), AllocError>
+        ensures { OnOk result (work_of self.new ≡ then_do (work_of self.old) (add_if_letter eol field.now)) }
+    {
+        if has_name(&self.names, name_of(field)) {
+            Ok(())
+        } else {
+            self.add(field, eol)
+        }
+    }
+
+    /// Adds a field behind the others.
+    pub(crate) fn add(&mut self, field: &[u8], eol: Ending) -> Result<(), AllocError>
+        ensures { OnOk result (work_of self.new ≡ then_do (work_of self.old) (added_field eol field.now)) }
+    {
+        let alloc = *self.names.allocator();
+        self.edits.push(addition(alloc, field, eol)?)?;
+        self.names.push(Vec::from_slice(alloc, name_of(field))?)?;
+        Ok(())
+    }
+
+    /// Puts `Old-` before the names of the fields of this name, and adds the field.
+    pub(crate) fn prefix(&mut self, field: &[u8], eol: Ending) -> Result<(), AllocError>
+        ensures { OnOk result (work_of self.new ≡ then_do (work_of self.old) (prefixed_letter eol field.now)) }
+    {
+        let names = self.take_names();
+        self.names = make_old(names, &mut self.edits, name_of(field))?;
+        self.add_full(field, eol)
+    }
+
+    /// Removes the fields of this name, and adds the field.
+    pub(crate) fn replace(&mut self, field: &[u8], eol: Ending) -> Result<(), AllocError>
+        ensures { OnOk result (work_of self.new ≡ then_do (work_of self.old) (only_letter eol field.now)) }
+    {
+        let names = self.take_names();
+        self.names = remove_all(names, &mut self.edits, name_of(field))?;
+        self.add_full(field, eol)
+    }
+
+    /// Removes the fields of a name but for the first.
+    pub(crate) fn keep_first(&mut self, name: &[u8]) -> Result<(), AllocError>
+        ensures { OnOk result (work_of self.new ≡ then_do (work_of self.old) (first_letter name.now)) }
+    {
+        let names = self.take_names();
+        self.names = remove_later(names, &mut self.edits, name, 2)?;
+        Ok(())
+    }
+
+    /// All edits, at last those that remove the fields of a name but for the last.
+    pub(crate) fn into_edits(mut self, last: &Option<Vec<u8>>) -> Result<Vec<Edit>, AllocError>
+        ensures { IfOk result (λ edits. plain_edits edits.items ≡ (work_of self).edits ++ last_of (bytes_in last.now) (work_of self).names) }
+    {
+        match last {
+            Some(name) => {
+                let names = self.take_names();
+                remove_later(names, &mut self.edits, name, 1)?;
+                Ok(self.edits)
+            }
+            None => Ok(self.edits),
+        }
+    }
+
+    // Adds a field that isn't bare.
+    fn add_full(&mut self, field: &[u8], eol: Ending) -> Result<(), AllocError>
+        ensures { OnOk result (work_of self.new ≡ then_do (work_of self.old) (added_full eol field.now)) }
+    {
+        if is_bare(field) {
+            Ok(())
+        } else {
+            self.add(field, eol)
+        }
+    }
+
+    fn take_names(&mut self) -> Vec<Vec<u8>>
+        ensures names { texts_of result.items ≡ texts_of self.old.names.items }
+        ensures edits { self.new.edits.items ≡ self.old.edits.items }
+    {
+        let none = Vec::new(*self.names.allocator());
+        mem::replace(&mut self.names, none)
+    }
+}
+
+// The names of the fields of the root.
+fn names_of(alloc: Global, doc: &Doc) -> Result<Vec<Vec<u8>>, AllocError>
+    ensures { IfOk result (λ names. texts_of names.items ≡ root_names doc.now) }
+{
+    let mut names = Vec::new(alloc);
+    for field in each_field(doc.root().head()) {
+        names.push(Vec::from_slice(alloc, field.name)?)?;
+    }
+    Ok(names)
+}
+
+// Gives the fields of a name another, which isn't the same.
+fn rename_all(
+    names: Vec<Vec<u8>>,
+    edits: &mut Vec<Edit>,
+    old: &[u8],
+    new: &[u8],
+) -> Result<Vec<Vec<u8>>, AllocError>
+    ensures names { IfOk result (λ r. texts_of r.items ≡ replaced old.now (λ own. new.now) (texts_of names.items)) }
+    ensures edits { OnOk result (plain_edits edits.new.items ≡ plain_edits edits.old.items ++ map (λ own. RenameField root_path old.now 1 new.now) (those old.now (texts_of names.items))) }
+{
+    let alloc = *names.allocator();
+    let mut list = Vec::new(alloc);
+    for own in names {
+        if is_same(old, &own) {
+            edits.push(renaming(alloc, old, 1, new)?)?;
+            list.push(Vec::from_slice(alloc, new)?)?;
+        } else {
+            list.push(own)?;
+        }
+    }
+    Ok(list)
+}
+
+// Spells a name in another way, as far as numbers can name its fields.
+fn respell(
+    names: Vec<Vec<u8>>,
+    edits: &mut Vec<Edit>,
+    old: &[u8],
+    new: &[u8],
+) -> Result<Vec<Vec<u8>>, AllocError>
+    ensures names { IfOk result (λ r. texts_of r.items ≡ respelt old.now new.now (Some 1) (texts_of names.items)) }
+    ensures edits { OnOk result (plain_edits edits.new.items ≡ plain_edits edits.old.items ++ respelling old.now new.now (Some 1) (texts_of names.items)) }
+{
+    let alloc = *names.allocator();
+    let mut list = Vec::new(alloc);
+    let mut next = Some(1u32);
+    for own in names {
+        match next {
+            Some(k) => {
+                if is_same(old, &own) {
+                    edits.push(renaming(alloc, old, k, new)?)?;
+                    list.push(Vec::from_slice(alloc, new)?)?;
+                    next = k.checked_add(1);
+                } else {
+                    list.push(own)?;
+                }
+            }
+            None => list.push(own)?,
+        }
+    }
+    Ok(list)
+}
+
+// Puts `Old-` before the names of the fields of a name.
+fn make_old(
+    names: Vec<Vec<u8>>,
+    edits: &mut Vec<Edit>,
+    name: &[u8],
+) -> Result<Vec<Vec<u8>>, AllocError>
+    ensures names { IfOk result (λ r. texts_of r.items ≡ replaced name.now old_name (texts_of names.items)) }
+    ensures edits { OnOk result (plain_edits edits.new.items ≡ plain_edits edits.old.items ++ map (λ own. RenameField root_path name.now 1 (old_name own)) (those name.now (texts_of names.items))) }
+{
+    let alloc = *names.allocator();
+    let mut list = Vec::new(alloc);
+    for own in names {
+        if is_same(name, &own) {
+            let old = behind_old(alloc, &own)?;
+            edits.push(renaming(alloc, name, 1, &old)?)?;
+            list.push(old)?;
+        } else {
+            list.push(own)?;
+        }
+    }
+    Ok(list)
+}
+
+// Removes the fields of a name.
+fn remove_all(
+    names: Vec<Vec<u8>>,
+    edits: &mut Vec<Edit>,
+    name: &[u8],
+) -> Result<Vec<Vec<u8>>, AllocError>
+    ensures names { IfOk result (λ r. texts_of r.items ≡ others name.now (texts_of names.items)) }
+    ensures edits { OnOk result (plain_edits edits.new.items ≡ plain_edits edits.old.items ++ map (λ own. RemoveField root_path name.now 1) (those name.now (texts_of names.items))) }
+{
+    let alloc = *names.allocator();
+    let mut list = Vec::new(alloc);
+    for own in names {
+        if is_same(name, &own) {
+            edits.push(removal(alloc, name, 1)?)?;
+        } else {
+            list.push(own)?;
+        }
+    }
+    Ok(list)
+}
+
+// Removes the fields of a name but for one, each by the number `k`.
+fn remove_later(
+    names: Vec<Vec<u8>>,
+    edits: &mut Vec<Edit>,
+    name: &[u8],
+    k: u32,
+) -> Result<Vec<Vec<u8>>, AllocError>
+    ensures names { IfOk result (λ r. texts_of r.items ≡ with_first name.now (texts_of names.items)) }
+    ensures edits { OnOk result (plain_edits edits.new.items ≡ plain_edits edits.old.items ++ map (λ own. RemoveField root_path name.now k) (drop 1 (those name.now (texts_of names.items)))) }
+{
+    let alloc = *names.allocator();
+    let mut list = Vec::new(alloc);
+    let mut is_there = false;
+    for own in names {
+        let same = is_same(name, &own);
+        if is_there & same {
+            edits.push(removal(alloc, name, k)?)?;
+        } else {
+            is_there |= same;
+            list.push(own)?;
+        }
+    }
+    Ok(list)
+}
+
+fn removal(alloc: Global, name: &[u8], k: u32) -> Result<Edit, AllocError>
+    ensures { IfOk result (λ edit. edit_of edit ≡ RemoveField root_path name.now k) }
+{
+    Ok(Edit::RemoveField {
+        path: root(alloc)?,
+        name: Vec::from_slice(alloc, name)?,
+        k,
+    })
+}
+
+fn renaming(alloc: Global, name: &[u8], k: u32, to: &[u8]) -> Result<Edit, AllocError>
+    ensures { IfOk result (λ edit. edit_of edit ≡ RenameField root_path name.now k to.now) }
+{
+    Ok(Edit::RenameField {
+        path: root(alloc)?,
+        name: Vec::from_slice(alloc, name)?,
+        k,
+        to: Vec::from_slice(alloc, to)?,
+    })
+}
+
+// A field more at the end, with an ending.
+fn addition(alloc: Global, field: &[u8], eol: Ending) -> Result<Edit, AllocError>
+    ensures { IfOk result (λ edit. edit_of edit ≡ AddField root_path false (field.now ++ ending_bytes eol)) }
+{
+    let mut text = Vec::from_slice(alloc, field)?;
+    text.extend_from_slice(bytes_of(eol))?;
+    Ok(Edit::AddField {
+        path: root(alloc)?,
+        top: false,
+        text,
+    })
+}
+
+fn root(alloc: Global) -> Result<Vec<u32>, AllocError>
+    ensures { IfOk result (λ path. path.items ≡ root_path) }
+{
+    Vec::from_slice(alloc, &[1])
+}
+
+// A name behind `Old-`.
+fn behind_old(alloc: Global, name: &[u8]) -> Result<Vec<u8>, AllocError>
+    ensures { IfOk result (λ old. old.items ≡ old_name name.now) }
+{
+    let mut old = Vec::from_slice(alloc, OLD)?;
+    old.extend_from_slice(name)?;
+    Ok(old)
+}
+
+fn has_name(names: &[Vec<u8>], name: &[u8]) -> bool
+    ensures { result ≡ list_any (same_name name.now) (texts_of names.now) }
+{
+    for own in names {
+        if is_same(name, own) {
+            return true;
+        }
+    }
+    false
+}
+
+// Whether two names are the same, without regard to ASCII case.
+fn is_same(name: &[u8], own: &[u8]) -> bool
+    ensures { result ≡ same_name name.now own.now }
+{
+    own.eq_ignore_ascii_case(name)
+}
+
+/// Whether only blanks stand behind the first colon.
+pub(crate) fn is_bare(field: &[u8]) -> bool
+    ensures { result ≡ bare field.now }
+{
+    match memchr(COLON, field) {
+        Some(place) => are_blank(&field[place + 1..]),
+        None => true,
+    }
+}
+
+fn are_blank(bytes: &[u8]) -> bool
+    ensures { result ≡ list_all blank bytes.now }
+{
+    for byte in bytes {
+        if !is_blank(*byte) {
+            return false;
+        }
+    }
+    true
+}
+
+/// Whether a byte may stand in a name (RFC 5322, 2.2).
+pub(crate) fn is_name_byte(byte: u8) -> bool
+    ensures { result ≡ name_byte byte }
+{
+    byte >= FIRST_OF_NAME && byte <= LAST_OF_NAME && byte != COLON
+}
+
+// The name that a field begins with.
+fn name_of(field: &[u8]) -> &[u8]
+    ensures { result.now ≡ name_in field.now }
+{
+    &field[..name_size(field)]
+}
+
+// How many bytes of a name stand in front.
+fn name_size(field: &[u8]) -> usize
+    ensures size { result ≡ prefix_len name_byte field.now }
+    ensures within { result ≤ length field.now }
+{
+    field.iter().take_while(|byte| is_name_byte(**byte)).count()
+}

@@ -1,0 +1,165 @@
+//! A message of a mailbox, gathered line by line.
+ghost use Rattle.std.specs.Prelude.{◌≡◌, ◌≢◌, ◌++◌, [], ◌∷◌, ℕ, List, false, length, drop, take, IfOk, IfNone, MatchOption, OnErr, OnOk};
+ghost use Rattle.mk_line.specs.Ascii.{carriage_return};
+ghost use Rattle.mk_line.specs.Lines.{ended, has_line_feed};
+ghost use Rattle.mk_mail.specs.Gathered.{IsGathered, IsLastSplit, IsOneLine, IsSplit, IsWholeLine};
+ghost use Rattle.mk_mail.specs.Pieces.{is_first};
+
+use mk_line::is_from_line;
+use std::alloc::{AllocError, Global};
+use std::mem;
+
+const LINE_FEED: u8 = b'\n';
+
+const CARRIAGE_RETURN: &[u8; 1] = b"\r";
+
+/// The lines of a message so far. Behind a place stands at most one line, of which it isn't known yet whether it begins
+/// the next message.
+#[derive(Drop)]
+pub(crate) struct Gathered {
+    pub(crate) bytes: Vec<u8>,
+    pub(crate) line: usize,
+    /// Whether the line before that place is empty.
+    pub(crate) behind_empty: bool,
+}
+
+impl Gathered {
+    /// No line of a message yet.
+    pub(crate) fn new(alloc: Global) -> Gathered
+        ensures bytes { result.bytes.items ≡ [] }
+        ensures gathered { IsGathered result.bytes.items result.line result.behind_empty }
+    {
+        Gathered {
+            bytes: Vec::new(alloc),
+            line: 0,
+            behind_empty: false,
+        }
+    }
+
+    // The line that isn't known yet.
+    fn undecided(&self) -> &[u8]
+        requires { IsGathered self.now.bytes.items self.now.line self.now.behind_empty }
+        ensures { result.now ≡ drop self.now.line self.now.bytes.items }
+    {
+        &self.bytes[self.line..]
+    }
+
+    /// Puts more of that line behind it.
+    pub(crate) fn take(&mut self, bytes: &[u8]) -> Result<(), AllocError>
+        requires gathered { IsGathered self.old.bytes.items self.old.line self.old.behind_empty }
+        requires undecided { has_line_feed (drop self.old.line self.old.bytes.items) ≡ false }
+        requires one_line { IsOneLine bytes.now }
+        ensures gathered { IsGathered self.new.bytes.items self.new.line self.new.behind_empty }
+        ensures ok { OnOk result (self.new.bytes.items ≡ self.old.bytes.items ++ bytes.now) }
+        ensures err { OnErr result (self.new.bytes.items ≡ self.old.bytes.items) }
+    {
+        self.bytes.extend_from_slice(bytes)
+    }
+
+    /// Where the line has come to its end: takes it to the message, or gives the message before it.
+    pub(crate) fn decide(&mut self) -> Result<Option<Vec<u8>>, AllocError>
+        requires { IsGathered self.old.bytes.items self.old.line self.old.behind_empty }
+        ensures piece { IfOk result (λ o. MatchOption o (self.new.bytes.items ≡ self.old.bytes.items) (λ piece. IsSplit piece.items self.old.bytes.items self.new.bytes.items)) }
+        ensures undecided { IfOk result (λ o. IfNone o (has_line_feed (drop self.new.line self.new.bytes.items) ≡ false)) }
+        ensures gathered { IsGathered self.new.bytes.items self.new.line self.new.behind_empty }
+        ensures err { OnErr result (self.new.bytes.items ≡ self.old.bytes.items) }
+    {
+        let Some(content) = whole_line(self.undecided()) else {
+            return Ok(None);
+        };
+        let begins = begins_message(self.behind_empty, content);
+        let is_empty = content.is_empty();
+        if begins {
+            return Ok(Some(self.split()?));
+        }
+        self.behind_empty = is_empty;
+        self.line = self.bytes.len();
+        Ok(None)
+    }
+
+    /// Gives the first message of what was gathered, where the input has ended.
+    pub(crate) fn last(&mut self) -> Result<Option<Vec<u8>>, AllocError>
+        requires gathered { IsGathered self.old.bytes.items self.old.line self.old.behind_empty }
+        requires undecided { has_line_feed (drop self.old.line self.old.bytes.items) ≡ false }
+        ensures piece { IfOk result (λ o. MatchOption o (self.old.bytes.items ≡ []) (λ piece. IsLastSplit piece.items self.old.bytes.items self.new.bytes.items)) }
+        ensures none { IfOk result (λ o. IfNone o (self.new.bytes.items ≡ [])) }
+        ensures gathered { IsGathered self.new.bytes.items self.new.line self.new.behind_empty }
+        ensures err { OnErr result (self.new.bytes.items ≡ self.old.bytes.items) }
+    {
+        if begins_message(self.behind_empty, self.undecided()) {
+            return Ok(Some(self.split()?));
+        }
+        if self.bytes.is_empty() {
+            return Ok(None);
+        }
+        Ok(Some(self.hand_out()))
+    }
+
+    // Gives the bytes before the line, and begins a message with the line, which isn't known then.
+    fn split(&mut self) -> Result<Vec<u8>, AllocError>
+        requires { IsGathered self.old.bytes.items self.old.line self.old.behind_empty }
+        ensures piece { IfOk result (λ piece. piece.items ≡ take self.old.line self.old.bytes.items) }
+        ensures rest { OnOk result (self.new.bytes.items ≡ drop self.old.line self.old.bytes.items) }
+        ensures gathered { IsGathered self.new.bytes.items self.new.line self.new.behind_empty }
+        ensures err { OnErr result (self.new.bytes.items ≡ self.old.bytes.items) }
+    {
+        let rest = Vec::from_slice(*self.bytes.allocator(), self.undecided())?;
+        self.bytes.truncate(self.line);
+        self.line = 0;
+        self.behind_empty = false;
+        Ok(mem::replace(&mut self.bytes, rest))
+    }
+
+    // Gives all that was gathered.
+    fn hand_out(&mut self) -> Vec<u8>
+        ensures all { result.items ≡ self.old.bytes.items }
+        ensures none { self.new.bytes.items ≡ [] }
+        ensures gathered { IsGathered self.new.bytes.items self.new.line self.new.behind_empty }
+    {
+        let none = Vec::new(*self.bytes.allocator());
+        self.line = 0;
+        self.behind_empty = false;
+        mem::replace(&mut self.bytes, none)
+    }
+}
+
+// The content of a line that has its line feed; none where there is no line feed.
+fn whole_line(line: &[u8]) -> Option<&[u8]>
+    requires { IsOneLine line.now }
+    ensures { MatchOption result (has_line_feed line.now ≡ false) (λ content. IsWholeLine line.now content.now) }
+{
+    match line {
+        [before @ .., last] => {
+            if *last == LINE_FEED {
+                Some(content_of(before))
+            } else {
+                None
+            }
+        }
+        [] => None,
+    }
+}
+
+// The content of the line of these bytes, which an LF follows.
+fn content_of(bytes: &[u8]) -> &[u8]
+    ensures { result.now ≡ (ended bytes.now).content }
+{
+    match before_return(bytes) {
+        Some(content) => content,
+        None => bytes,
+    }
+}
+
+// What stands before a CR at the end.
+fn before_return(bytes: &[u8]) -> Option<&[u8]>
+    ensures { MatchOption result ((front : List ℕ) → bytes.now ≢ front ++ carriage_return ∷ []) (λ front. bytes.now ≡ front.now ++ carriage_return ∷ []) }
+{
+    bytes.strip_suffix(CARRIAGE_RETURN)
+}
+
+// Whether a line begins a message, by whether the line before it is empty.
+fn begins_message(behind_empty: bool, content: &[u8]) -> bool
+    ensures { result ≡ is_first behind_empty content.now }
+{
+    behind_empty && is_from_line(content)
+}

@@ -1,0 +1,228 @@
+//! Letters: a filter of the fields of a message (own, after formail).
+ghost use Rattle.std.specs.Prelude.{◌≡◌, true, map, IfOk, OnOk};
+ghost use Rattle.std.specs.List.{list_all};
+ghost use Rattle.std.specs.Option.{option_map};
+ghost use Rattle.mk_line.specs.Ascii.{is_name_byte as name_byte};
+ghost use Rattle.mk_edit.specs.FieldEdits.{is_name as is_one_name};
+ghost use Rattle.mk_edit.specs.Views.{edit_of};
+ghost use Rattle.mk_mail.specs.Building.{is_open_text};
+ghost use Rattle.mk_mail.specs.LetterViews.{bytes_in, letters_of};
+ghost use Rattle.mk_mail.specs.LetterWork.{work_of};
+ghost use Rattle.mk_mail.specs.Letters.{add_if_letter, added, are_allowed, are_names, edits_of, edits_some as some_edits, first_letter, have_values as values_are_had, is_full_field as full_field, is_given_field as given_field, letter, only_letter, passes, prefixed_letter, rename_letter, stand_together as stand_so};
+
+use crate::filtering::{Filter, is_bare, is_name_byte};
+use mk_edit::Edit;
+use mk_head::one_field;
+use mk_line::{Ending, eol_of};
+use mk_tree::Doc;
+use std::alloc::{AllocError, Global};
+
+const LINE_FEED: &[u8; 1] = b"\n";
+
+/// What a filter of fields is asked for, each letter at most once. A name stands without its colon, a field without the
+/// ending of its last line. They work in this order, each on the fields that those before it left.
+#[derive(Debug, Drop)]
+pub struct Letters {
+    /// `--rename`: gives each field of the first name the second.
+    pub rename: Option<(Vec<u8>, Vec<u8>)>,
+    /// `-a`: adds a field, unless one of its name is there.
+    pub add_if: Option<Vec<u8>>,
+    /// `-A`: adds a field.
+    pub add: Option<Vec<u8>>,
+    /// `-i`: puts `Old-` before the names of the fields of this name, and adds the field unless it is bare.
+    pub prefixed: Option<Vec<u8>>,
+    /// `-I`: removes the fields of this name, and adds the field unless it is bare.
+    pub only: Option<Vec<u8>>,
+    /// `-u`: of the fields of a name keeps the first.
+    pub first: Option<Vec<u8>>,
+    /// `-U`: of the fields of a name keeps the last.
+    pub last: Option<Vec<u8>>,
+    /// `-x`: gives what stands behind the colons of the fields of a name; no edit.
+    pub take: Option<Vec<u8>>,
+    /// `-X`: gives the fields of a name; no edit.
+    pub whole: Option<Vec<u8>>,
+}
+
+impl Letters {
+    /// Whether these may be asked for together, with these values.
+    pub fn ok(&self) -> bool
+        ensures { result ≡ are_allowed (letters_of self.now) }
+    {
+        self.have_values() && self.stand_together()
+    }
+
+    // Whether each value may be had.
+    fn have_values(&self) -> bool
+        ensures { result ≡ values_are_had (letters_of self.now) }
+    {
+        may_rename(&self.rename)
+            && is_full_field(&self.add_if)
+            && is_full_field(&self.add)
+            && is_given_field(&self.prefixed)
+            && is_given_field(&self.only)
+            && is_name(&self.first)
+            && is_name(&self.last)
+            && is_name(&self.take)
+            && is_name(&self.whole)
+    }
+
+    // Whether no letter that gives fields stands beside another.
+    fn stand_together(&self) -> bool
+        ensures { result ≡ stand_so (letters_of self.now) }
+    {
+        let gives = self.take.is_some() || self.whole.is_some();
+        let gives_both = self.take.is_some() && self.whole.is_some();
+        !gives_both && !(gives && self.edits_some())
+    }
+
+    fn edits_some(&self) -> bool
+        ensures { result ≡ some_edits (letters_of self.now) }
+    {
+        self.rename.is_some()
+            || self.add_if.is_some()
+            || self.add.is_some()
+            || self.prefixed.is_some()
+            || self.only.is_some()
+            || self.first.is_some()
+            || self.last.is_some()
+    }
+}
+
+/// The edits of a document that letters ask for, one after another; all are at its root.
+pub fn field_edits(alloc: Global, doc: &Doc, letters: &Letters) -> Result<Vec<Edit>, AllocError>
+    requires { are_allowed (letters_of letters.now) ≡ true }
+    ensures { IfOk result (λ edits. map edit_of edits.items ≡ edits_of doc.now (letters_of letters.now)) }
+{
+    let eol = eol_of(doc.text());
+    let mut filter = Filter::new(alloc, doc)?;
+    rename(&mut filter, &letters.rename)?;
+    add_if(&mut filter, &letters.add_if, eol)?;
+    add(&mut filter, &letters.add, eol)?;
+    prefix(&mut filter, &letters.prefixed, eol)?;
+    replace(&mut filter, &letters.only, eol)?;
+    keep_first(&mut filter, &letters.first)?;
+    filter.into_edits(&letters.last)
+}
+
+// The work of `--rename`, where it is asked for; and so for each letter.
+fn rename(filter: &mut Filter, names: &Option<(Vec<u8>, Vec<u8>)>) -> Result<(), AllocError>
+    ensures { OnOk result (work_of filter.new ≡ letter rename_letter (option_map (λ p. (p.0.items, p.1.items)) names.now) (work_of filter.old)) }
+{
+    match names {
+        Some((old, new)) => filter.rename(old, new),
+        None => Ok(()),
+    }
+}
+
+fn add_if(filter: &mut Filter, field: &Option<Vec<u8>>, eol: Ending) -> Result<(), AllocError>
+    ensures { OnOk result (work_of filter.new ≡ letter (add_if_letter eol) (bytes_in field.now) (work_of filter.old)) }
+{
+    match field {
+        Some(field) => filter.add_if(field, eol),
+        None => Ok(()),
+    }
+}
+
+fn add(filter: &mut Filter, field: &Option<Vec<u8>>, eol: Ending) -> Result<(), AllocError>
+    ensures { OnOk result (work_of filter.new ≡ letter (added eol) (bytes_in field.now) (work_of filter.old)) }
+{
+    match field {
+        Some(field) => filter.add(field, eol),
+        None => Ok(()),
+    }
+}
+
+fn prefix(filter: &mut Filter, field: &Option<Vec<u8>>, eol: Ending) -> Result<(), AllocError>
+    ensures { OnOk result (work_of filter.new ≡ letter (prefixed_letter eol) (bytes_in field.now) (work_of filter.old)) }
+{
+    match field {
+        Some(field) => filter.prefix(field, eol),
+        None => Ok(()),
+    }
+}
+
+fn replace(filter: &mut Filter, field: &Option<Vec<u8>>, eol: Ending) -> Result<(), AllocError>
+    ensures { OnOk result (work_of filter.new ≡ letter (only_letter eol) (bytes_in field.now) (work_of filter.old)) }
+{
+    match field {
+        Some(field) => filter.replace(field, eol),
+        None => Ok(()),
+    }
+}
+
+fn keep_first(filter: &mut Filter, name: &Option<Vec<u8>>) -> Result<(), AllocError>
+    ensures { OnOk result (work_of filter.new ≡ letter first_letter (bytes_in name.now) (work_of filter.old)) }
+{
+    match name {
+        Some(name) => filter.keep_first(name),
+        None => Ok(()),
+    }
+}
+
+fn may_rename(names: &Option<(Vec<u8>, Vec<u8>)>) -> bool
+    ensures { result ≡ passes are_names (option_map (λ p. (p.0.items, p.1.items)) names.now) }
+{
+    match names {
+        Some((old, new)) => are_name(old) && are_name(new),
+        None => true,
+    }
+}
+
+fn is_full_field(field: &Option<Vec<u8>>) -> bool
+    ensures { result ≡ passes full_field (bytes_in field.now) }
+{
+    match field {
+        Some(field) => is_given(field) && !is_bare(field),
+        None => true,
+    }
+}
+
+fn is_given_field(field: &Option<Vec<u8>>) -> bool
+    ensures { result ≡ passes given_field (bytes_in field.now) }
+{
+    match field {
+        Some(field) => is_given(field),
+        None => true,
+    }
+}
+
+fn is_name(name: &Option<Vec<u8>>) -> bool
+    ensures { result ≡ passes is_one_name (bytes_in name.now) }
+{
+    match name {
+        Some(name) => are_name(name),
+        None => true,
+    }
+}
+
+// Whether a text is exactly one field, without the ending of its last line.
+fn is_given(text: &[u8]) -> bool
+    ensures { result ≡ given_field text.now }
+{
+    one_field(text) && is_open(text)
+}
+
+// Whether the last line of a text has no ending.
+fn is_open(text: &[u8]) -> bool
+    ensures { result ≡ is_open_text text.now }
+{
+    !text.is_empty() && !text.ends_with(LINE_FEED)
+}
+
+// Whether the bytes are a name (RFC 5322, 2.2).
+fn are_name(bytes: &[u8]) -> bool
+    ensures { result ≡ is_one_name bytes.now }
+{
+    !bytes.is_empty() && are_name_bytes(bytes)
+}
+
+fn are_name_bytes(bytes: &[u8]) -> bool
+    ensures { result ≡ list_all name_byte bytes.now }
+{
+    for byte in bytes {
+        if !is_name_byte(*byte) {
+            return false;
+        }
+    }
+    true
+}

@@ -1,0 +1,71 @@
+//! Mailboxes: messages one behind another, each begun by a From-line (own).
+ghost use Rattle.std.specs.Prelude.{◌≡◌, ◌++◌, ◌⊎◌, [], ℕ, List, true, false, IfErr, MatchResult, OnOk};
+ghost use Rattle.std.specs.Io.KnownBytes.{Consumes, IsAtEnd};
+ghost use Rattle.std.specs.Option.{option_map};
+ghost use Rattle.mk_mail.specs.Devices.{IsLong, Rose};
+ghost use Rattle.mk_mail.specs.Mailboxes.{Answers, FitsReads};
+
+use crate::device::Source;
+use crate::intake::Intake;
+use std::alloc::Global;
+use std::marker::Model;
+use thiserror::Error;
+
+/// Why there is no next message yet.
+#[derive(Clone, Copy, Debug, PartialEq, Eq, Error)]
+pub enum MailFault {
+    /// The source failed, or gave no end in 2,147,483,647 reads.
+    #[error("the mailbox can't be read")]
+    ReadFault,
+    /// Memory ran out.
+    #[error("out of memory")]
+    Memory,
+}
+
+/// The messages of a mailbox that a source gives, one after another. It is cut before each From-line that directly
+/// follows an empty line. No more than one message and a chunk of the input is kept.
+#[derive(Drop)]
+pub struct Mailbox {
+    intake: Intake,
+}
+
+impl Model for Mailbox {
+    ghost use Rattle.mk_mail.specs.Held.{Held};
+
+    ghost Value = { Held };
+
+    ghost use Rattle.mk_mail.specs.Intakes.{IsIntake, held_of};
+
+    ghost view = { λ m. held_of m.intake };
+
+    ghost invariant = { λ m. IsIntake m.intake };
+}
+
+impl Mailbox {
+    /// A mailbox of which nothing was read yet.
+    pub fn new(alloc: Global) -> Mailbox
+        ensures kept { result.kept ≡ [] }
+        ensures ended { result.ended ≡ false }
+    {
+        Mailbox {
+            intake: Intake::new(alloc),
+        }
+    }
+
+    /// The next message; none where the input has ended and all of it was given. After an error all that was read is
+    /// kept, and a later call goes on with it.
+    pub fn next<S: Source>(&mut self, r: &mut S) -> Result<Option<Vec<u8>>, MailFault>
+        ensures exact { (read : List ℕ) × Consumes (S.remaining r.old) (S.remaining r.new) read
+            × (self.old.ended ≡ true → read ≡ [])
+            × FitsReads read (S.read_count r.old) (S.read_count r.new)
+            × MatchResult result (λ o. Answers (option_map (λ v. v.items) o) self.old read self.new) (λ _. self.new.kept ≡ self.old.kept ++ read) }
+        ensures ended { self.new.ended ≡ true → (self.old.ended ≡ true) ⊎ IsAtEnd (S.remaining r.new) }
+        ensures stays { self.old.ended ≡ true → (self.new.ended ≡ true) × (S.remaining r.new ≡ S.remaining r.old) }
+        ensures fault { IfErr result (λ e. e ≡ MailFault.ReadFault
+            → Rose (S.failures r.old) (S.failures r.new) ⊎ IsLong (S.read_count r.old) (S.read_count r.new)) }
+        ensures well { OnOk result (S.failures r.new ≡ S.failures r.old) }
+        ensures memory { IfErr result (λ e. e ≡ MailFault.Memory → S.failures r.new ≡ S.failures r.old) }
+    {
+        self.intake.next(r)
+    }
+}
