@@ -27,11 +27,11 @@ closed_onto : (byte : ℕ) (ls : List TextLine) → AreSome ls → AreSome (onto
 closed_onto byte [] h = absurd h
 closed_onto byte (l ∷ ls) h = (chosen ((is_lf l.ending && is_nil l.content) && byte == 13) byte l h.0, h.1)
 
-some_closed : (ls : List TextLine) → AreSome ls → AreClosed ls
+pub some_closed : (ls : List TextLine) → AreSome ls → AreClosed ls
 some_closed [] h = absurd h
 some_closed (l ∷ ls) h = h
 
-one_more : (t : Bool) (byte : ℕ) (ls : List TextLine) → AreSome ls → AreSome (if t then text_line [] Lf ∷ ls else onto_first byte ls)
+pub one_more : (t : Bool) (byte : ℕ) (ls : List TextLine) → AreSome ls → AreSome (if t then text_line [] Lf ∷ ls else onto_first byte ls)
 one_more true byte ls h = (refl, some_closed ls h)
 one_more false byte ls h = closed_onto byte ls h
 

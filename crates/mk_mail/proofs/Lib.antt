@@ -5,6 +5,9 @@ pub mod BuiltLines
 pub mod PartTypes
 pub mod BuiltBodies
 pub mod FieldLines
+pub mod BuiltFields
+pub mod BuiltParts
+pub mod BuiltMessages
 pub mod Taken
 pub mod NamesKnown
 pub mod InTurn

@@ -87,7 +87,7 @@ behind_type (Some name) h =
     record { kept = name_kept name (name_quotes name q.1); others = pieces Plain (codes " name=\"" ++ (name ++ codes "\"")); apart = refl }
 
 -- a media type is its type, a slash, and its subtype
-parted : (media sub : List ℕ) → behind 47 media ≡ Some sub → media ≡ before 47 media ++ 47 ∷ sub
+pub parted : (media sub : List ℕ) → behind 47 media ≡ Some sub → media ≡ before 47 media ++ 47 ∷ sub
 parted [] sub h = absurd cc
 parted (c ∷ cs) sub h = elim (cases_Bool (c == 47)) [
   | inl e ↦

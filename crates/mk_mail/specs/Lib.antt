@@ -10,6 +10,7 @@ pub mod GivenNames
 pub mod Taken
 pub mod Building
 pub mod BuildViews
+pub mod BuiltLaws
 pub mod Pieces
 pub mod Held
 pub mod Mailboxes

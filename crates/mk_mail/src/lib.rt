@@ -6,6 +6,7 @@
 mod attaching;
 mod attachment;
 mod building;
+pub mod building_laws;
 mod device;
 mod extracting;
 mod filtering;

@@ -1,0 +1,244 @@
+-- A part of a built message: its lines, that they are read back, and what it holds.
+use Rattle.std.proofs.Common.{◌≡◌, ◌≢◌, ◌==◌, ◌&&◌, ◌++◌, if◌then◌else◌, ℕ, suc, Bool, true, false, not, Option, None, Some, List, [], ◌∷◌, refl, ap, sym, ◌∙◌, subst, append_assoc, codes, length, nat_le}
+use Rattle.std.proofs.lemmas.List.Folds.{list_all-append}
+use Rattle.std.specs.List.{list_all}
+use Rattle.mk_line.specs.declared.cutting.Ending.{Ending}
+use Rattle.mk_line.specs.declared.cutting.Ending.TheVariants.{Crlf, Lf, Missing}
+use Rattle.mk_line.specs.Lines.{TextLine, text_line, ending_bytes, is_nil, is_open, cut, text_of, has_line_feed, ends_in_return, IsLine, AreLines}
+use Rattle.mk_line.proofs.Cuts.{append_nil, lines_cut, text_append, text_cut}
+use Rattle.mk_head.specs.declared.encodings.Encoding.{Encoding}
+use Rattle.mk_head.specs.declared.encodings.Encoding.TheVariants.{Base64, Qp}
+use Rattle.mk_head.specs.Splits.{IsRun}
+use Rattle.mk_head.specs.Types.{field_value, header_encoding, type_by}
+use Rattle.mk_head.specs.Unfolding.{or_nothing}
+use Rattle.mk_head.specs.Values.{behind, before, is_token, is_token_byte}
+use Rattle.mk_code.specs.Contents.{IsContent}
+use Rattle.mk_code.specs.Base64Text.{base64_encoded}
+use Rattle.mk_code.specs.QuotedPrintable.{qp_encoded}
+use Rattle.mk_code.proofs.Base64Laws.{base64_back}
+use Rattle.mk_code.proofs.Base64Safe.{base64_safe}
+use Rattle.mk_code.proofs.NoReturns.{base64_others, is_other, qp_others}
+use Rattle.mk_code.proofs.QpBack.{qp_back}
+use Rattle.mk_code.proofs.QpSafe.{qp_safe}
+use Rattle.mk_tree.specs.Cutting.{Unmarked}
+use Rattle.mk_tree.specs.Kinds.{Leaf, kind, kind_at, kind_of}
+use Rattle.mk_tree.specs.Reading.{IsWellRead}
+use Rattle.mk_tree.specs.Sections.{Placed}
+use Rattle.mk_tree.specs.Tree.{Entity, leaf, print}
+use Rattle.mk_tree.proofs.Plugs.{unmarked_join}
+use Rattle.mk_edit.proofs.Bounds.{made_line}
+use Rattle.mk_mail.specs.Building.{Attached, attached, disposition_line, encoded, encoding_line, encoding_name, is_media, is_name, is_name_byte, is_name_or_none, is_single, is_subtype, longest, name_param, type_line}
+use Rattle.mk_mail.specs.BuiltLaws.{AreBytes}
+use Rattle.mk_mail.specs.Extracts.{IsContentOf}
+use Rattle.mk_mail.proofs.BuiltBodies.{AreFree, body_content, free_ended, free_unmarked, safe_free}
+use Rattle.mk_mail.proofs.BuiltLines.{AreClosed, closed_joined, cut_ended, lines_joined, some_closed}
+use Rattle.mk_mail.proofs.PartTypes.{both, differs, part_kind, parted}
+
+-- the lines of its fields
+abbrev pub part_type : Ending → List ℕ → Option (List ℕ) → TextLine
+part_type eol media name = text_line (codes "Content-Type: " ++ (media ++ name_param name)) eol
+
+abbrev pub disposition : Ending → Option (List ℕ) → List TextLine
+disposition eol None = []
+disposition eol (Some name) = text_line (codes "Content-Disposition: attachment; filename=\"" ++ (name ++ codes "\"")) eol ∷ []
+
+abbrev pub part_encoding : Ending → Bool → TextLine
+part_encoding eol base64 = text_line (codes "Content-Transfer-Encoding: " ++ encoding_name base64) eol
+
+abbrev pub part_fields : Ending → List ℕ → Option (List ℕ) → Bool → List TextLine
+part_fields eol media name base64 = part_type eol media name ∷ (disposition eol name ++ (part_encoding eol base64 ∷ []))
+
+abbrev pub empty_line : Ending → TextLine
+empty_line eol = text_line [] eol
+
+abbrev pub part_body : Ending → Attached → List TextLine
+part_body eol a = cut (encoded eol a ++ ending_bytes eol)
+
+-- the part as an entity
+abbrev pub part_entity : Ending → Attached → Entity
+part_entity eol a = leaf (record { fields = part_fields eol a.media a.name a.base64; separator = Some (empty_line eol) }) (part_body eol a)
+
+without_name : (t m e c n bytes : List ℕ)
+    → (((t ++ (m ++ [])) ++ e) ++ (((c ++ n) ++ e) ++ (([] ++ e) ++ []))) ++ (bytes ++ e)
+    ≡ ((t ++ (m ++ ([] ++ e))) ++ ([] ++ ((c ++ (n ++ e)) ++ (e ++ bytes)))) ++ e
+without_name t m e c n bytes = simp append_assoc
+
+with_name : (t m p name q e d c n bytes : List ℕ)
+    → (((t ++ (m ++ (p ++ (name ++ q)))) ++ e) ++ (((d ++ (name ++ q)) ++ e) ++ (((c ++ n) ++ e) ++ (([] ++ e) ++ [])))) ++ (bytes ++ e)
+    ≡ ((t ++ (m ++ ((p ++ (name ++ q)) ++ e))) ++ ((d ++ (name ++ (q ++ e))) ++ ((c ++ (n ++ e)) ++ (e ++ bytes)))) ++ e
+with_name t m p name q e d c n bytes = simp append_assoc
+
+-- its text
+text_by : (eol : Ending) (media : List ℕ) (name : Option (List ℕ)) (base64 : Bool) (bytes body : List ℕ) → body ≡ bytes ++ ending_bytes eol
+    → text_of (part_fields eol media name base64 ++ (empty_line eol ∷ [])) ++ body
+    ≡ ((codes "Content-Type: " ++ (media ++ (name_param name ++ ending_bytes eol))) ++ (disposition_line eol name ++ (encoding_line eol base64 ++ (ending_bytes eol ++ bytes)))) ++ ending_bytes eol
+text_by eol media None base64 bytes body h =
+    rw h (without_name (codes "Content-Type: ") media (ending_bytes eol) (codes "Content-Transfer-Encoding: ") (encoding_name base64) bytes)
+text_by eol media (Some name) base64 bytes body h =
+    rw h (with_name (codes "Content-Type: ") media (codes "; name=\"") name (codes "\"") (ending_bytes eol) (codes "Content-Disposition: attachment; filename=\"") (codes "Content-Transfer-Encoding: ") (encoding_name base64) bytes)
+
+pub part_text : (eol : Ending) (a : Attached) → text_of (print (part_entity eol a)) ≡ attached eol a ++ ending_bytes eol
+part_text eol a =
+    text_append (part_fields eol a.media a.name a.base64 ++ (empty_line eol ∷ [])) (part_body eol a)
+    ∙ text_by eol a.media a.name a.base64 (encoded eol a) (text_of (part_body eol a)) (text_cut (encoded eol a ++ ending_bytes eol))
+
+-- bytes that are no part of an ending
+abbrev is_inner : ℕ → Bool
+is_inner byte = not (byte == 10) && not (byte == 13)
+
+inner_all : (f : ℕ → Bool) (bytes : List ℕ) → f 10 ≡ false → f 13 ≡ false → list_all f bytes ≡ true → list_all is_inner bytes ≡ true
+inner_all f [] h k e = refl
+inner_all f (byte ∷ bytes) h k e =
+    let p = both (f byte) (list_all f bytes) e in
+    rw (differs f byte 10 p.0 h, differs f byte 13 p.0 k) (inner_all f bytes h k p.1)
+
+inner_join : (xs ys : List ℕ) → list_all is_inner xs ≡ true → list_all is_inner ys ≡ true → list_all is_inner (xs ++ ys) ≡ true
+inner_join xs ys h k = list_all-append is_inner xs ys ∙ rw (h, k) refl
+
+not_true : (t : Bool) → not t ≡ true → t ≡ false
+not_true true e = absurd cc
+not_true false e = refl
+
+inner_feed : (bytes : List ℕ) → list_all is_inner bytes ≡ true → has_line_feed bytes ≡ false
+inner_feed [] h = refl
+inner_feed (byte ∷ bytes) h =
+    let p = both (is_inner byte) (list_all is_inner bytes) h in
+    rw (not_true (byte == 10) (both (not (byte == 10)) (not (byte == 13)) p.0).0) (inner_feed bytes p.1)
+
+inner_return : (bytes : List ℕ) → list_all is_inner bytes ≡ true → ends_in_return bytes ≡ false
+inner_return [] h = refl
+inner_return (byte ∷ []) h = let p = both (is_inner byte) true h in not_true (byte == 13) (both (not (byte == 10)) (not (byte == 13)) p.0).1
+inner_return (byte ∷ next ∷ bytes) h = inner_return (next ∷ bytes) (both (is_inner byte) (list_all is_inner (next ∷ bytes)) h).1
+
+pub inner_line : (eol : Ending) (content : List ℕ) → is_open eol ≡ false → list_all is_inner content ≡ true → IsLine (text_line content eol)
+inner_line eol content c h = made_line eol content c (inner_feed content h) (inner_return content h)
+
+-- the bytes of a media type and of a name
+media_inner : (media : List ℕ) → is_media media ≡ true → list_all is_inner media ≡ true
+media_inner media h =
+    let p = both (nat_le (length media) longest) (is_token (before 47 media) && (is_subtype (behind 47 media) && is_single (before 47 media))) h in
+    let q = both (is_token (before 47 media)) (is_subtype (behind 47 media) && is_single (before 47 media)) p.1 in
+    let r = both (is_subtype (behind 47 media)) (is_single (before 47 media)) q.1 in
+    by_subtype (behind 47 media) refl (token_inner (before 47 media) q.0) r.0
+  where
+    token_inner : (bytes : List ℕ) → is_token bytes ≡ true → list_all is_inner bytes ≡ true
+    token_inner bytes t = inner_all is_token_byte bytes refl refl (both (not (is_nil bytes)) (list_all is_token_byte bytes) t).1
+
+    by_subtype : (o : Option (List ℕ)) → behind 47 media ≡ o → list_all is_inner (before 47 media) ≡ true → is_subtype o ≡ true → list_all is_inner media ≡ true
+    by_subtype None e t s = absurd cc
+    by_subtype (Some sub) e t s = ap (list_all is_inner) (parted media sub e) ∙ inner_join (before 47 media) (47 ∷ sub) t (token_inner sub s)
+
+name_inner : (name : List ℕ) → is_name name ≡ true → list_all is_inner name ≡ true
+name_inner name h =
+    let p = both (not (is_nil name)) (nat_le (length name) longest && list_all is_name_byte name) h in
+    inner_all is_name_byte name refl refl (both (nat_le (length name) longest) (list_all is_name_byte name) p.1).1
+
+param_inner : (name : Option (List ℕ)) → is_name_or_none name ≡ true → list_all is_inner (name_param name) ≡ true
+param_inner None h = refl
+param_inner (Some name) h = inner_join (codes "; name=\"") (name ++ codes "\"") refl (inner_join name (codes "\"") (name_inner name h) refl)
+
+-- its lines are lines, and none is open
+pub record AreFull (ls : List TextLine) : Type 0 where
+  pub lines : AreLines ls
+  pub closed : AreClosed ls
+
+pub full_join : (xs ys : List TextLine) → AreFull xs → AreFull ys → AreFull (xs ++ ys)
+full_join xs ys h k = record { lines = lines_joined xs ys h.lines h.closed k.lines; closed = closed_joined xs ys h.closed k.closed }
+
+pub full_one : (content : List ℕ) (eol : Ending) → is_open eol ≡ false → IsLine (text_line content eol) → AreFull (text_line content eol ∷ [])
+full_one content eol c h = record { lines = (h, (λ _. refl), tt); closed = (c, tt) }
+
+pub full_none : AreFull []
+full_none = record { lines = tt; closed = tt }
+
+disposition_full : (eol : Ending) (name : Option (List ℕ)) → is_open eol ≡ false → is_name_or_none name ≡ true → AreFull (disposition eol name)
+disposition_full eol None c h = full_none
+disposition_full eol (Some name) c h =
+    let content = codes "Content-Disposition: attachment; filename=\"" ++ (name ++ codes "\"") in
+    full_one content eol c (inner_line eol content c (inner_join (codes "Content-Disposition: attachment; filename=\"") (name ++ codes "\"") refl (inner_join name (codes "\"") (name_inner name h) refl)))
+
+encoding_inner : (base64 : Bool) → list_all is_inner (codes "Content-Transfer-Encoding: " ++ encoding_name base64) ≡ true
+encoding_inner true = refl
+encoding_inner false = refl
+
+fields_full : (eol : Ending) (media : List ℕ) (name : Option (List ℕ)) (base64 : Bool) → is_open eol ≡ false → is_media media ≡ true → is_name_or_none name ≡ true → AreFull (part_fields eol media name base64)
+fields_full eol media name base64 c h n =
+    let content = codes "Content-Type: " ++ (media ++ name_param name) in
+    full_join (part_type eol media name ∷ []) (disposition eol name ++ (part_encoding eol base64 ∷ []))
+    (full_one content eol c (inner_line eol content c (inner_join (codes "Content-Type: ") (media ++ name_param name) refl (inner_join media (name_param name) (media_inner media h) (param_inner name n)))))
+    (full_join (disposition eol name) (part_encoding eol base64 ∷ []) (disposition_full eol name c n)
+    (full_one (codes "Content-Transfer-Encoding: " ++ encoding_name base64) eol c (inner_line eol (codes "Content-Transfer-Encoding: " ++ encoding_name base64) c (encoding_inner base64))))
+
+pub part_full : (eol : Ending) (a : Attached) → is_open eol ≡ false → is_media a.media ≡ true → is_name_or_none a.name ≡ true → AreLines (print (part_entity eol a)) × AreClosed (print (part_entity eol a))
+part_full eol a c h n =
+    let head = full_join (part_fields eol a.media a.name a.base64) (empty_line eol ∷ []) (fields_full eol a.media a.name a.base64 c h n) (full_one [] eol c (inner_line eol [] c refl)) in
+    let body : AreFull (part_body eol a) = record { lines = lines_cut (encoded eol a ++ ending_bytes eol); closed = some_closed (part_body eol a) (cut_ended (encoded eol a) eol c) } in
+    let all = full_join (part_fields eol a.media a.name a.base64 ++ (empty_line eol ∷ [])) (part_body eol a) head body in
+    (all.lines, all.closed)
+
+-- no line of it is a mark
+fields_free : (eol : Ending) (media : List ℕ) (name : Option (List ℕ)) (base64 : Bool) → AreFree (part_fields eol media name base64 ++ (empty_line eol ∷ []))
+fields_free eol media None base64 = (refl, (refl, (refl, tt)))
+fields_free eol media (Some name) base64 = (refl, (refl, (refl, (refl, tt))))
+
+not_missing : (eol : Ending) → is_open eol ≡ false → eol ≢ Missing
+not_missing Crlf c e = cc
+not_missing Lf c e = cc
+not_missing Missing c e = cc
+
+encoded_by : (t : Bool) (P : List ℕ → Type 0) (x y : List ℕ) → (t ≡ true → P x) → (t ≡ false → P y) → P (if t then x else y)
+encoded_by true P x y h k = h refl
+encoded_by false P x y h k = k refl
+
+pub part_free : (b : List ℕ) (eol : Ending) (a : Attached) → is_open eol ≡ false → AreBytes a.text → Unmarked b (print (part_entity eol a))
+part_free b eol a c small =
+    let is = not_missing eol c in
+    let safe : AreFree (cut (encoded eol a)) =
+    encoded_by a.base64 (λ xs. AreFree (cut xs)) (base64_encoded eol a.text) (qp_encoded eol a.text) (λ _. safe_free (cut (base64_encoded eol a.text)) (base64_safe eol a.text is small)) (λ _. safe_free (cut (qp_encoded eol a.text)) (qp_safe eol a.text is small)) in
+    unmarked_join b (part_fields eol a.media a.name a.base64 ++ (empty_line eol ∷ [])) (part_body eol a)
+    (free_unmarked b (part_fields eol a.media a.name a.base64 ++ (empty_line eol ∷ [])) (fields_free eol a.media a.name a.base64))
+    (free_unmarked b (part_body eol a) (free_ended (encoded eol a) eol c safe))
+
+-- what its fields say
+type_value : (eol : Ending) (media : List ℕ) (name : Option (List ℕ)) (base64 : Bool) → field_value (codes "Content-Type") (part_fields eol media name base64) ≡ Some (32 ∷ (media ++ name_param name))
+type_value eol media None base64 = ap (λ cs. Some (or_nothing (behind 58 cs))) (append_nil (codes "Content-Type: " ++ (media ++ name_param None)))
+type_value eol media (Some name) base64 = ap (λ cs. Some (or_nothing (behind 58 cs))) (append_nil (codes "Content-Type: " ++ (media ++ name_param (Some name))))
+
+-- the encoding that is named
+abbrev coding : Bool → Encoding
+coding true = Base64
+coding false = Qp
+
+says_encoding : (eol : Ending) (media : List ℕ) (name : Option (List ℕ)) (base64 : Bool) → header_encoding (part_fields eol media name base64) ≡ coding base64
+says_encoding eol media None true = refl
+says_encoding eol media None false = refl
+says_encoding eol media (Some name) true = refl
+says_encoding eol media (Some name) false = refl
+
+fields_kind : (digest : Bool) (eol : Ending) (media : List ℕ) (name : Option (List ℕ)) (base64 : Bool) → is_media media ≡ true → is_name_or_none name ≡ true → kind (part_fields eol media name base64) digest ≡ Leaf
+unfolding kind
+fields_kind digest eol media name base64 h n =
+    ap (λ o. kind_of (type_by digest o) (header_encoding (part_fields eol media name base64))) (type_value eol media name base64)
+    ∙ part_kind digest (header_encoding (part_fields eol media name base64)) media name h n
+
+fields_run : (eol : Ending) (media : List ℕ) (name : Option (List ℕ)) (base64 : Bool) → IsRun false (part_fields eol media name base64)
+fields_run eol media None base64 = (refl, (refl, tt))
+fields_run eol media (Some name) base64 = (refl, (refl, (refl, tt)))
+
+-- it is read back
+pub part_read : (n : ℕ) (digest : Bool) (eol : Ending) (a : Attached) → is_media a.media ≡ true → is_name_or_none a.name ≡ true → IsWellRead (suc n) digest (part_entity eol a)
+part_read n digest eol a h k = (record { run = fields_run eol a.media a.name a.base64; next = refl }, fields_kind digest eol a.media a.name a.base64 h k)
+
+no_returns : (eol : Ending) (a : Attached) → AreBytes a.text → eol ≡ Lf → list_all is_other (encoded eol a) ≡ true
+no_returns eol a small e =
+    subst (λ l. list_all is_other (encoded l a) ≡ true) (sym e)
+    (encoded_by a.base64 (λ xs. list_all is_other xs ≡ true) (base64_encoded Lf a.text) (qp_encoded Lf a.text) (λ _. base64_others a.text small) (λ _. qp_others a.text))
+
+content_by : (eol : Ending) (base64 : Bool) (text : List ℕ) → is_open eol ≡ false → AreBytes text → IsContent (coding base64) (if base64 then base64_encoded eol text else qp_encoded eol text) text
+content_by eol true text c small = base64_back eol text (not_missing eol c) small
+content_by eol false text c small = sym (qp_back eol text (not_missing eol c) small)
+
+-- the content of the part, where lines stand behind it, is what was attached
+pub part_content : (start : ℕ) (digest : Bool) (eol : Ending) (a : Attached) → is_open eol ≡ false → AreBytes a.text → IsContentOf (record { start = start; followed = true; digest = digest; entity = part_entity eol a }) a.text
+part_content start digest eol a c small =
+    rw (says_encoding eol a.media a.name a.base64, body_content (encoded eol a) eol c (no_returns eol a small)) (content_by eol a.base64 a.text c small)

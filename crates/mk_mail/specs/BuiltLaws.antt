@@ -1,0 +1,33 @@
+-- A message that was built gives back what was attached (own).
+use Rattle.std.specs.Prelude.{◌≡◌, ◌≢◌, ◌<◌, ℕ, Option, None, Some, List, [], ◌∷◌, length, slice_index}
+use Rattle.mk_line.specs.declared.cutting.Ending.{Ending}
+use Rattle.mk_line.specs.declared.cutting.Ending.TheVariants.{Missing}
+use Rattle.mk_head.specs.Fields.{counted}
+use Rattle.mk_tree.specs.declared.shapes.Kind.TheVariants.{Multi}
+use Rattle.mk_tree.specs.Documents.{Document, tree}
+use Rattle.mk_tree.specs.Forms.{kind_in}
+use Rattle.mk_tree.specs.Sections.{Placed, children, section_at}
+use Rattle.mk_mail.specs.Building.{Attached, build_refusal, built}
+use Rattle.mk_mail.specs.Extracts.{IsExtract}
+
+-- all of them are bytes
+abbrev pub AreBytes : List ℕ → Type 0
+AreBytes bytes = (k : ℕ) → slice_index bytes k < 256
+
+-- so are the texts of all parts
+abbrev pub HaveBytes : List Attached → Type 0
+HaveBytes [] = Unit {0}
+HaveBytes (a ∷ parts) = AreBytes a.text × HaveBytes parts
+
+-- section 1 is a multipart with as many parts, and what is extracted at 1.k is the k-th text
+pub record GivesBack (parts : List Attached) (t : Document) : Type 0 where
+  pub root : Placed
+  pub found : section_at (1 ∷ []) t ≡ Some root
+  pub multi : kind_in root.entity ≡ Multi
+  pub count : length (children root) ≡ length parts
+  pub texts : (k : ℕ) (a : Attached) → counted k parts ≡ Some a → IsExtract (section_at (1 ∷ k ∷ []) t) a.text
+
+-- so does each message that is built
+abbrev pub BuiltMessagesGiveBack : Type 0
+BuiltMessagesGiveBack = (eol : Ending) (fields : List (List ℕ)) (parts : List Attached) (boundary : List ℕ) → eol ≢ Missing → HaveBytes parts
+    → build_refusal fields parts boundary ≡ None → GivesBack parts (tree (built eol fields parts boundary))
