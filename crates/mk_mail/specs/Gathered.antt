@@ -9,6 +9,7 @@ use Rattle.mk_mail.specs.Pieces.{front, later, mailbox_pieces}
 abbrev pub front_of : Bool → List ℕ → List ℕ
 front_of behind_empty text = text_of (front behind_empty (cut text))
 
+-- the messages behind the one that a text goes on with
 abbrev pub later_of : Bool → List ℕ → List (List ℕ)
 later_of behind_empty text = map text_of (later behind_empty (cut text))
 

@@ -8,6 +8,7 @@ use Rattle.mk_mail.specs.Held.{Held, unread}
 abbrev pub kept_by : Intake → List ℕ
 kept_by i = i.gathered.bytes.items ++ unread i.chunk.items i.at i.filled
 
+-- an intake in memory as what it holds
 abbrev pub held_of : Intake → Held
 held_of i = record { kept = kept_by i; ended = i.ended }
 

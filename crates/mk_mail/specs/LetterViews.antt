@@ -5,6 +5,7 @@ use Rattle.std.specs.Option.{option_map}
 use Rattle.mk_mail.specs.declared.letters.Letters.{Letters}
 use Rattle.mk_mail.specs.Letters.{PlainLetters}
 
+-- the bytes of a text, where there is one
 abbrev pub bytes_in : Option (Vec ℕ) → Option (List ℕ)
 bytes_in o = option_map (λ v. v.items) o
 

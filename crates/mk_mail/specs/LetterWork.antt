@@ -7,9 +7,11 @@ use Rattle.mk_edit.specs.Views.{edit_of}
 use Rattle.mk_mail.specs.declared.filtering.Filter.{Filter}
 use Rattle.mk_mail.specs.Letters.{Work}
 
+-- texts in memory as lists
 abbrev pub texts_of : List (Vec ℕ) → List (List ℕ)
 texts_of vs = map (λ v. v.items) vs
 
+-- edits in memory as plain edits
 abbrev pub plain_edits : List Edit → List PlainEdit
 plain_edits es = map edit_of es
 

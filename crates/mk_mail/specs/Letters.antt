@@ -46,6 +46,7 @@ is_bare text = list_all is_blank (unwrap_or (behind colon text) [])
 abbrev pub is_full_field : List ℕ → Bool
 is_full_field text = is_given_field text && not (is_bare text)
 
+-- both are names
 abbrev pub are_names : List ℕ × List ℕ → Bool
 are_names p = is_name p.0 && is_name p.1
 
@@ -84,6 +85,7 @@ same_name name own = bytes_eq (str_to_ascii_lowercase own) (str_to_ascii_lowerca
 abbrev pub those : List ℕ → List (List ℕ) → List (List ℕ)
 those name names = filter (same_name name) names
 
+-- the names that are not that one
 abbrev pub others : List ℕ → List (List ℕ) → List (List ℕ)
 others name names = filter (λ own. not (same_name name own)) names
 
@@ -125,6 +127,7 @@ respelling old new None (own ∷ names) = []
 respelling old new (Some k) (own ∷ names) =
     if same_name old own then RenameField root_path old k new ∷ respelling old new (next_number k) names else respelling old new (Some k) names
 
+-- the names and the edits for that
 abbrev pub respelt_all : List ℕ → List ℕ → List (List ℕ) → Work
 respelt_all old new names = record { names = respelt old new (Some 1) names; edits = respelling old new (Some 1) names }
 
@@ -190,6 +193,7 @@ abbrev pub letter : {X : Type 0} → (X → List (List ℕ) → Work) → Option
 letter f None w = w
 letter f (Some x) w = then_do w (f x)
 
+-- the edits of the last letter, where it is asked for
 abbrev pub last_of : Option (List ℕ) → List (List ℕ) → List PlainEdit
 last_of None names = []
 last_of (Some name) names = last_edits name names

@@ -16,6 +16,7 @@ pub record Call : Type 0 where
   pub read : List ℕ
   pub reply : Reply
 
+-- what one call answers, with what it read and what is kept then
 abbrev pub IsReply : Reply → Held → List ℕ → Held → Type 0
 IsReply (message piece) old read new = IsNextPiece piece old read new
 IsReply none old read new = IsOver old read new
@@ -41,6 +42,7 @@ unread_mailbox = record { kept = []; ended = false }
 abbrev pub read_by : List Call → List ℕ
 read_by calls = flat_map (λ c. c.read) calls
 
+-- the message that a call gave, if it gave one
 abbrev pub message_of : Reply → List (List ℕ)
 message_of (message piece) = piece ∷ []
 message_of none = []
