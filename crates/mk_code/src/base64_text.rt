@@ -1,9 +1,10 @@
 //! Base64 as a transfer encoding (RFC 2045, 6.8).
 ghost use Rattle.std.specs.Prelude.{◌≡◌, ◌≢◌, ◌<◌, ◌≤◌, ◌==◌, ◌++◌, length, not, filter, take_while, IfOk, IfErr, OnOk};
 ghost use Rattle.std.specs.List.{prefix_len};
-ghost use Rattle.mk_line.specs.Lines.{ending_bytes};
+ghost use Rattle.base64.specs.GeneralPurpose.{encode_of};
+ghost use Rattle.base64.specs.Engines.{standard};
 ghost use Rattle.mk_code.specs.Ascii.{equals_sign, is_letter as letter};
-ghost use Rattle.mk_code.specs.Base64Text.{IsBase64Of, letters as letters_of, lined, base64_encoded};
+ghost use Rattle.mk_code.specs.Base64Text.{IsBase64Of, letters as letters_of, base64_encoded};
 ghost use Rattle.mk_code.specs.Contents.{IsRefused};
 ghost use Rattle.mk_head.specs.declared.encodings.Encoding.TheVariants.{Base64};
 
@@ -20,16 +21,47 @@ const EQUALS: u8 = b'=';
 /// The most characters of a line.
 const WIDEST: usize = 76;
 
+/// How many bytes they stand for.
+const LINE_BYTES: usize = 57;
+
 /// Padded base64 in lines of 76 characters, with the ending between two lines and none after the last.
 pub fn b64_encode(alloc: Global, bytes: &[u8], eol: Ending) -> Result<Vec<u8>, AllocError>
     requires { eol ≢ Ending.Missing }
     ensures { IfOk result (λ text. text.items ≡ base64_encoded eol bytes.now) }
 {
-    let letters = STANDARD.encode(alloc, bytes)?;
-    let size = letters.len();
-    let mut out = Vec::with_capacity(alloc, size.saturating_add(size / WIDEST * 2))?;
-    push_lines(&mut out, letters.as_bytes(), bytes_of(eol))?;
-    Ok(out)
+    let mut text = Vec::new(alloc);
+    push_b64(&mut text, bytes, eol)?;
+    Ok(text)
+}
+
+/// Appends what `b64_encode` gives to a text.
+pub fn push_b64(text: &mut Vec<u8>, bytes: &[u8], eol: Ending) -> Result<(), AllocError>
+    requires { eol ≢ Ending.Missing }
+    ensures { OnOk result (text.new.items ≡ text.old.items ++ base64_encoded eol bytes.now) }
+{
+    let size = bytes.len() / 3 * 4;
+    text.reserve(size.saturating_add(size / WIDEST * 2))?;
+    let ending = bytes_of(eol);
+    let mut rest = bytes;
+    while rest.len() > LINE_BYTES {
+        let (line, more) = rest.split_at(LINE_BYTES);
+        push_letters(text, line)?;
+        text.extend_from_slice(ending)?;
+        rest = more;
+    }
+    push_letters(text, rest)
+}
+
+// Appends the letters of one line.
+fn push_letters(text: &mut Vec<u8>, line: &[u8]) -> Result<(), AllocError>
+    requires { length line.now ≤ 57 }
+    ensures { OnOk result (text.new.items ≡ text.old.items ++ encode_of standard line.now) }
+{
+    let mut letters = [0u8; WIDEST];
+    match STANDARD.encode_slice(line, &mut letters) {
+        Ok(size) => text.extend_from_slice(&letters[..size]),
+        Err(_) => unreachable!(),
+    }
 }
 
 /// The bytes whose encoding the letters before the first `=` are.
@@ -97,19 +129,4 @@ fn is_letter(byte: u8) -> bool
     let lower_case = byte >= b'a' && byte <= b'z';
     let digit = byte >= b'0' && byte <= b'9';
     upper_case | lower_case | digit | (byte == b'+') | (byte == b'/')
-}
-
-// Appends the characters in lines.
-fn push_lines(out: &mut Vec<u8>, text: &[u8], eol: &[u8]) -> Result<(), AllocError>
-    ensures { OnOk result (out.new.items ≡ out.old.items ++ lined eol.now 76 text.now) }
-{
-    let mut rest = text;
-    while rest.len() > WIDEST {
-        let (line, more) = rest.split_at(WIDEST);
-        out.extend_from_slice(line)?;
-        out.extend_from_slice(eol)?;
-        rest = more;
-    }
-    out.extend_from_slice(rest)?;
-    Ok(())
 }

@@ -32,16 +32,25 @@ pub fn qp_encode(alloc: Global, bytes: &[u8], eol: Ending) -> Result<Vec<u8>, Al
     requires { eol ≢ Ending.Missing }
     ensures { IfOk result (λ text. text.items ≡ qp_encoded eol bytes.now) }
 {
-    let mut out = Vec::with_capacity(alloc, bytes.len())?;
+    let mut text = Vec::new(alloc);
+    push_qp(&mut text, bytes, eol)?;
+    Ok(text)
+}
+
+/// Appends what `qp_encode` gives to a text.
+pub fn push_qp(text: &mut Vec<u8>, bytes: &[u8], eol: Ending) -> Result<(), AllocError>
+    requires { eol ≢ Ending.Missing }
+    ensures { OnOk result (text.new.items ≡ text.old.items ++ qp_encoded eol bytes.now) }
+{
+    text.reserve(bytes.len())?;
     let ending = bytes_of(eol);
     let mut rest = bytes;
     while let Some((line, behind)) = split_line(rest, eol) {
-        push_packed(&mut out, line, ending)?;
-        out.extend_from_slice(ending)?;
+        push_packed(text, line, ending)?;
+        text.extend_from_slice(ending)?;
         rest = behind;
     }
-    push_packed(&mut out, rest, ending)?;
-    Ok(out)
+    push_packed(text, rest, ending)
 }
 
 // The first logical line, and what stands behind its ending.

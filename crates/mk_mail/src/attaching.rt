@@ -4,7 +4,7 @@ ghost use Rattle.mk_mail.specs.BuildViews.{attached_of, IsAttachRefused};
 ghost use Rattle.mk_mail.specs.Building.{attach_refusal, attached as attached_text, disposition_line, encoded, encoding_line, encoding_name as name_of_encoding, name_param, type_line};
 
 use crate::attachment::{Attach, has_name, is_media};
-use mk_code::{b64_encode, bytes_of, qp_encode};
+use mk_code::{bytes_of, push_b64, push_qp};
 use mk_line::Ending;
 use std::alloc::{AllocError, Global};
 use thiserror::Error;
@@ -48,13 +48,12 @@ pub fn attach(alloc: Global, attached: &Attach, eol: Ending) -> Result<Vec<u8>, 
         return Err(AttachError::BadName);
     }
     let mut text = Vec::new(alloc);
-    push_attached(alloc, &mut text, attached, eol)?;
+    push_attached(&mut text, attached, eol)?;
     Ok(text)
 }
 
 /// Writes what is attached as a part.
 pub(crate) fn push_attached(
-    alloc: Global,
     text: &mut Vec<u8>,
     attached: &Attach,
     eol: Ending,
@@ -66,8 +65,7 @@ pub(crate) fn push_attached(
     push_disposition(text, attached, eol)?;
     push_encoding(text, attached.base64, eol)?;
     text.extend_from_slice(bytes_of(eol))?;
-    let bytes = encode(alloc, attached, eol)?;
-    text.extend_from_slice(&bytes)
+    push_bytes(text, attached, eol)
 }
 
 fn push_type(text: &mut Vec<u8>, attached: &Attach, eol: Ending) -> Result<(), AllocError>
@@ -125,13 +123,13 @@ fn encoding_name(base64: bool) -> &'static [u8]
 }
 
 // The bytes as they go.
-fn encode(alloc: Global, attached: &Attach, eol: Ending) -> Result<Vec<u8>, AllocError>
+fn push_bytes(text: &mut Vec<u8>, attached: &Attach, eol: Ending) -> Result<(), AllocError>
     requires { eol ≢ Ending.Missing }
-    ensures { IfOk result (λ bytes. bytes.items ≡ encoded eol (attached_of attached.now)) }
+    ensures { OnOk result (text.new.items ≡ text.old.items ++ encoded eol (attached_of attached.now)) }
 {
     if attached.base64 {
-        b64_encode(alloc, &attached.text, eol)
+        push_b64(text, &attached.text, eol)
     } else {
-        qp_encode(alloc, &attached.text, eol)
+        push_qp(text, &attached.text, eol)
     }
 }

@@ -81,7 +81,7 @@ pub fn build(
     let mut text = Vec::new(alloc);
     push_fields(&mut text, fields, eol)?;
     push_head(&mut text, boundary, eol)?;
-    push_parts(alloc, &mut text, parts, boundary, eol)?;
+    push_parts(&mut text, parts, boundary, eol)?;
     push_close(&mut text, boundary, eol)?;
     Ok(text)
 }
@@ -198,7 +198,6 @@ fn push_head(text: &mut Vec<u8>, boundary: &[u8], eol: Ending) -> Result<(), All
 }
 
 fn push_parts(
-    alloc: Global,
     text: &mut Vec<u8>,
     parts: &[Attach],
     boundary: &[u8],
@@ -208,13 +207,12 @@ fn push_parts(
     ensures { OnOk result (text.new.items ≡ text.old.items ++ flat_map (built_part eol boundary.now) (map attached_of parts.now)) }
 {
     for part in parts {
-        push_part(alloc, text, part, boundary, eol)?;
+        push_part(text, part, boundary, eol)?;
     }
     Ok(())
 }
 
 fn push_part(
-    alloc: Global,
     text: &mut Vec<u8>,
     part: &Attach,
     boundary: &[u8],
@@ -226,7 +224,7 @@ fn push_part(
     text.extend_from_slice(HYPHENS)?;
     text.extend_from_slice(boundary)?;
     text.extend_from_slice(bytes_of(eol))?;
-    push_attached(alloc, text, part, eol)?;
+    push_attached(text, part, eol)?;
     text.extend_from_slice(bytes_of(eol))
 }
 

@@ -2,7 +2,7 @@ use Rattle.std.proofs.Common.{ap, ◌∙◌, ◌++◌, OnOk}
 use Rattle.mk_line.specs.Lines.{ending_bytes}
 use Rattle.mk_mail.specs.BuildViews.{attached_of}
 use Rattle.mk_mail.specs.Building.{disposition_line, encoded, encoding_line, type_line}
-use Rattle.mk_mail.proofs.Joined.{on_ok, written, joined}
+use Rattle.mk_mail.proofs.Joined.{on_ok, joined}
 use Rattle.mk_mail.proofs.attaching.push_attached.Goals as goal
 
 pub returns : goal.returns
@@ -10,12 +10,10 @@ returns c =
     let a = attached_of c.args.attached.now in
     let eol = c.args.eol in
     let bytes = encoded eol a in
-    let last = c.extend_from_slice-2.new.self.items in
-    let behind = c.extend_from_slice.new.self.items in
-    on_ok c.extend_from_slice-2.result _ _ (written c.extend_from_slice-2.result behind c.deref.result.now last c.extend_from_slice-2.ensures.items)
+    let last = c.push_bytes.new.text.items in
+    on_ok c.push_bytes.result _ _ c.push_bytes.ensures
     (λ h.
     joined c.args.text.now.items (type_line eol a) (disposition_line eol a.name ++ (encoding_line eol a.base64 ++ (ending_bytes eol ++ bytes))) c.push_type.new.text.items last c.in_ok-push_type.ensures
     (joined c.push_type.new.text.items (disposition_line eol a.name) (encoding_line eol a.base64 ++ (ending_bytes eol ++ bytes)) c.push_disposition.new.text.items last c.in_ok-push_disposition.ensures
     (joined c.push_disposition.new.text.items (encoding_line eol a.base64) (ending_bytes eol ++ bytes) c.push_encoding.new.text.items last c.in_ok-push_encoding.ensures
-    (joined c.push_encoding.new.text.items (ending_bytes eol) bytes behind last (c.in_ok-extend_from_slice.ensures.items ∙ ap (λ x. c.push_encoding.new.text.items ++ x) c.bytes_of.ensures)
-    (h ∙ ap (λ x. behind ++ x) (c.deref.ensures.value ∙ c.in_ok-bytes.ensures))))))
+    (joined c.push_encoding.new.text.items (ending_bytes eol) bytes c.extend_from_slice.new.self.items last (c.in_ok-extend_from_slice.ensures.items ∙ ap (λ x. c.push_encoding.new.text.items ++ x) c.bytes_of.ensures) h))))

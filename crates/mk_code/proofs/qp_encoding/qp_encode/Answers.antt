@@ -1,8 +1,0 @@
-use Rattle.std.proofs.Common.{◌∙◌}
-use Rattle.mk_code.proofs.Packing.{line_packed}
-use Rattle.mk_code.proofs.qp_encoding.qp_encode.Goals as goal
-
-pub loop-line-preserved : goal.loop-line-preserved
-loop-line-preserved c =
-    line_packed c.args.eol c.loop-line.rest.now c.in-Some.line.now c.in-Some.behind.now c.bytes_of-ending.result.now c.loop-line.out.items _ _ c.in-Some.ensures.lines c.bytes_of-ending.ensures c.in_ok-push_packed.ensures c.in_ok-extend_from_slice.ensures.items
-    ∙ c.loop-line.invariant
