@@ -22,3 +22,5 @@ pub mod Intaking
 pub mod MailboxRuns
 pub mod PieceLaws
 pub mod FieldNames
+pub mod MailChains
+pub mod FilteredMail

@@ -58,7 +58,7 @@ pub some_pieces : (text : List ℕ) → AreSome (mailbox_pieces text)
 some_pieces text = some_parted (cut text) (lines_cut text)
 
 -- the lines of a message are the lines of its text
-lines_front : (e : Bool) (ls : List TextLine) → AreLines ls → AreLines (front e ls)
+pub lines_front : (e : Bool) (ls : List TextLine) → AreLines ls → AreLines (front e ls)
 lines_front e [] h = tt
 lines_front e (l ∷ ls) h =
     let rest = lines_front (is_nil l.content) ls h.2 in

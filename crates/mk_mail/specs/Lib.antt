@@ -18,5 +18,6 @@ pub mod Gathered
 pub mod Intakes
 pub mod MailboxLaws
 pub mod Letters
+pub mod Filtered
 pub mod LetterViews
 pub mod LetterWork

@@ -13,6 +13,7 @@ mod filtering;
 mod gathering;
 mod giving;
 mod intake;
+pub mod letter_laws;
 mod letters;
 mod listing;
 mod mailbox;

@@ -288,3 +288,31 @@ fn many_fields_of_a_name(rt: HostRuntime) -> Result<(), Fail> {
     assert!(rt; is_wanted(&edits[20_000], &Want::Add(b"A: 9\n")));
     Ok(())
 }
+
+// Run with each growth refused in turn: the edits are the defined ones, or memory was wanting.
+#[test]
+fn memory_field_edits(rt: HostRuntime) {
+    let alloc = rt.alloc();
+    let asked = [
+        Asked::Rename(b"B", b"C"),
+        Asked::AddIf(b"D: 1"),
+        Asked::Prefixed(b"A: 9"),
+        Asked::First(b"Old-A"),
+    ];
+    let Ok(letters) = letters(alloc, &asked) else {
+        return;
+    };
+    let Some(doc) = doc(alloc, FIELDS) else {
+        return;
+    };
+    if !letters.ok() {
+        return;
+    }
+    let edits = match field_edits(alloc, &doc, &letters) {
+        Ok(edits) => edits,
+        Err(_) => field_edits(alloc, &doc, &letters).expect(&rt, "memory"),
+    };
+    assert_eq!(rt; edits.len(), 6);
+    assert!(rt; is_wanted(&edits[0], &Want::Rename(b"B", 1, b"C")));
+    assert!(rt; is_wanted(&edits[5], &Want::Remove(b"Old-A", 2)));
+}

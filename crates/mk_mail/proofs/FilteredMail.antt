@@ -1,0 +1,297 @@
+-- A message filtered by letters: its fields alone change, so it begins and ends as it did.
+use Rattle.std.proofs.Common.{◌≡◌, ◌&&◌, ◌||◌, ◌++◌, ℕ, Bool, true, false, not, if◌then◌else◌, Option, None, Some, Result, Ok, Err, List, [], ◌∷◌, drop, refl, ap, sym, ◌∙◌, subst, inl, inr, map, append_assoc}
+use Rattle.std.specs.List.{list_any}
+use Rattle.std.proofs.lemmas.Bool.{cases_Bool}
+use Rattle.mk_line.specs.declared.cutting.Ending.{Ending}
+use Rattle.mk_line.specs.Kinds.{is_continuation, is_field_start, is_from_line}
+use Rattle.mk_line.specs.Lines.{TextLine, cut, eol_of, is_nil}
+use Rattle.mk_head.specs.Fields.{is_one_field}
+use Rattle.mk_head.specs.Split.{option_line}
+use Rattle.mk_head.specs.Splits.{IsRun}
+use Rattle.mk_tree.specs.Documents.{Document, document_lines, document_of, enveloped, printed, tree}
+use Rattle.mk_tree.specs.Places.{put}
+use Rattle.mk_tree.specs.Sections.{root_of}
+use Rattle.mk_tree.specs.Tree.{Entity, leaf, message, multi, field_lines, with_fields}
+use Rattle.mk_tree.proofs.HeadChanged.{behind_fields, changed_lines, entity_lines}
+use Rattle.mk_tree.proofs.Kept.{lines_kept}
+use Rattle.mk_tree.proofs.OwnFields.{fields_are}
+use Rattle.mk_edit.specs.EditLaws.{IsJudged}
+use Rattle.mk_edit.specs.Edits.{PlainEdit, AddField, RemoveField, RenameField, SetField, SetBody, SetSection, InsertPart, RemovePart, Wrap, path_of, Refusal, BadField, BadName}
+use Rattle.mk_edit.specs.EditSplices.{splices_of}
+use Rattle.mk_edit.specs.FieldEdits.{field_at, is_name, renamed}
+use Rattle.mk_edit.specs.Groups.{Together, behind, made_on, together}
+use Rattle.mk_edit.specs.Outcomes.{edited, judged_by}
+use Rattle.mk_edit.specs.Plans.{Plan, add_plan, drop_plan, plan_at, plan_of, place_of, planned, rename_plan, unless, with_place}
+use Rattle.mk_edit.specs.Reasons.{added as with_added}
+use Rattle.mk_edit.specs.Splices.{Splice}
+use Rattle.mk_edit.proofs.Answered.{Holds, field_holds, unless_holds}
+use Rattle.mk_edit.proofs.GroupFacts.{groups_lead_lem}
+use Rattle.mk_edit.proofs.Late.{IsFair, fair, told}
+use Rattle.mk_edit.proofs.SectionSites.{head_cut, head_is_run, site}
+use Rattle.mk_mail.specs.Filtered.{FilteredStayApart, filtered, outcome, text_left}
+use Rattle.mk_mail.specs.Letters.{PlainLetters, Work, add_if_letter, added, added_full, edits_of, first_letter, greatest_number, is_bare, last_edits, last_of, letter, letter_edits, made_old, name_in, next_number, old_name, only_letter, prefixed_letter, removed_all, rename_letter, renamed_all, respelling, respelt_all, root_names, root_path, same_name, then_do, those, untouched, worked}
+use Rattle.mk_mail.proofs.MailChains.{AreMessage, IsKept, IsWhole, begins_from, ends_empty, kept_apart}
+
+-- ---- the edits of letters are edits of the root's fields
+
+-- an edit of letters: of fields, at the root
+abbrev IsRootEdit : PlainEdit → Type 0
+IsRootEdit (AddField path top text) = path ≡ root_path
+IsRootEdit (RemoveField path name k) = path ≡ root_path
+IsRootEdit (RenameField path name k to) = path ≡ root_path
+IsRootEdit (SetField path name k text) = ⊥
+IsRootEdit (SetBody path text) = ⊥
+IsRootEdit (SetSection path text) = ⊥
+IsRootEdit (InsertPart path place text) = ⊥
+IsRootEdit (RemovePart path) = ⊥
+IsRootEdit (Wrap path subtype boundary) = ⊥
+
+abbrev AreRootEdits : List PlainEdit → Type 0
+AreRootEdits [] = Unit {0}
+AreRootEdits (e ∷ es) = IsRootEdit e × AreRootEdits es
+
+mapped : {X : Type 0} (f : X → PlainEdit) (xs : List X) → ((x : X) → IsRootEdit (f x)) → AreRootEdits (map f xs)
+mapped f [] h = tt
+mapped f (x ∷ xs) h = (h x, mapped f xs h)
+
+joined : (es fs : List PlainEdit) → AreRootEdits es → AreRootEdits fs → AreRootEdits (es ++ fs)
+joined [] fs h g = g
+joined (e ∷ es) fs h g = (h.0, joined es fs h.1 g)
+
+respelling_root : (old new : List ℕ) (o : Option ℕ) (names : List (List ℕ)) → AreRootEdits (respelling old new o names)
+respelling_root old new o [] = tt
+respelling_root old new None (own ∷ names) = tt
+respelling_root old new (Some k) (own ∷ names) =
+    elim (cases_Bool (same_name old own)) [
+      | inl t ↦ rw t (refl, respelling_root old new (next_number k) names)
+      | inr n ↦ rw n (respelling_root old new (Some k) names)
+    ]
+
+-- the work of each letter
+abbrev HasRootEdits : Work → Type 0
+HasRootEdits w = AreRootEdits w.edits
+
+either_root : (t : Bool) (v w : Work) → HasRootEdits v → HasRootEdits w → HasRootEdits (if t then v else w)
+either_root true v w h g = h
+either_root false v w h g = g
+
+rename_root : (p : List ℕ × List ℕ) (names : List (List ℕ)) → HasRootEdits (rename_letter p names)
+rename_root p names =
+    either_root (same_name p.0 p.1) (respelt_all p.0 p.1 names) (renamed_all p.0 p.1 names) (respelling_root p.0 p.1 (Some 1) names)
+    (mapped (λ own. RenameField root_path p.0 1 p.1) (those p.0 names) (λ own. refl))
+
+full_root : (eol : Ending) (field : List ℕ) (names : List (List ℕ)) → HasRootEdits (added_full eol field names)
+full_root eol field names = either_root (is_bare field) (untouched names) (added eol field names) tt (refl, tt)
+
+add_if_root : (eol : Ending) (field : List ℕ) (names : List (List ℕ)) → HasRootEdits (add_if_letter eol field names)
+add_if_root eol field names = either_root (list_any (same_name (name_in field)) names) (untouched names) (added eol field names) tt (refl, tt)
+
+prefixed_root : (eol : Ending) (field : List ℕ) (names : List (List ℕ)) → HasRootEdits (prefixed_letter eol field names)
+prefixed_root eol field names =
+    let old = made_old (name_in field) names in
+    joined old.edits (added_full eol field old.names).edits (mapped (λ own. RenameField root_path (name_in field) 1 (old_name own)) (those (name_in field) names) (λ own. refl)) (full_root eol field old.names)
+
+only_root : (eol : Ending) (field : List ℕ) (names : List (List ℕ)) → HasRootEdits (only_letter eol field names)
+only_root eol field names =
+    let gone = removed_all (name_in field) names in
+    joined gone.edits (added_full eol field gone.names).edits (mapped (λ own. RemoveField root_path (name_in field) 1) (those (name_in field) names) (λ own. refl)) (full_root eol field gone.names)
+
+first_root : (name : List ℕ) (names : List (List ℕ)) → HasRootEdits (first_letter name names)
+first_root name names = mapped (λ own. RemoveField root_path name 2) (drop 1 (those name names)) (λ own. refl)
+
+last_root : (o : Option (List ℕ)) (names : List (List ℕ)) → AreRootEdits (last_of o names)
+last_root None names = tt
+last_root (Some name) names = mapped (λ own. RemoveField root_path name 1) (drop 1 (those name names)) (λ own. refl)
+
+letter_root : {X : Type 0} (f : X → List (List ℕ) → Work) (o : Option X) (w : Work) → ((x : X) (names : List (List ℕ)) → HasRootEdits (f x names)) → HasRootEdits w → HasRootEdits (letter f o w)
+letter_root f None w k h = h
+letter_root f (Some x) w k h = joined w.edits (f x w.names).edits h (k x w.names)
+
+worked_root : (eol : Ending) (l : PlainLetters) (names : List (List ℕ)) → HasRootEdits (worked eol l names)
+worked_root eol l names =
+    let renamed = letter rename_letter l.rename (untouched names) in
+    let with_if = letter (add_if_letter eol) l.add_if renamed in
+    let with_one = letter (added eol) l.add with_if in
+    let prefixed = letter (prefixed_letter eol) l.prefixed with_one in
+    let only = letter (only_letter eol) l.only prefixed in
+    letter_root first_letter l.first only (λ name ns. first_root name ns)
+    (letter_root (only_letter eol) l.only prefixed (λ field ns. only_root eol field ns)
+    (letter_root (prefixed_letter eol) l.prefixed with_one (λ field ns. prefixed_root eol field ns)
+    (letter_root (added eol) l.add with_if (λ field ns. (refl, tt))
+    (letter_root (add_if_letter eol) l.add_if renamed (λ field ns. add_if_root eol field ns)
+    (letter_root rename_letter l.rename (untouched names) (λ p ns. rename_root p ns) tt)))))
+
+edits_root : (text : List ℕ) (l : PlainLetters) → AreRootEdits (edits_of text l)
+edits_root text l =
+    let w = worked (eol_of (cut text)) l (root_names text) in
+    joined w.edits (last_of l.last w.names) (worked_root (eol_of (cut text)) l (root_names text)) (last_root l.last w.names)
+
+-- ---- what such edits give has other fields, and all else as it was
+
+record IsFielded (t u : Document) : Type 0 where
+  fields : List TextLine
+  same : u ≡ record { envelope = t.envelope; root = with_fields fields t.root }
+
+own_fields : (e : Entity) → with_fields (field_lines e) e ≡ e
+own_fields (leaf h ls) = refl
+own_fields (message h e) = refl
+own_fields (multi h b pre ps t) = refl
+
+fields_again : (fs gs : List TextLine) (e : Entity) → with_fields fs (with_fields gs e) ≡ with_fields fs e
+fields_again fs gs (leaf h ls) = refl
+fields_again fs gs (message h e) = refl
+fields_again fs gs (multi h b pre ps t) = refl
+
+fielded_on : (t u v : Document) → IsFielded t u → IsFielded u v → IsFielded t v
+fielded_on t u v a b = record {
+  fields = b.fields;
+  same = b.same ∙ (ap (λ (d : Document). record { envelope = d.envelope; root = with_fields b.fields d.root }) a.same ∙ ap (λ r. record { envelope = t.envelope; root = r }) (fields_again b.fields a.fields t.root));
+}
+
+-- a plan for the fields of the root
+abbrev IsFieldsPlan : Entity → Plan → Type 0
+IsFieldsPlan s p = (p.around ≡ []) × ((fields : List TextLine) × (p.new ≡ with_fields fields s))
+
+at_root : (e : PlainEdit) (path : List ℕ) (t : Document) → path ≡ root_path → Holds (IsFieldsPlan t.root) (plan_at e (eol_of (document_lines t)) [] t.root)
+    → Holds (IsFieldsPlan t.root) (with_place (place_of path t.root) (plan_at e (eol_of (document_lines t))))
+at_root e path t h k = subst (λ x. Holds (IsFieldsPlan t.root) (with_place (place_of x t.root) (plan_at e (eol_of (document_lines t))))) (sym h) k
+
+root_plan : (e : PlainEdit) (t : Document) → IsRootEdit e → Holds (IsFieldsPlan t.root) (plan_of e t)
+root_plan (AddField path top text) t h =
+    at_root (AddField path top text) path t h
+    (unless_holds (IsFieldsPlan t.root) (not (is_one_field (cut text))) BadField (Ok (add_plan [] t.root top (cut text))) (λ k. (refl, (with_added top (cut text) (field_lines t.root), refl))))
+root_plan (RemoveField path name k) t h =
+    at_root (RemoveField path name k) path t h
+    (field_holds (IsFieldsPlan t.root) (field_at name k (field_lines t.root)) (λ f. Ok (drop_plan [] t.root f)) (λ f o. (refl, (f.before ++ f.after, refl))))
+root_plan (RenameField path name k to) t h =
+    at_root (RenameField path name k to) path t h
+    (field_holds (IsFieldsPlan t.root) (field_at name k (field_lines t.root)) (λ f. unless (not (is_name to)) BadName (Ok (rename_plan [] t.root to f)))
+    (λ f o. unless_holds (IsFieldsPlan t.root) (not (is_name to)) BadName (Ok (rename_plan [] t.root to f)) (λ k. (refl, (f.before ++ (renamed to f.start ∷ (f.more ++ f.after)), refl)))))
+root_plan (SetField path name k text) t h = absurd h
+root_plan (SetBody path text) t h = absurd h
+root_plan (SetSection path text) t h = absurd h
+root_plan (InsertPart path place text) t h = absurd h
+root_plan (RemovePart path) t h = absurd h
+root_plan (Wrap path subtype boundary) t h = absurd h
+
+planned_so : (t u : Document) (r : Result Plan Refusal) → Holds (IsFieldsPlan t.root) r → Holds IsFair r → judged_by t.envelope r ≡ Ok u → IsFielded t u
+planned_so t u (Err e) p f h = cc
+planned_so t u (Ok plan) p f h =
+    let j = subst (λ r. IsJudged r (planned t.envelope plan)) h (told t.envelope plan f) in
+    record { fields = p.1.0; same = j.0 ∙ (λ i. put t.envelope (p.0 i) (p.1.1 i)) }
+
+-- what edits gave, where they were accepted
+abbrev FieldedBy : Document → Together → Type 0
+FieldedBy t (Ok q) = IsFielded t q.0
+FieldedBy t (Err q) = Unit {0}
+
+behind_fielded : (t u : Document) (ss : List Splice) (r : Together) → IsFielded t u → FieldedBy u r → FieldedBy t (behind 1 ss r)
+behind_fielded t u ss (Ok q) a b = fielded_on t u q.0 a b
+behind_fielded t u ss (Err q) a b = tt
+
+made_fielded : (t : Document) (ss : List Splice) (es : List PlainEdit) (r : Result Document Refusal) → ((u : Document) → r ≡ Ok u → IsFielded t u)
+    → ((u : Document) → FieldedBy u (together es u)) → FieldedBy t (made_on ss (together es) r)
+made_fielded t ss es (Ok u) k others = behind_fielded t u ss (together es u) (k u refl) (others u)
+made_fielded t ss es (Err e) k others = tt
+
+together_fielded : (es : List PlainEdit) (t : Document) → AreRootEdits es → FieldedBy t (together es t)
+together_fielded [] t h = record { fields = field_lines t.root; same = ap (λ r. record { envelope = t.envelope; root = r }) (sym (own_fields t.root)) }
+together_fielded (e ∷ es) t h =
+    made_fielded t (splices_of e t) es (edited e t) (λ u k. planned_so t u (plan_of e t) (root_plan e t h.0) (fair e t) k) (λ u. together_fielded es u h.1)
+
+-- ---- the lines before the body are not empty
+
+abbrev AreSomeLines : List TextLine → Type 0
+AreSomeLines [] = Unit {0}
+AreSomeLines (l ∷ ls) = (is_nil l.content ≡ false) × AreSomeLines ls
+
+some_append : (ls ms : List TextLine) → AreSomeLines ls → AreSomeLines ms → AreSomeLines (ls ++ ms)
+some_append [] ms h g = g
+some_append (l ∷ ls) ms h g = (h.0, some_append ls ms h.1 g)
+
+some_content : (inside : Bool) (content : List ℕ) → (is_field_start content || (inside && is_continuation content)) ≡ true → is_nil content ≡ false
+some_content true [] h = cc
+some_content false [] h = cc
+some_content inside (byte ∷ bytes) h = refl
+
+run_some : (inside : Bool) (ls : List TextLine) → IsRun inside ls → AreSomeLines ls
+run_some inside [] h = tt
+run_some inside (l ∷ ls) h = (some_content inside l.content h.0, run_some true ls h.1)
+
+from_some : (content : List ℕ) → is_from_line content ≡ true → is_nil content ≡ false
+from_some [] h = cc
+from_some (byte ∷ bytes) h = refl
+
+-- the envelope is a From-line
+env_some : (t : Bool) (l : TextLine) (ls : List TextLine) → is_from_line l.content ≡ t → AreSomeLines (option_line (enveloped t l ls).envelope)
+env_some true l ls h = (from_some l.content h, tt)
+env_some false l ls h = tt
+
+envelope_some : (ls : List TextLine) → AreSomeLines (option_line (document_of ls).envelope)
+envelope_some [] = tt
+envelope_some (l ∷ ls) = env_some (is_from_line l.content) l ls refl
+
+-- a From-line in front is the envelope
+env_begins : (t : Bool) (l : TextLine) (ls more : List TextLine) → is_from_line l.content ≡ t → t ≡ true → begins_from (option_line (enveloped t l ls).envelope ++ more) ≡ true
+env_begins true l ls more h e = h
+env_begins false l ls more h e = cc
+
+envelope_begins : (ls more : List TextLine) → begins_from ls ≡ true → begins_from (option_line (document_of ls).envelope ++ more) ≡ true
+envelope_begins [] more h = cc
+envelope_begins (l ∷ ls) more h = env_begins (is_from_line l.content) l ls more refl h
+
+root_run : (text : List ℕ) → IsRun false (field_lines (tree text).root)
+root_run text =
+    let p = root_of (tree text) in
+    let s = site text (1 ∷ []) p refl in
+    subst (IsRun false) (head_cut text (1 ∷ []) p s) (head_is_run text (1 ∷ []) p s)
+
+-- ---- such lines change nothing of what stands behind them
+
+whole_behind : (ls rest : List TextLine) → AreSomeLines ls → IsWhole false rest → IsWhole false (ls ++ rest)
+whole_behind [] rest h w = w
+whole_behind (l ∷ ls) rest h w = (refl, subst (λ e. IsWhole e (ls ++ rest)) (sym h.0) (whole_behind ls rest h.1 w))
+
+whole_rest : (ls rest : List TextLine) → AreSomeLines ls → IsWhole false (ls ++ rest) → IsWhole false rest
+whole_rest [] rest h w = w
+whole_rest (l ∷ ls) rest h w = whole_rest ls rest h.1 (subst (λ e. IsWhole e (ls ++ rest)) h.0 w.1)
+
+ends_behind : (ls rest : List TextLine) → AreSomeLines ls → ends_empty false (ls ++ rest) ≡ ends_empty false rest
+ends_behind [] rest h = refl
+ends_behind (l ∷ ls) rest h = ap (λ e. ends_empty e (ls ++ rest)) h.0 ∙ ends_behind ls rest h.1
+
+-- lines with the same rest behind others that aren't empty
+same_rest : (old new front other rest : List TextLine) → old ≡ front ++ rest → new ≡ other ++ rest → AreSomeLines front → AreSomeLines other
+    → (begins_from old ≡ true → begins_from new ≡ true) → IsWhole false old → IsKept old new
+same_rest old new front other rest o n f g b w = record {
+  whole = subst (IsWhole false) (sym n) (whole_behind other rest g (whole_rest front rest f (subst (IsWhole false) o w)));
+  ends = λ h. ap (ends_empty false) n ∙ (ends_behind other rest g ∙ (sym (ends_behind front rest f) ∙ (sym (ap (ends_empty false) o) ∙ h)));
+  begins = b;
+}
+
+-- ---- messages that letters filter
+
+fielded_kept : (text : List ℕ) (u : Document) → IsFielded (tree text) u → tree (printed u) ≡ u → IsWhole false (cut text) → IsKept (cut text) (cut (printed u))
+fielded_kept text u a stable w =
+    let t = tree text in
+    let front = option_line t.envelope in
+    let rest = behind_fields t.root in
+    let old_lines : cut text ≡ front ++ (field_lines t.root ++ rest) = sym (lines_kept text) ∙ ap (λ ls. front ++ ls) (entity_lines t.root) in
+    let new_lines : cut (printed u) ≡ front ++ (a.fields ++ rest) =
+    sym (lines_kept (printed u)) ∙ (ap document_lines (stable ∙ a.same) ∙ ap (λ ls. front ++ ls) (changed_lines a.fields t.root)) in
+    let run : IsRun false a.fields = subst (IsRun false) (ap (λ (d : Document). field_lines d.root) (stable ∙ a.same) ∙ fields_are a.fields t.root) (root_run (printed u)) in
+    let some = envelope_some (cut text) in
+    same_rest (cut text) (cut (printed u)) (front ++ field_lines t.root) (front ++ a.fields) rest
+    (old_lines ∙ sym (append_assoc front (field_lines t.root) rest)) (new_lines ∙ sym (append_assoc front a.fields rest))
+    (some_append front (field_lines t.root) some (run_some false (field_lines t.root) (root_run text))) (some_append front a.fields some (run_some false a.fields run))
+    (λ h. ap begins_from new_lines ∙ envelope_begins (cut text) (a.fields ++ rest) h) w
+
+kept_by : (l : PlainLetters) (text : List ℕ) (r : Together) → outcome l text ≡ r → FieldedBy (tree text) r → IsWhole false (cut text) → IsKept (cut text) (cut (text_left text r))
+kept_by l text (Ok q) e a w = fielded_kept text q.0 a (groups_lead_lem (edits_of text l) text q.0 q.1 e).2 w
+kept_by l text (Err q) e a w = record { whole = w; ends = λ h. h; begins = λ h. h }
+
+kept : (l : PlainLetters) (text : List ℕ) → AreMessage (cut text) → IsKept (cut text) (cut (filtered l text))
+kept l text m = kept_by l text (outcome l text) refl (together_fielded (edits_of text l) (tree text) (edits_root text l)) m.1
+
+pub filtered_apart : FilteredStayApart
+filtered_apart l text = kept_apart (filtered l) (kept l) text

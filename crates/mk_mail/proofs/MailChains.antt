@@ -1,0 +1,247 @@
+-- Texts that are messages of one mailbox: joined they are cut into these messages again.
+use Rattle.std.proofs.Common.{◌≡◌, ◌++◌, ℕ, Bool, true, false, List, [], ◌∷◌, refl, ap, sym, ◌∙◌, subst, inl, inr, map, filter, append-nil}
+use Rattle.std.specs.List.{flat_map}
+use Rattle.std.proofs.lemmas.Bool.{cases_Bool}
+use Rattle.mk_line.specs.Kinds.{is_from_line}
+use Rattle.mk_line.specs.declared.cutting.Ending.{Ending}
+use Rattle.mk_line.specs.declared.cutting.Ending.TheVariants.{Crlf, Lf, Missing}
+use Rattle.mk_line.specs.Lines.{AreLines, IsLine, TextLine, cut, is_nil, text_line, text_of}
+use Rattle.mk_line.proofs.Cuts.{cut_text, lines_cut, text_append, text_cut}
+use Rattle.mk_head.specs.Splits.{has_line}
+use Rattle.mk_mail.specs.Filtered.{is_left}
+use Rattle.mk_mail.specs.Pieces.{is_first, front, later, parted, mailbox_pieces}
+use Rattle.mk_mail.proofs.FieldNames.{both_true}
+use Rattle.mk_mail.proofs.PieceLaws.{lines_front}
+
+-- no line begins a message, where `e` says whether the line before the first is empty
+abbrev pub IsWhole : Bool → List TextLine → Type 0
+IsWhole e [] = Unit {0}
+IsWhole e (l ∷ ls) = (is_first e l.content ≡ false) × IsWhole (is_nil l.content) ls
+
+-- whether the last line is empty; `e` where there is none
+abbrev pub ends_empty : Bool → List TextLine → Bool
+ends_empty e [] = e
+ends_empty e (l ∷ ls) = ends_empty (is_nil l.content) ls
+
+-- the first line is a From-line
+abbrev pub begins_from : List TextLine → Bool
+begins_from [] = false
+begins_from (l ∷ ls) = is_from_line l.content
+
+-- lines of a message: some, none of which begins another
+abbrev pub AreMessage : List TextLine → Type 0
+AreMessage ls = (has_line ls ≡ true) × IsWhole false ls
+
+-- what stands before other messages ends with an empty line, and they begin with a From-line
+abbrev pub AreBefore : Bool → List (List TextLine) → Type 0
+AreBefore t [] = Unit {0}
+AreBefore t (m ∷ ms) = (t ≡ true) × (begins_from m ≡ true)
+
+-- the lines of the messages of a mailbox
+abbrev pub AreMail : List (List TextLine) → Type 0
+AreMail [] = Unit {0}
+AreMail (m ∷ ms) = AreMessage m × AreBefore (ends_empty false m) ms × AreMail ms
+
+-- texts that are the messages of one mailbox
+abbrev pub IsMail : List (List ℕ) → Type 0
+IsMail ps = AreMail (map cut ps)
+
+-- ---- joined lines are parted again
+
+front_whole : (e : Bool) (ls ms : List TextLine) → IsWhole e ls → front e (ls ++ ms) ≡ ls ++ front (ends_empty e ls) ms
+front_whole e [] ms w = refl
+front_whole e (l ∷ ls) ms w = rw w.0 (ap (λ (xs : List TextLine). l ∷ xs) (front_whole (is_nil l.content) ls ms w.1))
+
+later_whole : (e : Bool) (ls ms : List TextLine) → IsWhole e ls → later e (ls ++ ms) ≡ later (ends_empty e ls) ms
+later_whole e [] ms w = refl
+later_whole e (l ∷ ls) ms w = rw w.0 (later_whole (is_nil l.content) ls ms w.1)
+
+front_from : (ms : List TextLine) → begins_from ms ≡ true → front true ms ≡ []
+front_from [] b = refl
+front_from (m ∷ ms) b = rw b refl
+
+later_from : (ms : List TextLine) → begins_from ms ≡ true → later true ms ≡ parted ms
+later_from [] b = refl
+later_from (m ∷ ms) b = rw b refl
+
+-- the lines of a message, and behind them those of others
+parted_before : (ls ms : List TextLine) → AreMessage ls → ends_empty false ls ≡ true → begins_from ms ≡ true → parted (ls ++ ms) ≡ ls ∷ parted ms
+parted_before [] ms a e b = cc
+parted_before (l ∷ ls) ms a e b =
+    let i = is_nil l.content in
+    let front_is : front i (ls ++ ms) ≡ ls = front_whole i ls ms a.1.1 ∙ (ap (λ x. ls ++ front x ms) e ∙ (ap (λ xs. ls ++ xs) (front_from ms b) ∙ append-nil ls)) in
+    let later_is : later i (ls ++ ms) ≡ parted ms = later_whole i ls ms a.1.1 ∙ (ap (λ x. later x ms) e ∙ later_from ms b) in
+    (λ k. (l ∷ front_is k) ∷ later_is k)
+
+-- the lines of a message alone
+parted_alone : (ls : List TextLine) → AreMessage ls → parted ls ≡ ls ∷ []
+parted_alone [] a = cc
+parted_alone (l ∷ ls) a =
+    let i = is_nil l.content in
+    let front_is : front i ls ≡ ls = ap (front i) (sym (append-nil ls)) ∙ (front_whole i ls [] a.1.1 ∙ append-nil ls) in
+    let later_is : later i ls ≡ [] = ap (later i) (sym (append-nil ls)) ∙ later_whole i ls [] a.1.1 in
+    (λ k. (l ∷ front_is k) ∷ later_is k)
+
+-- ---- joined texts
+
+-- an empty line has an ending, so lines may stand behind it
+closed_empty : (l : TextLine) (ms : List TextLine) → IsLine l → is_nil l.content ≡ true → l.ending ≡ Missing → ms ≡ []
+closed_empty l ms h n m = absurd (no_empty l.ending l.content h m n)
+  where
+    no_empty : (e : Ending) (content : List ℕ) → IsLine (text_line content e) → e ≡ Missing → is_nil content ≡ true → ⊥
+    no_empty Crlf content h m n = cc
+    no_empty Lf content h m n = cc
+    no_empty Missing content h m n = let open_some = h.ends_well in cc
+
+lines_joined : (e : Bool) (ls ms : List TextLine) → AreLines ls → ends_empty e ls ≡ true → AreLines ms → AreLines (ls ++ ms)
+lines_joined e [] ms h t g = g
+lines_joined e (l ∷ []) ms h t g = (h.0, closed_empty l ms h.0 t, g)
+lines_joined e (l ∷ m ∷ ls) ms h t g = (h.0, (λ o. absurd (some_behind m ls (h.1 o))), lines_joined (is_nil l.content) (m ∷ ls) ms h.2 t g)
+  where
+    some_behind : (m : TextLine) (ls : List TextLine) → m ∷ ls ≡ [] → ⊥
+    some_behind m ls q = cc
+
+-- texts of which the first ends with an empty line
+cut_joined : (p rest : List ℕ) → ends_empty false (cut p) ≡ true → cut (p ++ rest) ≡ cut p ++ cut rest
+cut_joined p rest t =
+    ap cut (λ i. sym (text_cut p) i ++ sym (text_cut rest) i)
+    ∙ (ap cut (sym (text_append (cut p) (cut rest))) ∙ cut_text (cut p ++ cut rest) (lines_joined false (cut p) (cut rest) (lines_cut p) t (lines_cut rest)))
+
+begins_on : (ls ms : List TextLine) → begins_from ls ≡ true → begins_from (ls ++ ms) ≡ true
+begins_on [] ms b = cc
+begins_on (l ∷ ls) ms b = b
+
+-- all texts of a mailbox begin as the first does
+begins_joined : (q : List ℕ) (qs : List (List ℕ)) → AreBefore (ends_empty false (cut q)) (map cut qs) → begins_from (cut q) ≡ true → begins_from (cut (q ++ flat_map (λ p. p) qs)) ≡ true
+begins_joined q [] j b = ap (λ x. begins_from (cut x)) (append-nil q) ∙ b
+begins_joined q (r ∷ rs) j b = ap begins_from (cut_joined q (flat_map (λ p. p) (r ∷ rs)) j.0) ∙ begins_on (cut q) (cut (flat_map (λ p. p) (r ∷ rs))) b
+
+pub mail_parted : (ps : List (List ℕ)) → IsMail ps → mailbox_pieces (flat_map (λ p. p) ps) ≡ ps
+mail_parted [] h = refl
+mail_parted (p ∷ []) h =
+    ap mailbox_pieces (append-nil p)
+    ∙ (ap (λ ls. map text_of ls) (parted_alone (cut p) h.0) ∙ ap (λ x. x ∷ []) (text_cut p))
+mail_parted (p ∷ q ∷ qs) h =
+    let rest = flat_map (λ p. p) (q ∷ qs) in
+    ap (λ ls. map text_of (parted ls)) (cut_joined p rest h.1.0)
+    ∙ (ap (λ ls. map text_of ls) (parted_before (cut p) (cut rest) h.0 h.1.0 (begins_joined q qs h.2.1 h.1.1))
+    ∙ (λ i. text_cut p i ∷ mail_parted (q ∷ qs) h.2 i))
+
+-- ---- the messages of a mailbox are so
+
+whole_front : (e : Bool) (ls : List TextLine) → IsWhole e (front e ls)
+whole_front e [] = tt
+whole_front e (l ∷ ls) =
+    elim (cases_Bool (is_first e l.content)) [
+      | inl t ↦ rw t tt
+      | inr n ↦ rw n (n, whole_front (is_nil l.content) ls)
+    ]
+
+before_later : (e : Bool) (ls : List TextLine) → AreBefore (ends_empty e (front e ls)) (later e ls)
+before_later e [] = tt
+before_later e (l ∷ ls) =
+    elim (cases_Bool (is_first e l.content)) [
+      | inl t ↦ rw t (both_true e (is_from_line l.content) t)
+      | inr n ↦ rw n (before_later (is_nil l.content) ls)
+    ]
+
+mail_later : (e : Bool) (ls : List TextLine) → AreMail (later e ls)
+mail_later e [] = tt
+mail_later e (l ∷ ls) =
+    let i = is_nil l.content in
+    elim (cases_Bool (is_first e l.content)) [
+      | inl t ↦ rw t ((refl, (refl, whole_front i ls)), before_later i ls, mail_later i ls)
+      | inr n ↦ rw n (mail_later i ls)
+    ]
+
+mail_lines : (ls : List TextLine) → AreMail (parted ls)
+mail_lines [] = tt
+mail_lines (l ∷ ls) = let i = is_nil l.content in ((refl, (refl, whole_front i ls)), before_later i ls, mail_later i ls)
+
+-- the lines of a message are those of its text
+abbrev AllLines : List (List TextLine) → Type 0
+AllLines [] = Unit {0}
+AllLines (m ∷ ms) = AreLines m × AllLines ms
+
+lines_message : (l : TextLine) (ls : List TextLine) → AreLines (l ∷ ls) → AreLines (l ∷ front (is_nil l.content) ls)
+lines_message l ls h = (h.0, (λ o. ap (front (is_nil l.content)) (h.1 o)), lines_front (is_nil l.content) ls h.2)
+
+lines_later : (e : Bool) (ls : List TextLine) → AreLines ls → AllLines (later e ls)
+lines_later e [] h = tt
+lines_later e (l ∷ ls) h =
+    let rest = lines_later (is_nil l.content) ls h.2 in
+    elim (cases_Bool (is_first e l.content)) [
+      | inl t ↦ rw t (lines_message l ls h, rest)
+      | inr n ↦ rw n rest
+    ]
+
+lines_parted : (ls : List TextLine) → AreLines ls → AllLines (parted ls)
+lines_parted [] h = tt
+lines_parted (l ∷ ls) h = (lines_message l ls h, lines_later (is_nil l.content) ls h.2)
+
+cut_again : (ms : List (List TextLine)) → AllLines ms → map cut (map text_of ms) ≡ ms
+cut_again [] h = refl
+cut_again (m ∷ ms) h = (λ i. cut_text m h.0 i ∷ cut_again ms h.1 i)
+
+pub mail_of : (text : List ℕ) → IsMail (mailbox_pieces text)
+mail_of text = subst AreMail (sym (cut_again (parted (cut text)) (lines_parted (cut text) (lines_cut text)))) (mail_lines (cut text))
+
+-- ---- messages changed one by one
+
+-- lines in the place of those of a message: none begins another, and they begin and end as these do
+pub record IsKept (old new : List TextLine) : Type 0 where
+  pub whole : IsWhole false new
+  pub ends : ends_empty false old ≡ true → ends_empty false new ≡ true
+  pub begins : begins_from old ≡ true → begins_from new ≡ true
+
+some_lines : (p : List ℕ) (ls : List TextLine) → cut p ≡ ls → is_left p ≡ true → has_line ls ≡ true
+some_lines p [] e t = ap is_left (sym (ap text_of e) ∙ text_cut p) ∙ t
+some_lines p (l ∷ ls) e t = refl
+
+ends_left : (p : List ℕ) → ends_empty false (cut p) ≡ true → is_left p ≡ true
+ends_left [] h = cc
+ends_left (x ∷ xs) h = refl
+
+begins_left : (p : List ℕ) → begins_from (cut p) ≡ true → is_left p ≡ true
+begins_left [] h = cc
+begins_left (x ∷ xs) h = refl
+
+pub mail_kept : (f : List ℕ → List ℕ) → ((p : List ℕ) → AreMessage (cut p) → IsKept (cut p) (cut (f p))) → (ps : List (List ℕ)) → IsMail ps → IsMail (filter is_left (map f ps))
+mail_kept f k [] h = tt
+mail_kept f k (p ∷ []) h =
+    let kp = k p h.0 in
+    elim (cases_Bool (is_left (f p))) [
+      | inl t ↦ rw t ((some_lines (f p) (cut (f p)) refl t, kp.whole), tt, tt)
+      | inr n ↦ rw n tt
+    ]
+mail_kept f k (p ∷ q ∷ qs) h =
+    let kp = k p h.0 in
+    let kq = k q h.2.0 in
+    let ends = kp.ends h.1.0 in
+    let begins = kq.begins h.1.1 in
+    let first : is_left (f p) ≡ true = ends_left (f p) ends in
+    let second : is_left (f q) ≡ true = begins_left (f q) begins in
+    let rest_is : filter is_left (map f (q ∷ qs)) ≡ f q ∷ filter is_left (map f qs) = rw second refl in
+    let all_is : filter is_left (map f (p ∷ q ∷ qs)) ≡ f p ∷ filter is_left (map f (q ∷ qs)) = rw first refl in
+    subst IsMail (sym (all_is ∙ ap (λ xs. f p ∷ xs) rest_is)) (
+      (some_lines (f p) (cut (f p)) refl first, kp.whole),
+      (ends, begins),
+      subst IsMail rest_is (mail_kept f k (q ∷ qs) h.2),
+    )
+
+-- an empty text adds nothing
+joined_left : (ps : List (List ℕ)) → flat_map (λ p. p) (filter is_left ps) ≡ flat_map (λ p. p) ps
+joined_left [] = refl
+joined_left ([] ∷ ps) = joined_left ps
+joined_left ((x ∷ xs) ∷ ps) = ap (λ ys. (x ∷ xs) ++ ys) (joined_left ps)
+
+joined_map : (f : List ℕ → List ℕ) (ps : List (List ℕ)) → flat_map f ps ≡ flat_map (λ p. p) (map f ps)
+joined_map f [] = refl
+joined_map f (p ∷ ps) = ap (λ x. f p ++ x) (joined_map f ps)
+
+-- messages that are changed one by one so stay apart
+pub kept_apart : (f : List ℕ → List ℕ) → ((p : List ℕ) → AreMessage (cut p) → IsKept (cut p) (cut (f p))) → (text : List ℕ)
+    → mailbox_pieces (flat_map f (mailbox_pieces text)) ≡ filter is_left (map f (mailbox_pieces text))
+kept_apart f k text =
+    let ps = mailbox_pieces text in
+    ap mailbox_pieces (joined_map f ps ∙ sym (joined_left (map f ps))) ∙ mail_parted (filter is_left (map f ps)) (mail_kept f k ps (mail_of text))

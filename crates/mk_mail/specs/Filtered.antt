@@ -1,0 +1,31 @@
+-- What letters make of the messages of a mailbox (own).
+use Rattle.std.specs.Prelude.{◌≡◌, ℕ, Bool, not, Ok, Err, List, filter, map}
+use Rattle.std.specs.List.{flat_map}
+use Rattle.mk_line.specs.Lines.{is_nil}
+use Rattle.mk_tree.specs.Documents.{printed, tree}
+use Rattle.mk_edit.specs.Groups.{Together, together}
+use Rattle.mk_mail.specs.Letters.{PlainLetters, edits_of}
+use Rattle.mk_mail.specs.Pieces.{mailbox_pieces}
+
+-- what the edits of letters give of a message, made one after another
+abbrev pub outcome : PlainLetters → List ℕ → Together
+outcome l text = together (edits_of text l) (tree text)
+
+-- the text that edits give, or the text as it came where one of them is refused
+abbrev pub text_left : List ℕ → Together → List ℕ
+text_left text (Ok p) = printed p.0
+text_left text (Err q) = text
+
+-- what is left of a message by letters
+abbrev pub filtered : PlainLetters → List ℕ → List ℕ
+filtered l text = text_left text (outcome l text)
+
+-- a byte of it is left
+abbrev pub is_left : List ℕ → Bool
+is_left text = not (is_nil text)
+
+-- the filtered messages of a mailbox, one behind another, are cut into just these messages again, but for one of which no byte
+-- is left
+abbrev pub FilteredStayApart : Type 0
+FilteredStayApart = (l : PlainLetters) (text : List ℕ) →
+    mailbox_pieces (flat_map (filtered l) (mailbox_pieces text)) ≡ filter is_left (map (filtered l) (mailbox_pieces text))
