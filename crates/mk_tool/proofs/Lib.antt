@@ -15,3 +15,4 @@ pub mod PieceWords
 mod UnpackLemmas
 mod KeptLemmas
 mod PackLemmas
+mod FilterLemmas

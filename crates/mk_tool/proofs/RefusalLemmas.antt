@@ -38,14 +38,14 @@ error_line-row : (a b c d e f : List ℕ) → ((a ++ (b ++ (c ++ d))) ++ e) ++ f
 error_line-row a b c d e f = simp append_assoc
 
 -- the line is its front with the name, what stands behind that, and its ending
-pub error_line-joined : (reason : Option Refusal) (path name front line : List ℕ) (number : ℕ) → front ≡ codes "line " ++ (decimal number ++ (codes ": " ++ name))
+pub report_joined : (word : List ℕ) (reason : Option Refusal) (path name front line : List ℕ) (number : ℕ) → front ≡ word ++ (decimal number ++ (codes ": " ++ name))
     → IfSome reason (λ r. name ≡ reason_name r) → IfSome reason (λ r. line ≡ front ++ behind_name path r)
-    → IfSome reason (λ r. line ++ line_feed ∷ [] ≡ error_line number path r)
-error_line-joined None path name front line number begins named placed = tt
-error_line-joined (Some r) path name front line number begins named placed =
-    let begun : front ≡ codes "line " ++ (decimal number ++ (codes ": " ++ reason_name r)) = begins ∙ ap (λ n. codes "line " ++ (decimal number ++ (codes ": " ++ n))) named in
-    let whole : line ≡ (codes "line " ++ (decimal number ++ (codes ": " ++ reason_name r))) ++ behind_name path r = placed ∙ ap (λ f. f ++ behind_name path r) begun in
-    ap (λ l. l ++ line_feed ∷ []) whole ∙ error_line-row (codes "line ") (decimal number) (codes ": ") (reason_name r) (behind_name path r) (line_feed ∷ [])
+    → IfSome reason (λ r. line ++ line_feed ∷ [] ≡ word ++ (decimal number ++ (codes ": " ++ (reason_name r ++ (behind_name path r ++ line_feed ∷ [])))))
+report_joined word None path name front line number begins named placed = tt
+report_joined word (Some r) path name front line number begins named placed =
+    let begun : front ≡ word ++ (decimal number ++ (codes ": " ++ reason_name r)) = begins ∙ ap (λ n. word ++ (decimal number ++ (codes ": " ++ n))) named in
+    let whole : line ≡ (word ++ (decimal number ++ (codes ": " ++ reason_name r))) ++ behind_name path r = placed ∙ ap (λ f. f ++ behind_name path r) begun in
+    ap (λ l. l ++ line_feed ∷ []) whole ∙ error_line-row word (decimal number) (codes ": ") (reason_name r) (behind_name path r) (line_feed ∷ [])
 
 -- what an error names is what is reported
 pub reported-refused : (P : List ℕ → Type 0) (pieces : List (List ℕ)) (reason : Option Refusal) (s : ScriptStep) (h : History) (order : Order) (numbers text path : List ℕ) (index number : ℕ)

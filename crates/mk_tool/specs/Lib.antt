@@ -15,3 +15,5 @@ pub mod UnpackClauses
 pub mod Kept
 pub mod Packing
 pub mod Parts
+pub mod Filtering
+pub mod FilterClauses

@@ -4,9 +4,12 @@
 mod answers;
 mod device;
 mod engine;
+mod fields;
+mod filtering;
 mod folder;
 mod groups;
 pub mod laws;
+mod letters;
 mod options;
 mod packing;
 mod parts;

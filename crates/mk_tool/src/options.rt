@@ -39,6 +39,34 @@ pub const BOUNDARY: &str = "BOUNDARY";
 
 pub const SPEC: &str = "SPEC";
 
+/// The subcommand that filters the fields of messages.
+pub const FIELD: &str = "field";
+
+pub const RENAME: &str = "rename";
+
+pub const ADD_IF: &str = "add-if";
+
+pub const ADD: &str = "add";
+
+pub const PREFIXED: &str = "prefixed";
+
+pub const ONLY: &str = "only";
+
+pub const FIRST: &str = "first";
+
+pub const LAST: &str = "last";
+
+pub const TAKE: &str = "take";
+
+pub const WHOLE: &str = "whole";
+
+pub const EACH: &str = "each";
+
+/// What a letter takes: a field, or a name and a colon.
+const A_FIELD: &str = "FIELD";
+
+const A_NAME: &str = "NAME:";
+
 /// The command line of the program.
 pub fn command<'a>(alloc: Global) -> Result<Command<'a>, AllocError> {
     Command::new(alloc, "mimetool")
@@ -51,7 +79,8 @@ pub fn command<'a>(alloc: Global) -> Result<Command<'a>, AllocError> {
         .subcommand(sections_command(alloc)?)?
         .subcommand(extract_command(alloc)?)?
         .subcommand(unpack_command(alloc)?)?
-        .subcommand(pack_command(alloc)?)
+        .subcommand(pack_command(alloc)?)?
+        .subcommand(field_command(alloc)?)
 }
 
 // mimetool sections
@@ -105,6 +134,56 @@ fn pack_command<'a>(alloc: Global) -> Result<Command<'a>, AllocError> {
         )
         .arg(boundary)?
         .arg(specs)
+}
+
+// mimetool field [-a FIELD] [-A FIELD] [-i FIELD] [-I FIELD] [-u NAME:] [-U NAME:] [-x NAME:] [-X NAME:] [--rename OLD:NEW] [-s]
+fn field_command<'a>(alloc: Global) -> Result<Command<'a>, AllocError> {
+    let rename = letter(alloc, RENAME, "OLD:NEW", "Give the fields OLD the name NEW").long(RENAME);
+    let each = flag(
+        alloc,
+        EACH,
+        "Take the input as a mailbox, message by message",
+    )
+    .short('s');
+    Command::new(alloc, FIELD)
+        .about("Adds, renames and removes fields of a message, or prints those of a name")
+        .arg(rename)?
+        .arg(letter(
+            alloc,
+            ADD_IF,
+            A_FIELD,
+            "Add FIELD, unless one of its name is there",
+        )
+        .short('a'))?
+        .arg(letter(alloc, ADD, A_FIELD, "Add FIELD").short('A'))?
+        .arg(letter(
+            alloc,
+            PREFIXED,
+            A_FIELD,
+            "Add FIELD, and put Old- before the others of its name",
+        )
+        .short('i'))?
+        .arg(letter(
+            alloc,
+            ONLY,
+            A_FIELD,
+            "Put FIELD in the place of those of its name",
+        )
+        .short('I'))?
+        .arg(letter(alloc, FIRST, A_NAME, "Keep the first field NAME").short('u'))?
+        .arg(letter(alloc, LAST, A_NAME, "Keep the last field NAME").short('U'))?
+        .arg(letter(alloc, TAKE, A_NAME, "Print what the fields NAME hold").short('x'))?
+        .arg(letter(alloc, WHOLE, A_NAME, "Print the fields NAME").short('X'))?
+        .arg(each)
+}
+
+// An option with a value, which may begin with a hyphen.
+fn letter<'a>(alloc: Global, name: &'a str, value: &'a str, help: &'a str) -> Arg<'a> {
+    Arg::new(alloc, name)
+        .value_name(value)
+        .help(help)
+        .allow_hyphen_values(true)
+        .action(ArgAction::Set)
 }
 
 // An option without a value.

@@ -2,10 +2,12 @@
 
 use crate::device::Input;
 use crate::engine::{give_up, run_edit};
+use crate::filtering::run_field;
 use crate::folder::Directory;
+use crate::letters::letters;
 use crate::options::{
-    BOUNDARY, DIR, EDIT, EXTRACT, OVER, PACK, PATH, PIECE, SCRIPT, SECTIONS, SILENT, SPEC, TEXTS,
-    UNPACK, command,
+    BOUNDARY, DIR, EACH, EDIT, EXTRACT, FIELD, OVER, PACK, PATH, PIECE, SCRIPT, SECTIONS, SILENT,
+    SPEC, TEXTS, UNPACK, command,
 };
 use crate::packing::run_pack;
 use crate::parts::Spec;
@@ -90,6 +92,8 @@ fn run_matches<R: Files + AllocGlobal, S: Source, O: Sink, E: Sink>(
         unpack_into(rt, matches, input, out, err)
     } else if let Some(matches) = matches.subcommand_matches(PACK) {
         pack(rt, matches, input, out, err)
+    } else if let Some(matches) = matches.subcommand_matches(FIELD) {
+        field(rt, matches, input, out, err)
     } else if matches.subcommand_matches(SECTIONS).is_some() {
         run_sections(rt.alloc(), input, out, err)
     } else {
@@ -177,6 +181,28 @@ fn pack<R: Files + AllocGlobal, S: Source, O: Sink, E: Sink>(
         Ok(parts) => run_pack(rt.alloc(), input, out, err, boundary.as_bytes(), &parts),
         Err(Stop::Fault) => give_up(err, Cause::Read),
         Err(Stop::Memory) => give_up(err, Cause::Memory),
+    }
+}
+
+// mimetool field
+fn field<R: AllocGlobal, S: Source, O: Sink, E: Sink>(
+    rt: &R,
+    matches: &ArgMatches<'_>,
+    input: &mut S,
+    out: &mut O,
+    err: &mut E,
+) -> Status {
+    match letters(rt.alloc(), matches) {
+        Ok(Some(letters)) => {
+            if letters.ok() {
+                let each = matches.get_flag(EACH);
+                run_field(rt.alloc(), input, out, err, &letters, each)
+            } else {
+                usage(err)
+            }
+        }
+        Ok(None) => usage(err),
+        Err(_) => give_up(err, Cause::Memory),
     }
 }
 

@@ -2,6 +2,8 @@
 
 ghost use Rattle.std.specs.Prelude.{◌≡◌, ◌++◌, codes, IfOk, OnOk, IfSome};
 ghost use Rattle.mk_edit.specs.Answers.{refusal_of};
+ghost use Rattle.mk_mail.specs.Letters.{root_path};
+ghost use Rattle.mk_tool.specs.Filtering.{message_line as line_of_message};
 ghost use Rattle.mk_tool.specs.Reports.{reason_name as name_of, behind_name, error_line, syntax_line};
 ghost use Rattle.mk_tool.specs.RunClauses.{Sends, cause_line as line_of};
 
@@ -13,6 +15,9 @@ use mk_mail::{Sink, push_path};
 use std::alloc::{AllocError, Global};
 
 const LINE_FEED: u8 = b'\n';
+
+/// The path of the root, where the edits of letters are made.
+const ROOT: [u32; 1] = [1];
 
 /// Reports a refusal of an edit at a path, with the number of its line in the script.
 pub fn report_refusal<E: Sink>(
@@ -43,6 +48,33 @@ fn refusal_line(
     let name = refusal_name(reason);
     let mut line = format!(in alloc; "line {number}: {name}")?.into_bytes();
     push_place(&mut line, path, reason)?;
+    line.push(LINE_FEED)?;
+    Ok(line)
+}
+
+/// Reports a message for which an edit at the root is refused, by its number from 1 on.
+pub fn report_message<E: Sink>(
+    alloc: Global,
+    err: &mut E,
+    number: u64,
+    reason: EditError,
+) -> Result<(), Stop>
+    ensures { IfSome (refusal_of reason) (λ refusal. Sends result (line_of_message number refusal)
+        (E.contents err.old) (E.contents err.new) (E.failures err.old) (E.failures err.new)) }
+{
+    match message_line(alloc, number, reason) {
+        Ok(line) => send(err, &line),
+        Err(_) => Err(Stop::Memory),
+    }
+}
+
+// The line that reports a message.
+fn message_line(alloc: Global, number: u64, reason: EditError) -> Result<Vec<u8>, AllocError>
+    ensures { IfOk result (λ line. IfSome (refusal_of reason) (λ refusal. line.items ≡ line_of_message number refusal)) }
+{
+    let name = refusal_name(reason);
+    let mut line = format!(in alloc; "message {number}: {name}")?.into_bytes();
+    push_place(&mut line, &ROOT, reason)?;
     line.push(LINE_FEED)?;
     Ok(line)
 }

@@ -4,6 +4,7 @@ mod devices;
 mod directory;
 mod faults;
 mod fields;
+mod filtered;
 mod groups;
 mod memory;
 mod packed;

@@ -2,8 +2,10 @@
 //! each test. Each test then sees the defined answer, or want of memory with all as before.
 
 use super::devices::{Page, Text};
+use super::filtered::{FILTERED, MAILBOX, ONLY, letters};
 use super::shelf::Slot;
 use crate::engine::run_edit;
+use crate::filtering::run_field;
 use crate::groups::{ScriptError, steps};
 use crate::packing::run_pack;
 use crate::parts::Spec;
@@ -152,6 +154,35 @@ fn check_packing(rt: &impl Abort, alloc: Global, mut out: Page, mut err: Page, p
     } else {
         assert_eq!(rt; status, Status::Well);
         assert_eq!(rt; out.bytes(), PICTURED);
+        assert_eq!(rt; err.bytes(), b"".as_slice());
+    }
+}
+
+#[test]
+fn memory_for_filtering(rt: HostRuntime) {
+    let alloc = rt.alloc();
+    let (Ok(out), Ok(err)) = (Page::new(alloc, SIZE), Page::new(alloc, SIZE)) else {
+        return;
+    };
+    check_filtering(&rt, alloc, out, err);
+}
+
+// All messages are filtered, or a front of them.
+fn check_filtering(rt: &impl Abort, alloc: Global, mut out: Page, mut err: Page) {
+    let Ok(letters) = letters(alloc, &ONLY) else {
+        return;
+    };
+    if !letters.ok() {
+        return;
+    }
+    let mut input = Text::new(MAILBOX, SIZE);
+    let status = run_field(alloc, &mut input, &mut out, &mut err, &letters, true);
+    if status == Status::Memory {
+        assert!(rt; FILTERED.starts_with(out.bytes()));
+        assert_eq!(rt; err.bytes(), b"mimetool: memory\n".as_slice());
+    } else {
+        assert_eq!(rt; status, Status::Well);
+        assert_eq!(rt; out.bytes(), FILTERED);
         assert_eq!(rt; err.bytes(), b"".as_slice());
     }
 }

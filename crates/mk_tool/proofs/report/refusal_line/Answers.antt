@@ -1,10 +1,10 @@
 use Rattle.std.proofs.Common.{◌≡◌, ◌++◌, codes, decimal}
 use Rattle.mk_edit.specs.Answers.{refusal_of}
-use Rattle.mk_tool.proofs.RefusalLemmas.{error_line-joined}
+use Rattle.mk_tool.proofs.RefusalLemmas.{report_joined}
 use Rattle.mk_tool.proofs.report.refusal_line.Goals as goal
 
 pub returns : goal.returns
 returns c =
     let front : c.into_bytes-line.result.items ≡ codes "line " ++ (decimal c.args.number ++ (codes ": " ++ c.refusal_name-name.result.now)) = cc (c.into_bytes-line.ensures.value, c.in_ok-format.ensures.ok) in
     rw c.in_ok-push.ensures.items
-    (error_line-joined (refusal_of c.args.reason) c.args.path.now c.refusal_name-name.result.now c.into_bytes-line.result.items c.push_place.new.line.items c.args.number front c.refusal_name-name.ensures c.in_ok-push_place.ensures)
+    (report_joined (codes "line ") (refusal_of c.args.reason) c.args.path.now c.refusal_name-name.result.now c.into_bytes-line.result.items c.push_place.new.line.items c.args.number front c.refusal_name-name.ensures c.in_ok-push_place.ensures)

@@ -1,0 +1,356 @@
+-- Messages filtered in turn: what went out so far, and what is left to be said.
+use Rattle.std.proofs.Common.{◌≡◌, ◌≤◌, ◌+◌, ◌*◌, ◌⊎◌, ◌++◌, ◌||◌, ℕ, suc, Bool, true, false, not, if◌then◌else◌, Option, None, Some, IfSome, Result, Ok, Err, OnErr, List, [], ◌∷◌, refl, ap, sym, ◌∙◌, subst, inl, inr, filter, length, length-append, append_assoc, append-nil, arith}
+use Rattle.std.proofs.KnownBytes.{Appends-nil, Appends-trans}
+use Rattle.std.specs.Io.KnownBytes.{Appends}
+use Rattle.std.specs.List.{flat_map}
+use Rattle.mk_line.specs.Lines.{cut, is_nil}
+use Rattle.mk_edit.specs.declared.errors.EditError.{EditError}
+use Rattle.mk_edit.specs.Answers.{IsGroupRefusedBy, is_unnamed, refusal_of}
+use Rattle.mk_edit.specs.declared.errors.GroupError.TheVariants.{Member as MemberIn}
+use Rattle.mk_edit.specs.Edits.{Refusal, Group, Member, NothingToUndo, PlainEdit}
+use Rattle.mk_edit.specs.Groups.{Together}
+use Rattle.mk_edit.specs.Histories.{grouped_by, started, step, text_now, with_step}
+use Rattle.mk_edit.specs.History.{History}
+use Rattle.mk_head.specs.Fields.{FieldText, fields_of, is_named}
+use Rattle.mk_head.specs.Split.{fields_from}
+use Rattle.mk_tree.specs.Documents.{printed, tree}
+use Rattle.mk_tree.specs.Sections.{head_text, root_of, section_fields}
+use Rattle.mk_mail.specs.Devices.{AppendsFront, IsFull, IsLong, Rose}
+use Rattle.mk_mail.specs.Filtered.{outcome, text_left}
+use Rattle.mk_mail.specs.Held.{Held as Kept}
+use Rattle.mk_mail.specs.Letters.{PlainLetters, edits_of}
+use Rattle.mk_mail.specs.Mailboxes.{FitsReads, IsNextPiece, IsOver, chunk_bytes}
+use Rattle.mk_mail.specs.Pieces.{mailbox_pieces}
+use Rattle.mk_mail.proofs.FieldNames.{root_fields}
+use Rattle.mk_tool.specs.declared.status.Status.{Status}
+use Rattle.mk_tool.specs.declared.status.Status.TheVariants.{Well, Refused}
+use Rattle.mk_tool.specs.declared.status.Cause.{Cause}
+use Rattle.mk_tool.specs.declared.status.Cause.TheVariants.{Read, Write, Memory}
+use Rattle.mk_tool.specs.declared.transfer.Stop.{Stop}
+use Rattle.mk_tool.specs.declared.transfer.Stop.TheVariants.{Fault as Stopped, Memory as Wanting}
+use Rattle.mk_tool.specs.FilterClauses.{Filters, IsBroken, IsEdited, IsFiltered, IsReason, SaysAll, SaysSome}
+use Rattle.mk_tool.specs.Filtering.{given_by, message_line, report_of, said_from, said_of, said_of_edits, said_or}
+use Rattle.mk_tool.specs.RunClauses.{Held, IsSent, IsStopped, cause_line, cause_of_writing, held, status_of}
+use Rattle.mk_tool.specs.Shown.{shown}
+use Rattle.mk_tool.specs.Unpacking.{Said, said_behind, silence}
+use Rattle.mk_tool.proofs.Fronts.{AppendsFront-behind, not-is_nil-append}
+use Rattle.mk_tool.proofs.RunLemmas.{AppendsFront-none}
+
+-- ---- what is said of messages, one behind another
+
+behind_behind : (a b c : Said) → said_behind (said_behind a b) c ≡ said_behind a (said_behind b c)
+behind_behind a b c = λ i. record { output = append_assoc a.output b.output c.output i; errors = append_assoc a.errors b.errors c.errors i }
+
+behind_none : (a : Said) → said_behind a silence ≡ a
+behind_none a = λ i. record { output = append-nil a.output i; errors = append-nil a.errors i }
+
+said_append : (l : PlainLetters) (number : ℕ) (ms ns : List (List ℕ)) → said_from l number (ms ++ ns) ≡ said_behind (said_from l number ms) (said_from l (number + length ms) ns)
+said_append l number [] ns = ap (λ k. said_from l k ns) (omega arith)
+said_append l number (m ∷ ms) ns =
+    ap (said_behind (said_of l number m)) (said_append l (suc number) ms ns ∙ ap (λ k. said_behind (said_from l (suc number) ms) (said_from l k ns)) (omega arith))
+    ∙ sym (behind_behind (said_of l number m) (said_from l (suc number) ms) (said_from l (number + length (m ∷ ms)) ns))
+
+pub said_one : (l : PlainLetters) (number : ℕ) (m : List ℕ) → said_from l number (m ∷ []) ≡ said_of l number m
+said_one l number m = behind_none (said_of l number m)
+
+-- one message more
+said_more : (l : PlainLetters) (turn : ℕ) (done : List (List ℕ)) (m : List ℕ) → turn ≡ length done → said_from l 1 (done ++ m ∷ []) ≡ said_behind (said_from l 1 done) (said_of l (turn + 1) m)
+said_more l turn done m t =
+    said_append l 1 done (m ∷ []) ∙ ap (said_behind (said_from l 1 done)) (said_one l (1 + length done) m ∙ ap (λ k. said_of l k m) (omega (arith, t)))
+
+says_on : (a b : Said) (r s : Bool) (out out_mid out_after err err_mid err_after : Option (List ℕ)) → SaysAll a r out out_mid err err_mid → SaysAll b s out_mid out_after err_mid err_after
+    → SaysAll (said_behind a b) (r || s) out out_after err err_after
+says_on a b r s out out_mid out_after err err_mid err_after x y = record {
+  output = Appends-trans out out_mid out_after a.output b.output x.output y.output;
+  errors = Appends-trans err err_mid err_after a.errors b.errors x.errors y.errors;
+  refused_is = (λ i. x.refused_is i || y.refused_is i) ∙ sym (not-is_nil-append a.errors b.errors);
+}
+
+some_on : (a b c all : Said) (r : Bool) (out out_mid out_after err err_mid err_after : Option (List ℕ)) → SaysAll a r out out_mid err err_mid → SaysSome b out_mid out_after err_mid err_after
+    → all ≡ said_behind a (said_behind b c) → SaysSome all out out_after err err_after
+some_on a b c all r out out_mid out_after err err_mid err_after x y e = record {
+  output = AppendsFront-behind out out_mid out_after a.output b.output c.output all.output x.output y.output (ap (λ (s : Said). s.output) e);
+  errors = AppendsFront-behind err err_mid err_after a.errors b.errors c.errors all.errors x.errors y.errors (ap (λ (s : Said). s.errors) e);
+}
+
+none_said : (out err : Option (List ℕ)) → SaysSome silence out out err err
+none_said out err = record { output = AppendsFront-none out []; errors = AppendsFront-none err [] }
+
+-- ---- messages of a mailbox in turn
+
+-- messages that went out: all that was read is these and what is kept, whatever is read later
+pub record AreOut (l : PlainLetters) (turn : ℕ) (refused : Bool) (text : List ℕ) (done : List (List ℕ)) (now : Kept) (out out_after err err_after : Option (List ℕ)) : Type 0 where
+  pub pieces : (more : List ℕ) → (now.ended ≡ true → more ≡ []) → mailbox_pieces (text ++ more) ≡ done ++ mailbox_pieces (now.kept ++ more)
+  pub says : SaysAll (said_from l 1 done) refused out out_after err err_after
+  pub count : turn ≡ length done
+
+pub none_out : (l : PlainLetters) (out err : Option (List ℕ)) (now : Kept) → now.kept ≡ [] → AreOut l 0 false [] [] now out out err err
+none_out l out err now e = record {
+  pieces = λ more _. ap (λ x. mailbox_pieces (x ++ more)) (sym e);
+  says = record { output = Appends-nil out; errors = Appends-nil err; refused_is = refl };
+  count = refl;
+}
+
+-- what was read in a call, with what went before it
+read_with : (l : PlainLetters) (turn : ℕ) (refused : Bool) (text read : List ℕ) (done : List (List ℕ)) (now : Kept) (out out_after err err_after : Option (List ℕ))
+    → AreOut l turn refused text done now out out_after err err_after → (now.ended ≡ true → read ≡ [])
+    → (more : List ℕ) → (now.ended ≡ true → more ≡ []) → mailbox_pieces ((text ++ read) ++ more) ≡ done ++ mailbox_pieces ((now.kept ++ read) ++ more)
+read_with l turn refused text read done now out out_after err err_after a r more m =
+    ap mailbox_pieces (append_assoc text read more)
+    ∙ (a.pieces (read ++ more) (λ e. (λ i. r e i ++ m e i)) ∙ ap (λ x. done ++ mailbox_pieces x) (sym (append_assoc now.kept read more)))
+
+-- the same where nothing more is read
+read_all : (l : PlainLetters) (turn : ℕ) (refused : Bool) (text read : List ℕ) (done : List (List ℕ)) (now : Kept) (out out_after err err_after : Option (List ℕ))
+    → AreOut l turn refused text done now out out_after err err_after → (now.ended ≡ true → read ≡ [])
+    → mailbox_pieces (text ++ read) ≡ done ++ mailbox_pieces (now.kept ++ read)
+read_all l turn refused text read done now out out_after err err_after a r =
+    ap mailbox_pieces (sym (append-nil (text ++ read)))
+    ∙ (read_with l turn refused text read done now out out_after err err_after a r [] (λ _. refl) ∙ ap (λ x. done ++ mailbox_pieces x) (append-nil (now.kept ++ read)))
+
+-- a message more went out
+pub one_out : (l : PlainLetters) (turn : ℕ) (refused told : Bool) (text read m : List ℕ) (done : List (List ℕ)) (old now : Kept) (out out_mid out_after err err_mid err_after : Option (List ℕ))
+    → AreOut l turn refused text done old out out_mid err err_mid → (old.ended ≡ true → read ≡ []) → (old.ended ≡ true → now.ended ≡ true) → IsNextPiece m old read now
+    → SaysAll (said_of l (turn + 1) m) told out_mid out_after err_mid err_after
+    → AreOut l (turn + 1) (refused || told) (text ++ read) (done ++ m ∷ []) now out out_after err err_after
+one_out l turn refused told text read m done old now out out_mid out_after err err_mid err_after a r s p y = record {
+  pieces = λ more e. read_with l turn refused text read done old out out_mid err err_mid a r more (λ t. e (s t))
+      ∙ (ap (λ xs. done ++ xs) (p.stays more e) ∙ sym (append_assoc done (m ∷ []) (mailbox_pieces (now.kept ++ more))));
+  says = subst (λ said. SaysAll said (refused || told) out out_after err err_after) (sym (said_more l turn done m a.count))
+      (says_on (said_from l 1 done) (said_of l (turn + 1) m) refused told out out_mid out_after err err_mid err_after a.says y);
+  count = omega (arith, a.count, length-append done (m ∷ []));
+}
+
+-- a run that stops between two messages
+pub stopped_between : (l : PlainLetters) (turn : ℕ) (refused : Bool) (text read : List ℕ) (done : List (List ℕ)) (now : Kept) (out out_after err err_after : Option (List ℕ))
+    → AreOut l turn refused text done now out out_after err err_after → (now.ended ≡ true → read ≡ [])
+    → SaysSome (said_from l 1 (mailbox_pieces (text ++ read))) out out_after err err_after
+stopped_between l turn refused text read done now out out_after err err_after a r =
+    let rest = mailbox_pieces (now.kept ++ read) in
+    let all = read_all l turn refused text read done now out out_after err err_after a r in
+    some_on (said_from l 1 done) silence (said_from l (1 + length done) rest) (said_from l 1 (mailbox_pieces (text ++ read))) refused out out_after out_after err err_after err_after a.says (none_said out_after err_after)
+    (ap (said_from l 1) all ∙ said_append l 1 done rest)
+
+-- the same where nothing more was read
+pub stopped_here : (l : PlainLetters) (turn : ℕ) (refused : Bool) (text : List ℕ) (done : List (List ℕ)) (now : Kept) (out out_after err err_after : Option (List ℕ))
+    → AreOut l turn refused text done now out out_after err err_after → SaysSome (said_from l 1 (mailbox_pieces text)) out out_after err err_after
+stopped_here l turn refused text done now out out_after err err_after a =
+    subst (λ x. SaysSome (said_from l 1 (mailbox_pieces x)) out out_after err err_after) (append-nil text) (stopped_between l turn refused text [] done now out out_after err err_after a (λ _. refl))
+
+-- a run that stops within a message
+pub stopped_within : (l : PlainLetters) (turn : ℕ) (refused : Bool) (text read m : List ℕ) (done : List (List ℕ)) (old now : Kept) (out out_mid out_after err err_mid err_after : Option (List ℕ))
+    → AreOut l turn refused text done old out out_mid err err_mid → (old.ended ≡ true → read ≡ []) → IsNextPiece m old read now → SaysSome (said_of l (turn + 1) m) out_mid out_after err_mid err_after
+    → SaysSome (said_from l 1 (mailbox_pieces (text ++ read))) out out_after err err_after
+stopped_within l turn refused text read m done old now out out_mid out_after err err_mid err_after a r p y =
+    let rest = mailbox_pieces (now.kept ++ []) in
+    let all : mailbox_pieces (text ++ read) ≡ done ++ (m ∷ rest) =
+    ap mailbox_pieces (sym (append-nil (text ++ read))) ∙ (read_with l turn refused text read done old out out_mid err err_mid a r [] (λ _. refl) ∙ ap (λ xs. done ++ xs) (p.stays [] (λ _. refl))) in
+    some_on (said_from l 1 done) (said_of l (turn + 1) m) (said_from l (suc (1 + length done)) rest) (said_from l 1 (mailbox_pieces (text ++ read))) refused out out_mid out_after err err_mid err_after a.says y
+    (ap (said_from l 1) all ∙ (said_append l 1 done (m ∷ rest) ∙ ap (λ k. said_behind (said_from l 1 done) (said_behind (said_of l k m) (said_from l (suc (1 + length done)) rest))) (omega (arith, a.count))))
+
+-- all messages went out
+pub all_out : (l : PlainLetters) (turn : ℕ) (refused : Bool) (text read : List ℕ) (done : List (List ℕ)) (old now : Kept) (out out_after err err_after : Option (List ℕ))
+    → AreOut l turn refused text done old out out_after err err_after → (old.ended ≡ true → read ≡ []) → IsOver old read now
+    → SaysAll (said_from l 1 (mailbox_pieces (text ++ read))) refused out out_after err err_after
+all_out l turn refused text read done old now out out_after err err_after a r o =
+    subst (λ ms. SaysAll (said_from l 1 ms) refused out out_after err err_after)
+    (sym (read_all l turn refused text read done old out out_after err err_after a r ∙ (ap (λ x. done ++ mailbox_pieces x) o.none ∙ append-nil done))) a.says
+
+-- ---- reads
+
+-- each message has a byte, and each read gives no more than a chunk
+pub counted_on : (turn before reads now : ℕ) (m read : List ℕ) (old new : Kept) → (turn + length old.kept + chunk_bytes * before ≤ chunk_bytes * reads) ⊎ IsFull reads → FitsReads read reads now → IsNextPiece m old read new
+    → ((turn + 1) + length new.kept + chunk_bytes * before ≤ chunk_bytes * now) ⊎ IsFull now
+counted_on turn before reads now m read old new c f p =
+    let sizes : length (old.kept ++ read) ≡ length (m ++ new.kept) = ap length p.whole in
+    elim f [
+      | inr full ↦ inr full
+      | inl fits ↦ elim c [
+        | inr full ↦ inr (omega (arith, full, fits))
+        | inl less ↦ inl (omega (arith, less, fits, sizes, p.some, length-append old.kept read, length-append m new.kept))
+      ]
+    ]
+
+pub long_on : (turn kept before reads now : ℕ) → (turn + kept + chunk_bytes * before ≤ chunk_bytes * reads) ⊎ IsFull reads → IsLong reads now → IsLong before now
+long_on turn kept before reads now c h =
+    elim h [
+      | inr full ↦ inr full
+      | inl more ↦ elim c [
+        | inr full ↦ inr (omega (arith, full, more))
+        | inl less ↦ inl (omega (arith, less, more))
+      ]
+    ]
+
+-- ---- the edits of one message
+
+abbrev text_by : Result History Refusal → List ℕ
+text_by (Ok h) = text_now h
+text_by (Err e) = []
+
+abbrev member_of : Refusal → Refusal
+member_of (Member index reason) = reason
+member_of reason = reason
+
+abbrev reason_by : Result History Refusal → Refusal
+reason_by (Ok h) = NothingToUndo
+reason_by (Err e) = member_of e
+
+not_both : {A : Type 0} (e : Refusal) (h : History) → ◌≡◌ {A = Result History Refusal} (Err e) (Ok h) → A
+not_both e h k = cc
+
+made_by : (text : List ℕ) (r : Together) (new : History) → grouped_by (started text) r ≡ Ok new → (text_now new ≡ text_left text r) × IsReason None r
+made_by text (Ok p) new e = (sym (ap text_by e), tt)
+made_by text (Err q) new e = not_both (Member q.0 q.1) new e
+
+refused_by : (text : List ℕ) (r : Together) (index : ℕ) (reason : Refusal) (error : EditError) → grouped_by (started text) r ≡ Err (Member index reason) → refusal_of error ≡ Some reason
+    → (text ≡ text_left text r) × IsReason (Some error) r
+refused_by text (Ok p) index reason error e n = not_both (Member index reason) (with_step (started text) (printed p.0) p.1) (sym e)
+refused_by text (Err q) index reason error e n = (refl, n ∙ ap (λ x. Some x) (sym (ap reason_by e)))
+
+-- the edits of letters, made as a group in a text that was just read
+group_is : (l : PlainLetters) (text : List ℕ) (es : List PlainEdit) (old : History) → old ≡ started text → es ≡ edits_of text l → step (Group es) old ≡ grouped_by (started text) (outcome l text)
+group_is l text es old b e = λ i. step (Group (e i)) (b i)
+
+pub edited_well : (l : PlainLetters) (text : List ℕ) (es : List PlainEdit) (old new : History) → old ≡ started text → es ≡ edits_of text l → step (Group es) old ≡ Ok new → IsEdited l text None (text_now new)
+edited_well l text es old new b e h =
+    let m = made_by text (outcome l text) new (sym (group_is l text es old b e) ∙ h) in
+    record { left_is = m.0; reason = m.1 }
+
+pub edited_refused : (l : PlainLetters) (text : List ℕ) (es : List PlainEdit) (old new : History) (index : ℕ) (error : EditError) → old ≡ started text → es ≡ edits_of text l → new ≡ old
+    → IsGroupRefusedBy (MemberIn index error) (step (Group es) old) → IsEdited l text (Some error) (text_now new)
+edited_refused l text es old new index error b e n r =
+    let m = refused_by text (outcome l text) index r.0 error (sym (group_is l text es old b e) ∙ r.2) r.1 in
+    record { left_is = ap text_now (n ∙ b) ∙ m.0; reason = m.1 }
+
+-- the reason that is reported is that of the edit that was refused
+report_some : (P : List ℕ → Type 0) (number : ℕ) (r : Together) (error : EditError) → IsReason (Some error) r → IfSome (refusal_of error) (λ reason. P (message_line number reason)) → P (report_of number r)
+report_some P number (Ok p) error h s = absurd h
+report_some P number (Err q) error h s = rw h at s
+
+report_none : (number : ℕ) (r : Together) → IsReason None r → report_of number r ≡ []
+report_none number (Ok p) h = refl
+report_none number (Err q) h = absurd h
+
+some_message : (o : Option Refusal) (number : ℕ) → IfSome o (λ reason. true ≡ not (is_nil (message_line number reason)))
+some_message None number = tt
+some_message (Some reason) number = refl
+
+-- what is left of a message went out, and the report too
+pub said_refused : (l : PlainLetters) (number : ℕ) (text shown left : List ℕ) (error : EditError) (out out_after err err_after : Option (List ℕ)) (before after : ℕ) → IsEdited l text (Some error) left → shown ≡ left
+    → Appends out out_after shown → IfSome (refusal_of error) (λ reason. IsSent (message_line number reason) err err_after before after) → SaysAll (said_of_edits l number text) true out out_after err err_after
+said_refused l number text shown left error out out_after err err_after before after e s o r =
+    let sent = report_some (λ bytes. IsSent bytes err err_after before after) number (outcome l text) error e.reason r in
+    record {
+      output = subst (Appends out out_after) (s ∙ e.left_is) o;
+      errors = sent.whole;
+      refused_is = report_some (λ bytes. true ≡ not (is_nil bytes)) number (outcome l text) error e.reason (some_message (refusal_of error) number);
+    }
+
+-- it went out, and there is nothing to report
+pub said_accepted : (l : PlainLetters) (number : ℕ) (text shown left : List ℕ) (out out_after err : Option (List ℕ)) → IsEdited l text None left → shown ≡ left → Appends out out_after shown
+    → SaysAll (said_of_edits l number text) false out out_after err err
+said_accepted l number text shown left out out_after err e s o =
+    let none = report_none number (outcome l text) e.reason in
+    record {
+      output = subst (Appends out out_after) (s ∙ e.left_is) o;
+      errors = subst (Appends err err) (sym none) (Appends-nil err);
+      refused_is = ap (λ bytes. not (is_nil bytes)) (sym none);
+    }
+
+-- it went out, and a front of the report
+pub said_partly : (l : PlainLetters) (number : ℕ) (text shown left : List ℕ) (error : EditError) (stop : Stop) (out out_after err err_after : Option (List ℕ)) (before after : ℕ) → IsEdited l text (Some error) left → shown ≡ left
+    → Appends out out_after shown → IfSome (refusal_of error) (λ reason. IsStopped stop (message_line number reason) err err_after before after) → SaysSome (said_of_edits l number text) out out_after err err_after
+said_partly l number text shown left error stop out out_after err err_after before after e s o r =
+    let stopped = report_some (λ bytes. IsStopped stop bytes err err_after before after) number (outcome l text) error e.reason r in
+    record { output = (shown, [], sym (s ∙ e.left_is) ∙ sym (append-nil shown), o); errors = stopped.front }
+
+-- a front of it went out
+pub said_hardly : (l : PlainLetters) (number : ℕ) (text shown left : List ℕ) (refusal : Option EditError) (out out_after err : Option (List ℕ)) → IsEdited l text refusal left → shown ≡ left → AppendsFront out out_after shown
+    → SaysSome (said_of_edits l number text) out out_after err err
+said_hardly l number text shown left refusal out out_after err e s o = record {
+  output = subst (AppendsFront out out_after) (s ∙ e.left_is) o;
+  errors = AppendsFront-none err (report_of number (outcome l text));
+}
+
+-- what is known of sending a report, whatever the reason is
+pub sent_well : (o : Option Refusal) (number : ℕ) (err err_after : Option (List ℕ)) (before after : ℕ) → is_unnamed o ≡ false → IfSome o (λ reason. IsSent (message_line number reason) err err_after before after) → after ≡ before
+sent_well None number err err_after before after n s = cc
+sent_well (Some reason) number err err_after before after n s = s.well
+
+pub stopped_so : (o : Option Refusal) (number : ℕ) (stop : Stop) (err err_after : Option (List ℕ)) (before after : ℕ) → is_unnamed o ≡ false → IfSome o (λ reason. IsStopped stop (message_line number reason) err err_after before after)
+    → stop ≡ Stopped → Rose before after
+stopped_so None number stop err err_after before after n s = cc
+stopped_so (Some reason) number stop err err_after before after n s = s.fault
+
+-- ---- what is said of one message
+
+-- what letters give of it goes out
+pub given_all : (l : PlainLetters) (number : ℕ) (text given : List ℕ) (out out_after err : Option (List ℕ)) → Some given ≡ given_by l.take l.whole text → Appends out out_after given → SaysAll (said_of l number text) false out out_after err err
+given_all l number text given out out_after err e o =
+    subst (λ x. SaysAll (said_or x (said_of_edits l number text)) false out out_after err err) e (record { output = o; errors = Appends-nil err; refused_is = refl })
+
+pub given_some : (l : PlainLetters) (number : ℕ) (text given : List ℕ) (out out_after err : Option (List ℕ)) → Some given ≡ given_by l.take l.whole text → AppendsFront out out_after given → SaysSome (said_of l number text) out out_after err err
+given_some l number text given out out_after err e o =
+    subst (λ x. SaysSome (said_or x (said_of_edits l number text)) out out_after err err) e (record { output = o; errors = AppendsFront-none err [] })
+
+-- where they give nothing, it is what their edits leave
+pub given_none : (P : Said → Type 0) (l : PlainLetters) (number : ℕ) (text : List ℕ) → None ≡ given_by l.take l.whole text → P (said_of_edits l number text) → P (said_of l number text)
+given_none P l number text e h = subst (λ x. P (said_or x (said_of_edits l number text))) e h
+
+pub on_err : {A E : Type 0} (r : Result A E) (P Q : Type 0) → OnErr r P → (P → Q) → OnErr r Q
+on_err (Ok x) P Q h f = tt
+on_err (Err e) P Q h f = f h
+
+-- ---- the fields of a name
+
+pub given_begun : (f : FieldText → List ℕ) (name text held head : List ℕ) (fields : List FieldText) → held ≡ [] → head ≡ head_text (root_of (tree text)) → fields ≡ fields_of (fields_from false (cut head))
+    → held ++ flat_map f (filter (is_named name) fields) ≡ flat_map f (filter (is_named name) (section_fields (root_of (tree text))))
+given_begun f name text held head fields e h g =
+    ap (λ x. x ++ flat_map f (filter (is_named name) fields)) e
+    ∙ ap (λ fs. flat_map f (filter (is_named name) fs)) (g ∙ (ap (λ b. fields_of (fields_from false (cut b))) h ∙ root_fields text))
+
+pub given_more : (f : FieldText → List ℕ) (test : FieldText → Bool) (x : FieldText) (old rest : List FieldText) (held new total : List ℕ) → old ≡ x ∷ rest → test x ≡ true → new ≡ held ++ f x
+    → held ++ flat_map f (filter test old) ≡ total → new ++ flat_map f (filter test rest) ≡ total
+given_more f test x old rest held new total o t n h =
+    let one : flat_map f (filter test (x ∷ rest)) ≡ f x ++ flat_map f (filter test rest) = rw t refl in
+    ap (λ y. y ++ flat_map f (filter test rest)) n
+    ∙ (append_assoc held (f x) (flat_map f (filter test rest)) ∙ (ap (λ y. held ++ y) (sym one) ∙ (ap (λ xs. held ++ flat_map f (filter test xs)) (sym o) ∙ h)))
+
+pub given_less : (f : FieldText → List ℕ) (test : FieldText → Bool) (x : FieldText) (old rest : List FieldText) (held total : List ℕ) → old ≡ x ∷ rest → test x ≡ false
+    → held ++ flat_map f (filter test old) ≡ total → held ++ flat_map f (filter test rest) ≡ total
+given_less f test x old rest held total o t h =
+    let none : flat_map f (filter test (x ∷ rest)) ≡ flat_map f (filter test rest) = rw t refl in
+    ap (λ y. held ++ y) (sym none) ∙ (ap (λ xs. held ++ flat_map f (filter test xs)) (sym o) ∙ h)
+
+-- ---- how a run ends
+
+pub no_silence : {A : Type 0} → true ≡ false → A
+no_silence e = cc
+
+pub not_reading : {A : Type 0} (stop : Stop) (cause : Cause) → cause ≡ cause_of_writing stop → cause ≡ Read → A
+not_reading Stopped cause e r = cc
+not_reading Wanting cause e r = cc
+
+some_line : (t : Bool) → true ≡ not t → (if t then Well else Refused) ≡ Refused
+some_line true h = cc
+some_line false h = refl
+
+no_line : (t : Bool) → false ≡ not t → (if t then Well else Refused) ≡ Well
+no_line true h = refl
+no_line false h = cc
+
+pub Filters-refused : (each : Bool) (said : Said) (before after : Held) → IsFiltered said true before after → Filters each Refused (shown said.output said.errors) before after
+Filters-refused each said before after f =
+    record { status_is = some_line (is_nil said.errors) f.says.refused_is; written = record { output = f.says.output; errors = f.says.errors }; read = f.ended }
+
+pub Filters-well : (each : Bool) (said : Said) (before after : Held) → IsFiltered said false before after → Filters each Well (shown said.output said.errors) before after
+Filters-well each said before after f =
+    record { status_is = no_line (is_nil said.errors) f.says.refused_is; written = record { output = f.says.output; errors = f.says.errors }; read = f.ended }
+
+pub Filters-given_up : (each : Bool) (cause : Cause) (said : Said) (before : Held) (input output between errors : Option (List ℕ)) → IsBroken each cause said before (held input output between)
+    → AppendsFront between errors (cause_line cause) → Filters each (status_of cause) (shown said.output said.errors) before (held input output errors)
+Filters-given_up each Read said before input output between errors b line =
+    record { output = b.says.output; cause = Read; status_is = refl; between = between; errors = b.says.errors; line = line; silent = b.silent }
+Filters-given_up each Write said before input output between errors b line =
+    record { output = b.says.output; cause = Write; status_is = refl; between = between; errors = b.says.errors; line = line; silent = b.silent }
+Filters-given_up each Memory said before input output between errors b line =
+    record { output = b.says.output; cause = Memory; status_is = refl; between = between; errors = b.says.errors; line = line; silent = b.silent }

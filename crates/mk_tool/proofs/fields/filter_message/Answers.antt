@@ -1,0 +1,28 @@
+use Rattle.std.proofs.Common.{◌∙◌, ap, Some, sym}
+use Rattle.std.specs.Option.{option_map}
+use Rattle.mk_edit.specs.Histories.{text_now}
+use Rattle.mk_mail.specs.LetterViews.{letters_of}
+use Rattle.mk_tool.specs.FilterClauses.{SaysSome}
+use Rattle.mk_tool.specs.Filtering.{given_by}
+use Rattle.mk_tool.proofs.FilterLemmas.{given_all, given_none, given_some, on_err}
+use Rattle.mk_tool.proofs.fields.filter_message.Goals as goal
+
+pub returns-in-Ok-send-clause-all : goal.returns-in-Ok-send-clause-all
+returns-in-Ok-send-clause-all g c =
+    let l = letters_of c.args.letters.now in
+    let given = rw (c.in-Ok-Some.field-0-is, c.doc.ensures, c.in-Ok.ensures.ok) at c.in-Ok-Some.ensures in
+    given_all l c.args.number c.args.message.items c.in-Ok-Some.text.items _ _ _ given (rw c.deref.ensures.value at c.in-Ok-send.ensures.whole)
+
+pub returns-in-Ok-Some-clause-some : goal.returns-in-Ok-Some-clause-some
+returns-in-Ok-Some-clause-some g c =
+    let l = letters_of c.args.letters.now in
+    let given = rw (c.in-Ok-Some.field-0-is, c.doc.ensures, c.in-Ok.ensures.ok) at c.in-Ok-Some.ensures in
+    given_some l c.args.number c.args.message.items c.in-Ok-Some.text.items _ _ _ given (rw c.deref.ensures.value at c.in-Err-send.ensures.front)
+
+pub returns-in-Ok-None-clause-some : goal.returns-in-Ok-None-clause-some
+returns-in-Ok-None-clause-some g c =
+    let l = letters_of c.args.letters.now in
+    let given = rw (c.in-Ok-None.field-0-is, c.doc.ensures, c.in-Ok.ensures.ok) at c.in-Ok-None.ensures in
+    on_err c.edit_message.result _ _ c.edit_message.ensures.some
+    (λ h. given_none (λ said. SaysSome said (g.O.Sink.contents c.args.out.now) (g.O.Sink.contents c.edit_message.new.out) (g.E.Sink.contents c.args.err.now) (g.E.Sink.contents c.edit_message.new.err)) l c.args.number c.args.message.items given
+    (h c.args.message.items c.in-Ok.ensures.ok))

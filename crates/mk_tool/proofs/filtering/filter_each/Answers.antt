@@ -1,0 +1,91 @@
+use Rattle.std.proofs.Common.{◌≡◌, ◌∙◌, ◌++◌, ◌∷◌, [], true, refl, sym, subst, inl, inr, arith}
+use Rattle.std.proofs.KnownBytes.{Consumes-nil, Consumes-trans}
+use Rattle.std.specs.Io.KnownBytes.{IsAtEnd}
+use Rattle.mk_mail.specs.LetterViews.{letters_of}
+use Rattle.mk_tool.proofs.FilterLemmas.{all_out, counted_on, no_silence, none_out, one_out, stopped_between, stopped_here, stopped_within}
+use Rattle.mk_tool.proofs.filtering.filter_each.Goals as goal
+
+pub loop-turn-init : goal.loop-turn-init
+loop-turn-init g c = record {
+  told = ([], [], Consumes-nil _, none_out (letters_of c.args.letters.now) _ _ c.new-mailbox.result c.new-mailbox.ensures.kept);
+  ended = λ e. no_silence (sym e ∙ c.new-mailbox.ensures.ended);
+  well = record { input = refl; output = refl; errors = refl };
+  count = inl (rw c.new-mailbox.ensures.kept (omega arith));
+}
+
+pub returns-then-are_too_many-clause-leaves : goal.returns-then-are_too_many-clause-leaves
+returns-then-are_too_many-clause-leaves g c =
+    let t = c.loop-turn.invariant.told in
+    (t.0, t.2, record { says = stopped_here (letters_of c.args.letters.now) _ _ t.0 t.1 c.loop-turn.mailbox _ _ _ _ t.3; silent = no_silence })
+
+pub returns-clause-leaves : goal.returns-clause-leaves
+returns-clause-leaves g c =
+    let t = c.loop-turn.invariant.told in
+    (t.0, t.2, record { says = stopped_here (letters_of c.args.letters.now) _ _ t.0 t.1 c.loop-turn.mailbox _ _ _ _ t.3; silent = no_silence })
+
+pub returns-in-Err-ReadFault-clause-leaves : goal.returns-in-Err-ReadFault-clause-leaves
+returns-in-Err-ReadFault-clause-leaves g c =
+    let t = c.loop-turn.invariant.told in
+    let e = c.next.ensures.exact in (
+      t.0 ++ e.0,
+      Consumes-trans _ _ _ t.0 e.0 t.2 e.1,
+      record { says = stopped_between (letters_of c.args.letters.now) _ _ t.0 e.0 t.1 c.loop-turn.mailbox _ _ _ _ t.3 e.2; silent = no_silence },
+    )
+
+pub returns-in-Err-Memory-clause-leaves : goal.returns-in-Err-Memory-clause-leaves
+returns-in-Err-Memory-clause-leaves g c =
+    let t = c.loop-turn.invariant.told in
+    let e = c.next.ensures.exact in (
+      t.0 ++ e.0,
+      Consumes-trans _ _ _ t.0 e.0 t.2 e.1,
+      record { says = stopped_between (letters_of c.args.letters.now) _ _ t.0 e.0 t.1 c.loop-turn.mailbox _ _ _ _ t.3 e.2; silent = no_silence },
+    )
+
+pub returns-in-Ok-None-clause-leaves : goal.returns-in-Ok-None-clause-leaves
+returns-in-Ok-None-clause-leaves g c =
+    let t = c.loop-turn.invariant.told in
+    let e = rw c.in-Ok-None.field-0-is at c.in-Ok-None.ensures.exact in
+    let ended : IsAtEnd (g.S.Source.remaining c.next.new.r) = elim (c.next.ensures.ended e.4.ended) [
+      | inl old ↦ subst IsAtEnd (sym (c.next.ensures.stays old).1) (c.loop-turn.invariant.ended old)
+      | inr end ↦ end
+    ] in (
+      t.0 ++ e.0,
+      Consumes-trans _ _ _ t.0 e.0 t.2 e.1,
+      record { says = all_out (letters_of c.args.letters.now) _ c.loop-turn.refused t.0 e.0 t.1 c.loop-turn.mailbox c.next.new.self _ _ _ _ t.3 e.2 e.4; ended = ended },
+    )
+
+pub returns-in-Err-clause-leaves : goal.returns-in-Err-clause-leaves
+returns-in-Err-clause-leaves g c =
+    let t = c.loop-turn.invariant.told in
+    let e = rw c.in-Ok-Some.field-0-is at c.in-Ok-Some.ensures.exact in (
+      t.0 ++ e.0,
+      Consumes-trans _ _ _ t.0 e.0 t.2 e.1,
+      record {
+        says = stopped_within (letters_of c.args.letters.now) _ c.loop-turn.refused t.0 e.0 c.in-Ok-Some.message.items t.1 c.loop-turn.mailbox c.next.new.self _ _ _ _ _ _ t.3 e.2 e.4 c.in-Err.ensures.some;
+        silent = no_silence;
+      },
+    )
+
+pub loop-turn-preserved : goal.loop-turn-preserved
+loop-turn-preserved g c =
+    let t = c.loop-turn.invariant.told in
+    let e = rw c.in-Ok-Some.field-0-is at c.in-Ok-Some.ensures.exact in
+    let m = c.in-Ok-Some.message.items in
+    record {
+      told = (
+        t.0 ++ e.0,
+        t.1 ++ m ∷ [],
+        Consumes-trans _ _ _ t.0 e.0 t.2 e.1,
+        one_out (letters_of c.args.letters.now) c.loop-turn.turn c.loop-turn.refused c.in-Ok.told t.0 e.0 m t.1 c.loop-turn.mailbox c.next.new.self _ _ _ _ _ _ t.3 e.2 (λ o. (c.next.ensures.stays o).0) e.4 c.in-Ok.ensures.all,
+      );
+      ended = λ n. elim (c.next.ensures.ended n) [
+        | inl old ↦ subst IsAtEnd (sym (c.next.ensures.stays old).1) (c.loop-turn.invariant.ended old)
+        | inr end ↦ end
+      ];
+      well = record {
+        input = c.in-Ok-Some.ensures.well ∙ c.loop-turn.invariant.well.input;
+        output = c.in-Ok.ensures.output_well ∙ c.loop-turn.invariant.well.output;
+        errors = c.in-Ok.ensures.errors_well ∙ c.loop-turn.invariant.well.errors;
+      };
+      count = counted_on c.loop-turn.turn _ _ _ m e.0 c.loop-turn.mailbox c.next.new.self c.loop-turn.invariant.count e.3 e.4;
+    }

@@ -1,0 +1,19 @@
+use Rattle.std.proofs.Common.{◌≡◌, ◌≤◌, ◌+◌, ◌*◌, ◌⊎◌, ℕ, List, true, length}
+use Rattle.std.specs.Io.KnownBytes.{Consumes, IsAtEnd}
+use Rattle.mk_mail.specs.Devices.{IsFull}
+use Rattle.mk_mail.specs.LetterViews.{letters_of}
+use Rattle.mk_mail.specs.Mailboxes.{chunk_bytes}
+use Rattle.mk_tool.specs.RunClauses.{SameFailures, counts}
+use Rattle.mk_tool.proofs.FilterLemmas.{AreOut}
+use Rattle.mk_tool.proofs.filtering.filter_each.Given as goal
+
+abbrev pub invariant-loop-turn : goal.invariant-loop-turn
+invariant-loop-turn g l = record {
+  told : (text : List ℕ) × (done : List (List ℕ)) × Consumes (g.S.Source.remaining l.fn.input) (g.S.Source.remaining l.input) text
+      × AreOut (letters_of l.letters) l.turn l.refused text done l.mailbox (g.O.Sink.contents l.fn.out) (g.O.Sink.contents l.out) (g.E.Sink.contents l.fn.err) (g.E.Sink.contents l.err);
+  ended : l.mailbox.ended ≡ true → IsAtEnd (g.S.Source.remaining l.input);
+  well : SameFailures
+      (counts (g.S.Source.failures l.fn.input) (g.S.Source.read_count l.fn.input) (g.O.Sink.failures l.fn.out) (g.E.Sink.failures l.fn.err))
+      (counts (g.S.Source.failures l.input) (g.S.Source.read_count l.input) (g.O.Sink.failures l.out) (g.E.Sink.failures l.err));
+  count : (l.turn + length l.mailbox.kept + chunk_bytes * g.S.Source.read_count l.fn.input ≤ chunk_bytes * g.S.Source.read_count l.input) ⊎ IsFull (g.S.Source.read_count l.input);
+}

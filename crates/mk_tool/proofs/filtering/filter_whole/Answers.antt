@@ -1,0 +1,23 @@
+use Rattle.std.proofs.Common.{◌∷◌, [], sym, subst}
+use Rattle.std.proofs.KnownBytes.{Keeps-refl}
+use Rattle.mk_mail.specs.LetterViews.{letters_of}
+use Rattle.mk_tool.specs.FilterClauses.{SaysSome}
+use Rattle.mk_tool.proofs.FilterLemmas.{not_reading, said_one}
+use Rattle.mk_tool.proofs.RunLemmas.{AppendsFront-none}
+use Rattle.mk_tool.proofs.filtering.filter_whole.Goals as goal
+
+pub returns-in-Err-clause-leaves : goal.returns-in-Err-clause-leaves
+returns-in-Err-clause-leaves g c =
+    let read = c.in-Err.ensures.front in
+    (read.0, read.1, record { says = record { output = AppendsFront-none _ _; errors = AppendsFront-none _ _ }; silent = λ _ _. Keeps-refl _ })
+
+pub returns-in-Err-filter_message-clause-leaves : goal.returns-in-Err-filter_message-clause-leaves
+returns-in-Err-filter_message-clause-leaves g c =
+    let one = said_one (letters_of c.args.letters.now) 1 c.in-Ok.message.items in (
+      c.in-Ok.message.items,
+      c.in-Ok.ensures.all,
+      record {
+        says = subst (λ said. SaysSome said (g.O.Sink.contents c.args.out.now) (g.O.Sink.contents c.filter_message.new.out) (g.E.Sink.contents c.args.err.now) (g.E.Sink.contents c.filter_message.new.err)) (sym one) c.in-Err-filter_message.ensures.some;
+        silent = λ _ r. not_reading c.in-Err-filter_message.stop c.writing.result c.writing.ensures r;
+      },
+    )

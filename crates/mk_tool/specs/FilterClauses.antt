@@ -1,0 +1,83 @@
+-- What a run of letters leaves in its devices.
+use Rattle.std.specs.Prelude.{◌≡◌, ℕ, Bool, false, not, List, Option, None, Some, Result, Ok, Err}
+use Rattle.std.specs.Io.KnownBytes.{Appends, Consumes, IsAtEnd, Keeps}
+use Rattle.mk_line.specs.Lines.{is_nil}
+use Rattle.mk_edit.specs.declared.errors.EditError.{EditError}
+use Rattle.mk_edit.specs.Answers.{refusal_of}
+use Rattle.mk_edit.specs.Groups.{Together}
+use Rattle.mk_mail.specs.Devices.{AppendsFront}
+use Rattle.mk_mail.specs.Filtered.{filtered, outcome}
+use Rattle.mk_mail.specs.Letters.{PlainLetters}
+use Rattle.mk_tool.specs.declared.status.Status.{Status}
+use Rattle.mk_tool.specs.declared.status.Status.TheVariants.{Well, Refused, Usage, Fault, Memory}
+use Rattle.mk_tool.specs.declared.status.Cause.{Cause}
+use Rattle.mk_tool.specs.declared.status.Cause.TheVariants.{Read}
+use Rattle.mk_tool.specs.Filtering.{field_run, messages_of, said_from}
+use Rattle.mk_tool.specs.RunClauses.{Held, IsDone, cause_line, status_of}
+use Rattle.mk_tool.specs.Runs.{Run}
+use Rattle.mk_tool.specs.Unpacking.{Said}
+
+-- the run was given up: a front of the output and of the errors went out, and then a front of the line that says why; where
+-- reading failed nothing went to the output, unless the messages go out one by one
+pub record IsCutShort (each : Bool) (status : Status) (run : Run) (before after : Held) : Type 0 where
+  pub output : AppendsFront before.output after.output run.output
+  pub cause : Cause
+  pub status_is : status_of cause ≡ status
+  pub between : Option (List ℕ)
+  pub errors : AppendsFront before.errors between run.errors
+  pub line : AppendsFront between after.errors (cause_line cause)
+  pub silent : each ≡ false → cause ≡ Read → Keeps before.output after.output
+
+-- what a run leaves, by its status
+abbrev pub Filters : Bool → Status → Run → Held → Held → Type 0
+Filters each Well run before after = IsDone Well run before after
+Filters each Refused run before after = IsDone Refused run before after
+Filters each Usage run before after = ⊥
+Filters each Fault run before after = IsCutShort each Fault run before after
+Filters each Memory run before after = IsCutShort each Memory run before after
+
+-- what a run of letters leaves is what is defined for the bytes that it read
+abbrev pub LeavesFiltered : PlainLetters → Bool → Status → Held → Held → Type 0
+LeavesFiltered l each status before after = (text : List ℕ) × Consumes before.input after.input text × Filters each status (field_run l each text) before after
+
+-- what is said went out whole, and whether something is reported
+pub record SaysAll (said : Said) (refused : Bool) (out out_after err err_after : Option (List ℕ)) : Type 0 where
+  pub output : Appends out out_after said.output
+  pub errors : Appends err err_after said.errors
+  pub refused_is : refused ≡ not (is_nil said.errors)
+
+-- fronts of what is said went out
+pub record SaysSome (said : Said) (out out_after err err_after : Option (List ℕ)) : Type 0 where
+  pub output : AppendsFront out out_after said.output
+  pub errors : AppendsFront err err_after said.errors
+
+-- the reason is that of the edit that was refused, where one was
+abbrev pub IsReason : Option EditError → Together → Type 0
+IsReason None (Ok p) = Unit {0}
+IsReason None (Err q) = ⊥
+IsReason (Some e) (Ok p) = ⊥
+IsReason (Some e) (Err q) = refusal_of e ≡ Some q.1
+
+-- letters left this text of a message, and gave this reason where an edit was refused
+pub record IsEdited (l : PlainLetters) (text : List ℕ) (refusal : Option EditError) (left : List ℕ) : Type 0 where
+  pub left_is : left ≡ filtered l text
+  pub reason : IsReason refusal (outcome l text)
+
+-- all messages were filtered up to the end of the input
+pub record IsFiltered (said : Said) (refused : Bool) (before after : Held) : Type 0 where
+  pub says : SaysAll said refused before.output after.output before.errors after.errors
+  pub ended : IsAtEnd after.input
+
+-- the messages were filtered up to a cause to give up
+pub record IsBroken (each : Bool) (cause : Cause) (said : Said) (before after : Held) : Type 0 where
+  pub says : SaysSome said before.output after.output before.errors after.errors
+  pub silent : each ≡ false → cause ≡ Read → Keeps before.output after.output
+
+-- what filtering leaves, up to a cause to give up
+abbrev pub FiltersSoFar : Bool → Result Bool Cause → Said → Held → Held → Type 0
+FiltersSoFar each (Ok refused) said before after = IsFiltered said refused before after
+FiltersSoFar each (Err cause) said before after = IsBroken each cause said before after
+
+-- the same for the bytes that were read
+abbrev pub LeavesSaid : PlainLetters → Bool → Result Bool Cause → Held → Held → Type 0
+LeavesSaid l each result before after = (text : List ℕ) × Consumes before.input after.input text × FiltersSoFar each result (said_from l 1 (messages_of each text)) before after

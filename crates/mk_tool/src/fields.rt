@@ -1,0 +1,158 @@
+//! One message of which the fields are filtered by letters, or given.
+
+ghost use Rattle.std.specs.Prelude.{◌≡◌, ◌⊎◌, ℕ, List, true, false, IfOk, IfErr, IfSome, OnOk, OnErr};
+ghost use Rattle.mk_edit.specs.Answers.{is_memory};
+ghost use Rattle.mk_edit.specs.Histories.{started, text_now};
+ghost use Rattle.mk_mail.specs.Devices.{Rose};
+ghost use Rattle.mk_mail.specs.LetterViews.{bytes_in, letters_of};
+ghost use Rattle.mk_mail.specs.Letters.{are_allowed};
+ghost use Rattle.mk_tool.specs.FilterClauses.{IsEdited, SaysAll, SaysSome};
+ghost use Rattle.mk_tool.specs.Filtering.{behind_colon as is_behind_colon, contents_named, given_by, said_of, said_of_edits, wholes_named};
+
+use crate::path::parted;
+use crate::report::report_message;
+use crate::transfer::{Stop, send};
+use mk_edit::{EditError, GroupError, Session};
+use mk_head::each_field;
+use mk_line::Meter;
+use mk_mail::{Letters, Sink, field_edits};
+use mk_tree::Doc;
+use std::alloc::{AllocError, Global};
+
+const COLON: u8 = b':';
+
+/// Prints what letters give or leave of a message. Where an edit is refused, it is printed as it came, and reported by its
+/// number from 1 on. Answers whether it was reported.
+pub fn filter_message<O: Sink, E: Sink>(
+    alloc: Global,
+    letters: &Letters,
+    number: u64,
+    message: Vec<u8>,
+    out: &mut O,
+    err: &mut E,
+) -> Result<bool, Stop>
+    requires { are_allowed (letters_of letters.now) ≡ true }
+    ensures all { IfOk result (λ refused. SaysAll (said_of (letters_of letters.now) number message.items) refused
+        (O.contents out.old) (O.contents out.new) (E.contents err.old) (E.contents err.new)) }
+    ensures some { OnErr result (SaysSome (said_of (letters_of letters.now) number message.items)
+        (O.contents out.old) (O.contents out.new) (E.contents err.old) (E.contents err.new)) }
+    ensures failed { IfErr result (λ stop. stop ≡ Stop.Fault
+        → Rose (O.failures out.old) (O.failures out.new) ⊎ Rose (E.failures err.old) (E.failures err.new)) }
+    ensures output_well { OnOk result (O.failures out.new ≡ O.failures out.old) }
+    ensures errors_well { OnOk result (E.failures err.new ≡ E.failures err.old) }
+{
+    let mut session = match Session::start(alloc, message) {
+        Ok(session) => session,
+        Err(_) => return Err(Stop::Memory),
+    };
+    match given(alloc, letters, session.doc()) {
+        Ok(Some(text)) => match send(out, &text) {
+            Ok(()) => Ok(false),
+            Err(stop) => Err(stop),
+        },
+        Ok(None) => edit_message(alloc, letters, number, &mut session, out, err),
+        Err(_) => Err(Stop::Memory),
+    }
+}
+
+// Prints what the edits of letters leave of a message that was just read, and reports it where one is refused.
+fn edit_message<O: Sink, E: Sink>(
+    alloc: Global,
+    letters: &Letters,
+    number: u64,
+    session: &mut Session,
+    out: &mut O,
+    err: &mut E,
+) -> Result<bool, Stop>
+    requires { are_allowed (letters_of letters.now) ≡ true }
+    ensures all { IfOk result (λ refused. (text : List ℕ) → session.old ≡ started text → SaysAll (said_of_edits (letters_of letters.now) number text) refused
+        (O.contents out.old) (O.contents out.new) (E.contents err.old) (E.contents err.new)) }
+    ensures some { OnErr result ((text : List ℕ) → session.old ≡ started text → SaysSome (said_of_edits (letters_of letters.now) number text)
+        (O.contents out.old) (O.contents out.new) (E.contents err.old) (E.contents err.new)) }
+    ensures failed { IfErr result (λ stop. stop ≡ Stop.Fault
+        → Rose (O.failures out.old) (O.failures out.new) ⊎ Rose (E.failures err.old) (E.failures err.new)) }
+    ensures output_well { OnOk result (O.failures out.new ≡ O.failures out.old) }
+    ensures errors_well { OnOk result (E.failures err.new ≡ E.failures err.old) }
+{
+    let refusal = match edit(alloc, letters, session) {
+        Ok(refusal) => refusal,
+        Err(_) => return Err(Stop::Memory),
+    };
+    match send(out, session.text()) {
+        Ok(()) => match refusal {
+            Some(reason) => match report_message(alloc, err, number, reason) {
+                Ok(()) => Ok(true),
+                Err(stop) => Err(stop),
+            },
+            None => Ok(false),
+        },
+        Err(stop) => Err(stop),
+    }
+}
+
+// Makes the edits of letters in a message that was just read. Answers the reason where one is refused; nothing changed then.
+fn edit(
+    alloc: Global,
+    letters: &Letters,
+    session: &mut Session,
+) -> Result<Option<EditError>, AllocError>
+    requires { are_allowed (letters_of letters.now) ≡ true }
+    ensures edited { IfOk result (λ refusal. (text : List ℕ) → session.old ≡ started text → IsEdited (letters_of letters.now) text refusal (text_now session.new)) }
+    ensures named { IfOk result (λ refusal. IfSome refusal (λ error. is_memory error ≡ false)) }
+{
+    let edits = field_edits(alloc, session.doc(), letters)?;
+    match session.group(&edits, &mut Meter::new()) {
+        Ok(()) => Ok(None),
+        Err(GroupError::Member { refusal, .. }) => Ok(Some(refusal)),
+        Err(GroupError::Memory) => Err(AllocError),
+    }
+}
+
+// What letters give of a document that ask for fields of a name. `None` where none does.
+fn given(alloc: Global, letters: &Letters, doc: &Doc) -> Result<Option<Vec<u8>>, AllocError>
+    ensures { IfOk result (λ text. bytes_in text ≡ given_by (letters_of letters.now).take (letters_of letters.now).whole doc.now) }
+{
+    match &letters.take {
+        Some(name) => Ok(Some(contents(alloc, doc, name)?)),
+        None => match &letters.whole {
+            Some(name) => Ok(Some(wholes(alloc, doc, name)?)),
+            None => Ok(None),
+        },
+    }
+}
+
+// What the fields of a name hold, one behind another.
+fn contents(alloc: Global, doc: &Doc, name: &[u8]) -> Result<Vec<u8>, AllocError>
+    ensures { IfOk result (λ text. text.items ≡ contents_named name.now doc.now) }
+{
+    let mut text = Vec::new(alloc);
+    for field in each_field(doc.root().head()) {
+        if field.is_named(name) {
+            text.extend_from_slice(behind_colon(field.raw))?;
+        }
+    }
+    Ok(text)
+}
+
+// The fields of a name, one behind another.
+fn wholes(alloc: Global, doc: &Doc, name: &[u8]) -> Result<Vec<u8>, AllocError>
+    ensures { IfOk result (λ text. text.items ≡ wholes_named name.now doc.now) }
+{
+    let mut text = Vec::new(alloc);
+    for field in each_field(doc.root().head()) {
+        if field.is_named(name) {
+            text.extend_from_slice(field.raw)?;
+        }
+    }
+    Ok(text)
+}
+
+// What stands behind the colon of a field.
+fn behind_colon(field: &[u8]) -> &[u8]
+    ensures { result.now ≡ is_behind_colon field.now }
+{
+    match parted(field, COLON) {
+        Some((_, behind)) => behind,
+        None => b"",
+    }
+}

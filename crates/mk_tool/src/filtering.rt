@@ -1,0 +1,154 @@
+//! Messages of which the fields are filtered by letters, or given, over any devices.
+
+ghost use Rattle.std.specs.Prelude.{◌≡◌, ◌⊎◌, ◌-◌, true, false, nat_le, IfErr, OnOk};
+ghost use Rattle.mk_mail.specs.LetterViews.{letters_of};
+ghost use Rattle.mk_mail.specs.Letters.{are_allowed};
+ghost use Rattle.mk_tool.specs.FilterClauses.{LeavesFiltered, LeavesSaid};
+ghost use Rattle.mk_tool.specs.RunClauses.{held, counts, SameFailures, ReadFailed, WriteFailed, IsBlamed, ends_itself};
+
+use crate::engine::{give_up, reading, writing};
+use crate::fields::filter_message;
+use crate::status::{Cause, Status};
+use crate::transfer::read_all;
+use mk_mail::{Letters, MailFault, Mailbox, Sink, Source};
+use std::alloc::Global;
+
+/// The most reads that are made of a mailbox. A source that still gives bytes then is given up.
+const MOST_READS: u64 = 2_147_483_647;
+
+/// The number of the message where all of the input is one.
+const ONLY: u64 = 1;
+
+/// Filters the fields of the message that the input gives by letters, or gives its fields of a name; with `each` those of
+/// every message of the mailbox that it gives, each printed before the next is read. A message for which an edit is refused
+/// is printed as it came, and reported, and doesn't end the run.
+pub fn run_field<S: Source, O: Sink, E: Sink>(
+    alloc: Global,
+    input: &mut S,
+    out: &mut O,
+    err: &mut E,
+    letters: &Letters,
+    each: bool,
+) -> Status
+    requires { are_allowed (letters_of letters.now) ≡ true }
+    ensures leaves { LeavesFiltered (letters_of letters.now) each result
+        (held (S.remaining input.old) (O.contents out.old) (E.contents err.old))
+        (held (S.remaining input.new) (O.contents out.new) (E.contents err.new)) }
+    ensures blamed { result ≡ Status.Fault →
+        let before = counts (S.failures input.old) (S.read_count input.old) (O.failures out.old) (E.failures err.old) in
+        let after = counts (S.failures input.new) (S.read_count input.new) (O.failures out.new) (E.failures err.new) in
+        ReadFailed before after ⊎ WriteFailed before after }
+    ensures clean { ends_itself result ≡ true → SameFailures
+        (counts (S.failures input.old) (S.read_count input.old) (O.failures out.old) (E.failures err.old))
+        (counts (S.failures input.new) (S.read_count input.new) (O.failures out.new) (E.failures err.new)) }
+{
+    match filter(alloc, input, out, err, letters, each) {
+        Ok(true) => Status::Refused,
+        Ok(false) => Status::Well,
+        Err(cause) => give_up(err, cause),
+    }
+}
+
+// Filters the input up to a cause to give up. Answers whether a message was reported.
+fn filter<S: Source, O: Sink, E: Sink>(
+    alloc: Global,
+    input: &mut S,
+    out: &mut O,
+    err: &mut E,
+    letters: &Letters,
+    each: bool,
+) -> Result<bool, Cause>
+    requires { are_allowed (letters_of letters.now) ≡ true }
+    ensures leaves { LeavesSaid (letters_of letters.now) each result
+        (held (S.remaining input.old) (O.contents out.old) (E.contents err.old))
+        (held (S.remaining input.new) (O.contents out.new) (E.contents err.new)) }
+    ensures blamed { IfErr result (λ cause. IsBlamed cause
+        (counts (S.failures input.old) (S.read_count input.old) (O.failures out.old) (E.failures err.old))
+        (counts (S.failures input.new) (S.read_count input.new) (O.failures out.new) (E.failures err.new))) }
+    ensures clean { OnOk result (SameFailures
+        (counts (S.failures input.old) (S.read_count input.old) (O.failures out.old) (E.failures err.old))
+        (counts (S.failures input.new) (S.read_count input.new) (O.failures out.new) (E.failures err.new))) }
+{
+    if each {
+        filter_each(alloc, input, out, err, letters)
+    } else {
+        filter_whole(alloc, input, out, err, letters)
+    }
+}
+
+// Filters all of the input as one message. Answers whether it was reported.
+fn filter_whole<S: Source, O: Sink, E: Sink>(
+    alloc: Global,
+    input: &mut S,
+    out: &mut O,
+    err: &mut E,
+    letters: &Letters,
+) -> Result<bool, Cause>
+    requires { are_allowed (letters_of letters.now) ≡ true }
+    ensures leaves { LeavesSaid (letters_of letters.now) false result
+        (held (S.remaining input.old) (O.contents out.old) (E.contents err.old))
+        (held (S.remaining input.new) (O.contents out.new) (E.contents err.new)) }
+    ensures blamed { IfErr result (λ cause. IsBlamed cause
+        (counts (S.failures input.old) (S.read_count input.old) (O.failures out.old) (E.failures err.old))
+        (counts (S.failures input.new) (S.read_count input.new) (O.failures out.new) (E.failures err.new))) }
+    ensures clean { OnOk result (SameFailures
+        (counts (S.failures input.old) (S.read_count input.old) (O.failures out.old) (E.failures err.old))
+        (counts (S.failures input.new) (S.read_count input.new) (O.failures out.new) (E.failures err.new))) }
+{
+    let message = match read_all(alloc, input) {
+        Ok(message) => message,
+        Err(stop) => return Err(reading(stop)),
+    };
+    match filter_message(alloc, letters, ONLY, message, out, err) {
+        Ok(refused) => Ok(refused),
+        Err(stop) => Err(writing(stop)),
+    }
+}
+
+// Filters the messages of a mailbox in turn, up to a cause to give up. Answers whether one was reported.
+fn filter_each<S: Source, O: Sink, E: Sink>(
+    alloc: Global,
+    input: &mut S,
+    out: &mut O,
+    err: &mut E,
+    letters: &Letters,
+) -> Result<bool, Cause>
+    requires { are_allowed (letters_of letters.now) ≡ true }
+    ensures leaves { LeavesSaid (letters_of letters.now) true result
+        (held (S.remaining input.old) (O.contents out.old) (E.contents err.old))
+        (held (S.remaining input.new) (O.contents out.new) (E.contents err.new)) }
+    ensures blamed { IfErr result (λ cause. IsBlamed cause
+        (counts (S.failures input.old) (S.read_count input.old) (O.failures out.old) (E.failures err.old))
+        (counts (S.failures input.new) (S.read_count input.new) (O.failures out.new) (E.failures err.new))) }
+    ensures clean { OnOk result (SameFailures
+        (counts (S.failures input.old) (S.read_count input.old) (O.failures out.old) (E.failures err.old))
+        (counts (S.failures input.new) (S.read_count input.new) (O.failures out.new) (E.failures err.new))) }
+{
+    let before = input.reads();
+    let mut mailbox = Mailbox::new(alloc);
+    let mut refused = false;
+    for turn in 0..u64::MAX {
+        if are_too_many(before, input.reads()) {
+            return Err(Cause::Read);
+        }
+        match mailbox.next(input) {
+            Ok(Some(message)) => {
+                match filter_message(alloc, letters, turn + 1, message, out, err) {
+                    Ok(told) => refused |= told,
+                    Err(stop) => return Err(writing(stop)),
+                }
+            }
+            Ok(None) => return Ok(refused),
+            Err(MailFault::ReadFault) => return Err(Cause::Read),
+            Err(MailFault::Memory) => return Err(Cause::Memory),
+        }
+    }
+    Err(Cause::Read)
+}
+
+// Whether so many reads were made that no more are.
+fn are_too_many(before: u64, now: u64) -> bool
+    ensures { result ≡ nat_le 2147483647 (now - before) }
+{
+    now.saturating_sub(before) >= MOST_READS
+}
