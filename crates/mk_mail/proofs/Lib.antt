@@ -24,3 +24,4 @@ pub mod PieceLaws
 pub mod FieldNames
 pub mod MailChains
 pub mod FilteredMail
+pub mod Gaps

@@ -1,8 +1,9 @@
 //! The listing of a document: a line for each of its sections.
 ghost use Rattle.std.specs.Prelude.{◌≡◌, ◌++◌, ◌∷◌, [], length, IfOk, OnOk};
 ghost use Rattle.std.specs.List.{flat_map};
-ghost use Rattle.mk_line.specs.Lines.{cut as lines_of};
+ghost use Rattle.mk_line.specs.Lines.{AreLines, cut as lines_of};
 ghost use Rattle.mk_tree.specs.Documents.{tree};
+ghost use Rattle.mk_tree.specs.Sections.{body_lines, body_text};
 ghost use Rattle.mk_mail.specs.Listed.{Listed, listed_from};
 ghost use Rattle.mk_mail.specs.Listing.{encoding_name as name_of_encoding, kind_name as name_of_kind, line_counts, listing, listing_line, nature, places};
 
@@ -28,26 +29,69 @@ pub fn list(alloc: Global, doc: &Doc) -> Result<Vec<u8>, AllocError>
     Ok(lines)
 }
 
-// Writes the line of a section, and behind it those of the sections below.
+// Writes the line of a section, and behind it those of the sections below. Answers how many lines its body has: those of the
+// sections below are counted on the way, and no line twice.
 fn push_sections(
     alloc: Global,
     lines: &mut Vec<u8>,
     path: &[u32],
     section: &Section<'_>,
-) -> Result<(), AllocError>
-    ensures { OnOk result (lines.new.items ≡ lines.old.items ++ flat_map listing_line (listed_from path.now section.now)) }
+) -> Result<usize, AllocError>
+    requires { AreLines (body_lines section.now.entity) }
+    ensures lines { OnOk result (lines.new.items ≡ lines.old.items ++ flat_map listing_line (listed_from path.now section.now)) }
+    ensures count { IfOk result (λ count. count ≡ length (body_lines section.now.entity)) }
 {
-    push_line(alloc, lines, path, section)?;
+    let mut below = Vec::new(alloc);
+    let mut rest = section.body();
+    let mut place = section.body_start();
+    let mut count = 0;
     let mut number = 1u32;
     for child in section.children() {
         let child_path = path_below(alloc, path, number)?;
-        push_sections(alloc, lines, &child_path, &child)?;
+        let (front, behind) = rest.split_at(child.body_start() - place);
+        count += line_count(front);
+        count += push_sections(alloc, &mut below, &child_path, &child)?;
+        let (_, after) = behind.split_at(child.end() - child.body_start());
+        rest = after;
+        place = child.end();
         let Some(next) = number.checked_add(1) else {
-            return Ok(());
+            return push_listed(
+                alloc,
+                lines,
+                path,
+                section,
+                count + line_count(rest),
+                &below,
+            );
         };
         number = next;
     }
-    Ok(())
+    push_listed(
+        alloc,
+        lines,
+        path,
+        section,
+        count + line_count(rest),
+        &below,
+    )
+}
+
+// Writes the line of a section whose body has so many lines, and behind it those of the sections below.
+fn push_listed(
+    alloc: Global,
+    lines: &mut Vec<u8>,
+    path: &[u32],
+    section: &Section<'_>,
+    count: usize,
+    below: &[u8],
+) -> Result<usize, AllocError>
+    requires { count ≡ length (lines_of (body_text section.now)) }
+    ensures lines { OnOk result (lines.new.items ≡ lines.old.items ++ (listing_line (record { path = path.now; section = section.now }) ++ below.now)) }
+    ensures count { IfOk result (λ answer. answer ≡ count) }
+{
+    push_line(alloc, lines, path, section, count)?;
+    lines.extend_from_slice(below)?;
+    Ok(count)
 }
 
 /// The path of the section with a number directly below another.
@@ -60,19 +104,21 @@ pub(crate) fn path_below(alloc: Global, path: &[u32], number: u32) -> Result<Vec
     Ok(below)
 }
 
-// Writes the line of a section.
+// Writes the line of a section whose body has so many lines.
 fn push_line(
     alloc: Global,
     lines: &mut Vec<u8>,
     path: &[u32],
     section: &Section<'_>,
+    count: usize,
 ) -> Result<(), AllocError>
+    requires { count ≡ length (lines_of (body_text section.now)) }
     ensures { OnOk result (lines.new.items ≡ lines.old.items ++ listing_line (record { path = path.now; section = section.now })) }
 {
     push_path(lines, path)?;
     push_nature(alloc, lines, section)?;
     push_places(lines, section)?;
-    push_line_counts(lines, section)?;
+    push_line_counts(lines, section, count)?;
     lines.push(LINE_FEED)?;
     Ok(())
 }
@@ -94,11 +140,16 @@ fn push_places(lines: &mut Vec<u8>, section: &Section<'_>) -> Result<(), AllocEr
     push_number_column(lines, section.end())
 }
 
-fn push_line_counts(lines: &mut Vec<u8>, section: &Section<'_>) -> Result<(), AllocError>
+fn push_line_counts(
+    lines: &mut Vec<u8>,
+    section: &Section<'_>,
+    count: usize,
+) -> Result<(), AllocError>
+    requires { count ≡ length (lines_of (body_text section.now)) }
     ensures { OnOk result (lines.new.items ≡ lines.old.items ++ line_counts section.now) }
 {
     push_number_column(lines, line_count(section.head()))?;
-    push_number_column(lines, line_count(section.body()))
+    push_number_column(lines, count)
 }
 
 // How many lines a text has.
