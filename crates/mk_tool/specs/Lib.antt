@@ -17,3 +17,4 @@ pub mod Packing
 pub mod Parts
 pub mod Filtering
 pub mod FilterClauses
+pub mod Asked
