@@ -131,3 +131,10 @@ counted_on old turn mid new c e = counted_by (nat_lt mid (2 ^ 64 - 1)) old turn 
 pub true_or_false : {A : Type 0} (t : Bool) → t ≡ true → t ≡ false → A
 true_or_false true a b = cc
 true_or_false false a b = cc
+
+-- a read more, which took a byte unless the input ended
+pub grown_on : (before turn : ℕ) (kept mid now read : List ℕ) (was ended : Bool) → before + turn ≤ length kept + (if was then 1 else 0) → was ≡ false → mid ≡ kept → now ≡ mid ++ read → (ended ≡ false → length mid < length now)
+    → before + (turn + 1) ≤ length now + (if ended then 1 else 0)
+grown_on before turn kept mid now read true ended h w m n g = cc
+grown_on before turn kept mid now read false true h w m n g = let a = ap length m in let b = ap length n in omega (arith, h, a, b, length-append mid read)
+grown_on before turn kept mid now read false false h w m n g = let a = ap length m in let b = g refl in omega (arith, h, a, b)

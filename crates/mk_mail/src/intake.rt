@@ -1,7 +1,8 @@
 //! A mailbox that is read in chunks, and its messages one by one.
-ghost use Rattle.std.specs.Prelude.{◌≡◌, ◌≤◌, ◌<◌, ◌+◌, ◌++◌, ◌⊎◌, [], ℕ, List, true, false, length, drop, take, IfErr, IfNone, IfOk, MatchOption, MatchResult, OnErr, OnOk};
+ghost use Rattle.std.specs.Prelude.{◌≡◌, ◌≤◌, ◌<◌, ◌+◌, ◌-◌, ◌++◌, ◌⊎◌, [], ℕ, List, true, false, length, drop, slice_index, take, IfErr, IfNone, IfOk, MatchOption, MatchResult, OnErr, OnOk};
 ghost use Rattle.std.specs.Io.KnownBytes.{Consumes, IsAtEnd};
 ghost use Rattle.std.specs.Option.{option_map};
+ghost use Rattle.mk_line.specs.Ascii.{line_feed};
 ghost use Rattle.mk_line.specs.Lines.{has_line_feed};
 ghost use Rattle.mk_line.specs.Meters.{ticked};
 ghost use Rattle.mk_mail.specs.Devices.{IsLong, Rose};
@@ -62,6 +63,8 @@ impl Intake {
         ensures stays { self.old.ended ≡ true → (self.new.ended ≡ true) × (S.remaining r.new ≡ S.remaining r.old) }
         ensures fault { IfErr result (λ e. e ≡ MailFault.ReadFault
             → Rose (S.failures r.old) (S.failures r.new) ⊎ IsLong (S.read_count r.old) (S.read_count r.new)) }
+        ensures held { IfErr result (λ e. e ≡ MailFault.ReadFault
+            → Rose (S.failures r.old) (S.failures r.new) ⊎ (2147483646 ≤ length (kept_by self.new))) }
         ensures well { OnOk result (S.failures r.new ≡ S.failures r.old) }
         ensures memory { IfErr result (λ e. e ≡ MailFault.Memory → S.failures r.new ≡ S.failures r.old) }
     {
@@ -131,6 +134,7 @@ impl Intake {
             × (kept_by self.new ≡ kept_by self.old ++ read)
             × FitsReads read (S.read_count r.old) (S.read_count r.new) }
         ensures ended { self.new.ended ≡ true → IsAtEnd (S.remaining r.new) }
+        ensures grew { OnOk result (self.new.ended ≡ false → length (kept_by self.old) < length (kept_by self.new)) }
         ensures counted { OnOk result (S.read_count r.new ≡ ticked (S.read_count r.old)) }
         ensures fault { IfErr result (λ e. e ≡ MailFault.ReadFault → Rose (S.failures r.old) (S.failures r.new)) }
         ensures well { OnOk result (S.failures r.new ≡ S.failures r.old) }
@@ -194,6 +198,7 @@ fn line_end(bytes: &[u8]) -> usize
     ensures line { IsOneLine (take result bytes.now) }
     ensures some { 0 < result }
     ensures within { result ≤ length bytes.now }
+    ensures whole { result < length bytes.now → slice_index bytes.now (result - 1) ≡ line_feed }
 {
     match memchr(LINE_FEED, bytes) {
         Some(end) => end + 1,

@@ -1,5 +1,5 @@
 //! Mailboxes: messages one behind another, each begun by a From-line (own).
-ghost use Rattle.std.specs.Prelude.{◌≡◌, ◌++◌, ◌⊎◌, [], ℕ, List, true, false, IfErr, MatchResult, OnOk};
+ghost use Rattle.std.specs.Prelude.{◌≡◌, ◌≤◌, ◌++◌, ◌⊎◌, [], ℕ, List, true, false, length, IfErr, MatchResult, OnOk};
 ghost use Rattle.std.specs.Io.KnownBytes.{Consumes, IsAtEnd};
 ghost use Rattle.std.specs.Option.{option_map};
 ghost use Rattle.mk_mail.specs.Devices.{IsLong, Rose};
@@ -63,6 +63,10 @@ impl Mailbox {
         ensures stays { self.old.ended ≡ true → (self.new.ended ≡ true) × (S.remaining r.new ≡ S.remaining r.old) }
         ensures fault { IfErr result (λ e. e ≡ MailFault.ReadFault
             → Rose (S.failures r.old) (S.failures r.new) ⊎ IsLong (S.read_count r.old) (S.read_count r.new)) }
+
+        // Without a failure a read fault comes only where so much is kept: each read but the last took a byte.
+        ensures held { IfErr result (λ e. e ≡ MailFault.ReadFault
+            → Rose (S.failures r.old) (S.failures r.new) ⊎ (2147483646 ≤ length self.new.kept)) }
         ensures well { OnOk result (S.failures r.new ≡ S.failures r.old) }
         ensures memory { IfErr result (λ e. e ≡ MailFault.Memory → S.failures r.new ≡ S.failures r.old) }
     {

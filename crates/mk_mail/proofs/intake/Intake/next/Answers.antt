@@ -1,8 +1,8 @@
-use Rattle.std.proofs.Common.{◌≡◌, ◌∙◌, true, inr, subst, rules}
+use Rattle.std.proofs.Common.{◌≡◌, ◌∙◌, true, inr, subst, sym, rules}
 use Rattle.std.proofs.lemmas.Result.{err_from_is_err_and}
 use Rattle.mk_mail.specs.Gathered.{IsSplit}
 use Rattle.mk_mail.specs.Intakes.{held_of, kept_by}
-use Rattle.mk_mail.proofs.Intaking.{counted_on, piece_next, read_more, true_or_false}
+use Rattle.mk_mail.proofs.Intaking.{counted_on, grown_on, piece_next, read_more, true_or_false}
 use Rattle.mk_mail.proofs.intake.Intake.next.Goals as goal
 
 pub returns-in-Ok-Some-clause-exact : goal.returns-in-Ok-Some-clause-exact
@@ -39,5 +39,6 @@ loop-read-preserved g c =
       ended = λ e. inr (c.read.ensures.ended e);
       stays = λ e. absurd (goes_on e);
       well = search rules;
+      grown = grown_on _ _ (kept_by c.loop-read.self) (kept_by c.take_lines.new.self) (kept_by c.read.new.self) b.0 c.loop-read.self.ended c.read.new.self.ended c.loop-read.invariant.grown (sym c.take_lines.ensures.ended ∙ c.if-self.false) same b.2 c.in_ok-read.ensures.grew;
       count = counted_on _ _ _ _ c.loop-read.invariant.count c.in_ok-read.ensures.counted;
     }

@@ -1,4 +1,4 @@
-use Rattle.std.proofs.Common.{◌≡◌, ◌≤◌, ◌+◌, ◌++◌, ◌⊎◌, ℕ, List, [], true}
+use Rattle.std.proofs.Common.{◌≡◌, ◌≤◌, ◌+◌, ◌++◌, ◌⊎◌, ℕ, List, [], true, length, if◌then◌else◌}
 use Rattle.std.specs.Io.KnownBytes.{Consumes, IsAtEnd}
 use Rattle.mk_mail.specs.Devices.{IsFull}
 use Rattle.mk_mail.specs.Intakes.{IsIntake, kept_by}
@@ -15,5 +15,6 @@ invariant-loop-read g l = record {
   ended : l.self.ended ≡ true → (l.fn.self.ended ≡ true) ⊎ IsAtEnd (g.S.Source.remaining l.r);
   stays : l.fn.self.ended ≡ true → (l.self.ended ≡ true) × (g.S.Source.remaining l.r ≡ g.S.Source.remaining l.fn.r);
   well : g.S.Source.failures l.r ≡ g.S.Source.failures l.fn.r;
+  grown : length (kept_by l.fn.self) + l._read ≤ length (kept_by l.self) + (if l.self.ended then 1 else 0);
   count : (g.S.Source.read_count l.fn.r + l._read ≤ g.S.Source.read_count l.r) ⊎ IsFull (g.S.Source.read_count l.r);
 }
