@@ -6,9 +6,8 @@ use Rattle.std.specs.List.{list_all}
 use Rattle.mk_line.specs.Ascii.{is_blank}
 use Rattle.mk_line.specs.declared.cutting.Ending.{Ending}
 use Rattle.mk_line.specs.declared.cutting.Ending.TheVariants.{Crlf, Lf, Missing}
-use Rattle.mk_line.specs.declared.marks.Mark.TheVariants.{No}
-use Rattle.mk_line.specs.Lines.{TextLine, text_line, ending_bytes, is_lf, is_nil, is_open, with_byte, onto_first, cut, text_of}
-use Rattle.mk_line.specs.Marks.{dashed, mark, trimmed_before, trimmed}
+use Rattle.mk_line.specs.Lines.{TextLine, text_line, ending_bytes, is_lf, is_nil, is_open, onto_first, cut, text_of}
+use Rattle.mk_line.specs.Marks.{dashed, trimmed_before, trimmed}
 use Rattle.mk_code.specs.OutputLines.{IsSafe, AreSafe}
 use Rattle.mk_tree.specs.Cutting.{Unmarked}
 use Rattle.mk_tree.specs.Sections.{unended}

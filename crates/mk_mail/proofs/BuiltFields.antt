@@ -1,5 +1,5 @@
 -- The fields in front of a built message: their lines are fields, and none says a content.
-use Rattle.std.proofs.Common.{◌≡◌, ◌≢◌, ◌==◌, ◌&&◌, ◌||◌, ◌-◌, ◌+◌, ◌++◌, if◌then◌else◌, ℕ, suc, Bool, true, false, not, Option, None, Some, List, [], ◌∷◌, refl, ap, sym, ◌∙◌, subst, append_assoc, codes, drop, length, nat_eq, inl, inr, arith}
+use Rattle.std.proofs.Common.{◌≡◌, ◌==◌, ◌&&◌, ◌-◌, ◌++◌, if◌then◌else◌, ℕ, suc, Bool, true, false, not, List, [], ◌∷◌, refl, ap, sym, ◌∙◌, subst, append_assoc, codes, drop, length, nat_eq, inl, inr, arith}
 use Rattle.std.proofs.lemmas.Bool.{cases_Bool, eqb-true, or_parts}
 use Rattle.std.specs.Cmp.Lexicographic.{pointwise}
 use Rattle.std.specs.List.{ends_with, flat_map, list_all, starts_with}
@@ -8,7 +8,7 @@ use Rattle.mk_line.specs.Ascii.{is_blank}
 use Rattle.mk_line.specs.declared.cutting.Ending.{Ending}
 use Rattle.mk_line.specs.declared.cutting.Ending.TheVariants.{Crlf, Lf, Missing}
 use Rattle.mk_line.specs.Kinds.{is_field_start}
-use Rattle.mk_line.specs.Lines.{TextLine, text_line, ending_bytes, is_lf, is_nil, is_open, with_byte, onto_first, cut, text_of, AreLines}
+use Rattle.mk_line.specs.Lines.{TextLine, text_line, ending_bytes, is_lf, is_nil, is_open, onto_first, cut, text_of, AreLines}
 use Rattle.mk_line.proofs.Blanks.{untold}
 use Rattle.mk_line.proofs.Cuts.{lines_cut, text_append, text_cut}
 use Rattle.mk_head.specs.Fields.{field_text, is_named, is_one_field, name_of}
@@ -17,7 +17,7 @@ use Rattle.mk_head.specs.Splits.{IsRun}
 use Rattle.mk_head.specs.Types.{field_value}
 use Rattle.mk_head.specs.Values.{lowered}
 use Rattle.mk_head.proofs.FieldRuns.{more_start}
-use Rattle.mk_mail.specs.Building.{closed_field, is_free_field, is_free_start, is_made_name, is_open_text}
+use Rattle.mk_mail.specs.Building.{closed_field, is_free_field, is_free_start, is_made_name}
 use Rattle.mk_mail.proofs.BuiltLines.{AreClosed, AreSome, closed_joined, cut_ended, lines_joined, one_more, some_closed}
 use Rattle.mk_mail.proofs.FieldLines.{first_content, name_behind, name_first, name_in, start_behind, start_first}
 use Rattle.mk_mail.proofs.PartTypes.{both}

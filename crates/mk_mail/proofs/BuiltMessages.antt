@@ -1,13 +1,12 @@
 -- A built message is read as a multipart with a part for each that was attached.
-use Rattle.std.proofs.Common.{◌≡◌, ◌≢◌, ◌+◌, ◌==◌, ◌&&◌, ◌||◌, ◌++◌, if◌then◌else◌, ℕ, zero, suc, Bool, true, false, not, Option, None, Some, List, [], ◌∷◌, option_and_then, refl, ap, sym, ◌∙◌, subst, append_assoc, codes, length, nat_eq, inl, inr}
+use Rattle.std.proofs.Common.{◌≡◌, ◌≢◌, ◌+◌, ◌&&◌, ◌||◌, ◌++◌, if◌then◌else◌, ℕ, zero, suc, Bool, true, false, Option, None, Some, List, [], ◌∷◌, option_and_then, refl, ap, sym, ◌∙◌, subst, append_assoc, codes, length, nat_eq, inl, inr}
 use Rattle.std.proofs.lemmas.Bool.{cases_Bool}
 use Rattle.std.proofs.lemmas.List.{append-nil}
-use Rattle.std.specs.List.{flat_map, list_all, starts_with}
+use Rattle.std.specs.List.{flat_map, starts_with}
 use Rattle.std.specs.Option.{option_map}
-use Rattle.std.specs.Str.{bytes_eq}
 use Rattle.mk_line.specs.declared.cutting.Ending.{Ending}
 use Rattle.mk_line.specs.declared.cutting.Ending.TheVariants.{Crlf, Lf, Missing}
-use Rattle.mk_line.specs.Kinds.{is_field_start, is_from_line}
+use Rattle.mk_line.specs.Kinds.{is_from_line}
 use Rattle.mk_line.specs.Lines.{TextLine, text_line, ending_bytes, is_open, cut, text_of}
 use Rattle.mk_line.specs.Marks.{dashed}
 use Rattle.mk_line.proofs.Cuts.{append_nil, cut_text, text_append}
@@ -22,7 +21,7 @@ use Rattle.mk_tree.specs.Documents.{Document, document_of, levels, tree}
 use Rattle.mk_tree.specs.Kinds.{Multi, is_digest, kind, kind_of}
 use Rattle.mk_tree.specs.Locality.{BeginsPlain}
 use Rattle.mk_tree.specs.Reading.{AreWellRead, IsWellRead}
-use Rattle.mk_tree.specs.Sections.{Placed, children, has_part, parts_placed, root_of, section_at, section_below}
+use Rattle.mk_tree.specs.Sections.{Placed, children, has_part, parts_placed, root_of, section_below}
 use Rattle.mk_tree.specs.Spans.{digest_below, size}
 use Rattle.mk_tree.specs.Tree.{Entity, multi, Parts, no_parts, part, print, print_parts}
 use Rattle.mk_tree.proofs.Stability.{read_parts}
@@ -35,7 +34,7 @@ use Rattle.mk_edit.proofs.Typed.{MayBound, made_bound, made_kind, made_value, ma
 use Rattle.mk_edit.proofs.Wraps.{close_is, type_is}
 use Rattle.mk_mail.specs.declared.building.BuildError.{BuildError}
 use Rattle.mk_mail.specs.declared.building.BuildError.TheVariants as build
-use Rattle.mk_mail.specs.Building.{Attached, attached, build_refusal, built, built_part, close_line, closed_field, first_failing, is_free_field, is_media, is_name_or_none, made_head, refusal_at}
+use Rattle.mk_mail.specs.Building.{Attached, attached, built, built_part, closed_field, first_failing, is_free_field, is_media, is_name_or_none, refusal_at}
 use Rattle.mk_mail.specs.BuiltLaws.{AreBytes, HaveBytes, GivesBack, BuiltMessagesGiveBack}
 use Rattle.mk_mail.specs.Extracts.{IsContentOf, IsExtract}
 use Rattle.mk_mail.proofs.BuiltFields.{AreFreeFields, field_lines, fields_are_lines, fields_closed, fields_lines, fields_text, run_fields, skip_fields}

@@ -21,13 +21,12 @@ use Rattle.mk_code.proofs.NoReturns.{base64_others, is_other, qp_others}
 use Rattle.mk_code.proofs.QpBack.{qp_back}
 use Rattle.mk_code.proofs.QpSafe.{qp_safe}
 use Rattle.mk_tree.specs.Cutting.{Unmarked}
-use Rattle.mk_tree.specs.Kinds.{Leaf, kind, kind_at, kind_of}
+use Rattle.mk_tree.specs.Kinds.{Leaf, kind, kind_of}
 use Rattle.mk_tree.specs.Reading.{IsWellRead}
-use Rattle.mk_tree.specs.Sections.{Placed}
 use Rattle.mk_tree.specs.Tree.{Entity, leaf, print}
 use Rattle.mk_tree.proofs.Plugs.{unmarked_join}
 use Rattle.mk_edit.proofs.Bounds.{made_line}
-use Rattle.mk_mail.specs.Building.{Attached, attached, disposition_line, encoded, encoding_line, encoding_name, is_media, is_name, is_name_byte, is_name_or_none, is_single, is_subtype, longest, name_param, type_line}
+use Rattle.mk_mail.specs.Building.{Attached, attached, disposition_line, encoded, encoding_line, encoding_name, is_media, is_name, is_name_byte, is_name_or_none, is_single, is_subtype, longest, name_param}
 use Rattle.mk_mail.specs.BuiltLaws.{AreBytes}
 use Rattle.mk_mail.specs.Extracts.{IsContentOf}
 use Rattle.mk_mail.proofs.BuiltBodies.{AreFree, body_content, free_ended, free_unmarked, safe_free}

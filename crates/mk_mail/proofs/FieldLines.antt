@@ -1,14 +1,12 @@
 -- The lines of a field whose last line got an ending.
-use Rattle.std.proofs.Common.{◌≡◌, ◌==◌, ◌&&◌, ◌||◌, ◌+◌, ◌-◌, ◌++◌, if◌then◌else◌, ℕ, suc, Bool, true, false, not, List, [], ◌∷◌, refl, ap, sym, ◌∙◌, take, length, inl, inr, arith}
+use Rattle.std.proofs.Common.{◌≡◌, ◌==◌, ◌&&◌, ◌+◌, ◌++◌, if◌then◌else◌, ℕ, suc, Bool, true, false, List, [], ◌∷◌, refl, ap, sym, ◌∙◌, take, inl, inr, arith}
 use Rattle.std.proofs.lemmas.Bool.{cases_Bool, eqb-true}
-use Rattle.std.specs.List.{list_all, prefix_len}
+use Rattle.std.specs.List.{prefix_len}
 use Rattle.mk_line.specs.Ascii.{is_blank, is_name_byte}
-use Rattle.mk_line.specs.declared.cutting.Ending.{Ending}
-use Rattle.mk_line.specs.declared.cutting.Ending.TheVariants.{Crlf, Lf, Missing}
-use Rattle.mk_line.specs.Kinds.{is_past_blanks_colon, is_after_name, is_field_start, is_continuation}
-use Rattle.mk_line.specs.Lines.{TextLine, text_line, ending_bytes, is_lf, is_nil, is_open, with_byte, onto_first, cut}
-use Rattle.mk_head.specs.Split.{is_more}
-use Rattle.mk_mail.proofs.PartTypes.{both, differs}
+use Rattle.mk_line.specs.declared.cutting.Ending.TheVariants.{Crlf}
+use Rattle.mk_line.specs.Kinds.{is_past_blanks_colon, is_after_name, is_field_start}
+use Rattle.mk_line.specs.Lines.{TextLine, text_line, is_lf, is_nil, onto_first, cut}
+use Rattle.mk_mail.proofs.PartTypes.{both}
 
 -- the content of the first line
 abbrev pub first_content : List TextLine → List ℕ

@@ -16,7 +16,7 @@ use Rattle.mk_tree.proofs.HeadChanged.{behind_fields, changed_lines, entity_line
 use Rattle.mk_tree.proofs.Kept.{lines_kept}
 use Rattle.mk_tree.proofs.OwnFields.{fields_are}
 use Rattle.mk_edit.specs.EditLaws.{IsJudged}
-use Rattle.mk_edit.specs.Edits.{PlainEdit, AddField, RemoveField, RenameField, SetField, SetBody, SetSection, InsertPart, RemovePart, Wrap, path_of, Refusal, BadField, BadName}
+use Rattle.mk_edit.specs.Edits.{PlainEdit, AddField, RemoveField, RenameField, SetField, SetBody, SetSection, InsertPart, RemovePart, Wrap, Refusal, BadField, BadName}
 use Rattle.mk_edit.specs.EditSplices.{splices_of}
 use Rattle.mk_edit.specs.FieldEdits.{field_at, is_name, renamed}
 use Rattle.mk_edit.specs.Groups.{Together, behind, made_on, together}
@@ -29,7 +29,7 @@ use Rattle.mk_edit.proofs.GroupFacts.{groups_lead_lem}
 use Rattle.mk_edit.proofs.Late.{IsFair, fair, told}
 use Rattle.mk_edit.proofs.SectionSites.{head_cut, head_is_run, site}
 use Rattle.mk_mail.specs.Filtered.{FilteredStayApart, filtered, outcome, text_left}
-use Rattle.mk_mail.specs.Letters.{PlainLetters, Work, add_if_letter, added, added_full, edits_of, first_letter, greatest_number, is_bare, last_edits, last_of, letter, letter_edits, made_old, name_in, next_number, old_name, only_letter, prefixed_letter, removed_all, rename_letter, renamed_all, respelling, respelt_all, root_names, root_path, same_name, then_do, those, untouched, worked}
+use Rattle.mk_mail.specs.Letters.{PlainLetters, Work, add_if_letter, added, added_full, edits_of, first_letter, is_bare, last_of, letter, made_old, name_in, next_number, old_name, only_letter, prefixed_letter, removed_all, rename_letter, renamed_all, respelling, respelt_all, root_names, root_path, same_name, those, untouched, worked}
 use Rattle.mk_mail.proofs.MailChains.{AreMessage, IsKept, IsWhole, begins_from, ends_empty, kept_apart}
 
 -- ---- the edits of letters are edits of the root's fields

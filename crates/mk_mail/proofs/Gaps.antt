@@ -127,10 +127,6 @@ next_one total place count rest q all qs w e =
     let spread = subst (AreSpread place w.lines) e w.spread in
     next_in total place count rest q qs w.lines spread.0 spread.1 w.are_lines w.text spread.2 spread.3 spread.4 w.counted
 
--- a body has no more lines than bytes
-pub few_lines : (total place count : ℕ) (rest : List ℕ) (below : List Placed) → IsLeft total place count rest below → count ≤ total
-few_lines total place count rest below w = omega (arith, w.counted)
-
 -- the lines of the root's body
 pub root_lines : (text : List ℕ) → AreLines (body_lines (tree text).root)
 root_lines text =

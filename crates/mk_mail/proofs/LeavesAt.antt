@@ -1,5 +1,5 @@
 -- Sections at their paths, and leaves put behind others.
-use Rattle.std.proofs.Common.{◌≡◌, ◌+◌, ◌==◌, ◌++◌, if◌then◌else◌, ℕ, suc, Bool, true, false, Option, None, Some, List, [], ◌∷◌, option_and_then, refl, ap, sym, subst, ◌∙◌, arith}
+use Rattle.std.proofs.Common.{◌≡◌, ◌+◌, ◌==◌, ◌++◌, if◌then◌else◌, ℕ, suc, Bool, true, false, Option, None, Some, List, [], ◌∷◌, option_and_then, ap, sym, subst, ◌∙◌, arith}
 use Rattle.mk_head.specs.Fields.{counted}
 use Rattle.mk_tree.specs.Documents.{Document}
 use Rattle.mk_tree.specs.Sections.{Placed, children, root_of, section_at, section_below}

@@ -22,7 +22,6 @@ use Rattle.mk_mail.specs.Letters.{PlainLetters, edits_of}
 use Rattle.mk_mail.specs.Mailboxes.{FitsReads, IsNextPiece, IsOver, chunk_bytes}
 use Rattle.mk_mail.specs.Pieces.{mailbox_pieces}
 use Rattle.mk_mail.proofs.FieldNames.{root_fields}
-use Rattle.mk_tool.specs.declared.status.Status.{Status}
 use Rattle.mk_tool.specs.declared.status.Status.TheVariants.{Well, Refused}
 use Rattle.mk_tool.specs.declared.status.Cause.{Cause}
 use Rattle.mk_tool.specs.declared.status.Cause.TheVariants.{Read, Write, Memory}
@@ -307,19 +306,6 @@ pub given_begun : (f : FieldText → List ℕ) (name text held head : List ℕ) 
 given_begun f name text held head fields e h g =
     ap (λ x. x ++ flat_map f (filter (is_named name) fields)) e
     ∙ ap (λ fs. flat_map f (filter (is_named name) fs)) (g ∙ (ap (λ b. fields_of (fields_from false (cut b))) h ∙ root_fields text))
-
-pub given_more : (f : FieldText → List ℕ) (test : FieldText → Bool) (x : FieldText) (old rest : List FieldText) (held new total : List ℕ) → old ≡ x ∷ rest → test x ≡ true → new ≡ held ++ f x
-    → held ++ flat_map f (filter test old) ≡ total → new ++ flat_map f (filter test rest) ≡ total
-given_more f test x old rest held new total o t n h =
-    let one : flat_map f (filter test (x ∷ rest)) ≡ f x ++ flat_map f (filter test rest) = rw t refl in
-    ap (λ y. y ++ flat_map f (filter test rest)) n
-    ∙ (append_assoc held (f x) (flat_map f (filter test rest)) ∙ (ap (λ y. held ++ y) (sym one) ∙ (ap (λ xs. held ++ flat_map f (filter test xs)) (sym o) ∙ h)))
-
-pub given_less : (f : FieldText → List ℕ) (test : FieldText → Bool) (x : FieldText) (old rest : List FieldText) (held total : List ℕ) → old ≡ x ∷ rest → test x ≡ false
-    → held ++ flat_map f (filter test old) ≡ total → held ++ flat_map f (filter test rest) ≡ total
-given_less f test x old rest held total o t h =
-    let none : flat_map f (filter test (x ∷ rest)) ≡ flat_map f (filter test rest) = rw t refl in
-    ap (λ y. held ++ y) (sym none) ∙ (ap (λ xs. held ++ flat_map f (filter test xs)) (sym o) ∙ h)
 
 -- ---- how a run ends
 

@@ -1,11 +1,11 @@
 -- The lines of a script, as they are written.
-use Rattle.std.proofs.Common.{◌≡◌, ℕ, Bool, true, false, List, Some, None, Option, codes, refl, sym, ap, ◌∙◌, subst, inl, inr}
+use Rattle.std.proofs.Common.{◌≡◌, ℕ, true, false, List, Some, None, codes, refl, sym, ap, ◌∙◌, subst, inl, inr}
 use Rattle.std.proofs.lemmas.Bool.{cases_Bool}
 use Rattle.std.proofs.lemmas.Slice.Eq.{bytes_eq-Decides}
 use Rattle.std.specs.Option.{option_map}
 use Rattle.std.specs.Str.{bytes_eq}
 use Rattle.mk_tool.specs.Script.{ScriptWord, ScriptLine, Edits, Undoes, Redoes, Begins, Ends, word_of, line_of}
-use Rattle.mk_tool.specs.Written.{IsWord, written, IsLine, written_line}
+use Rattle.mk_tool.specs.Written.{written, IsLine, written_line}
 use Rattle.mk_tool.proofs.NumberLemmas.{some_same, none_some}
 use Rattle.mk_tool.proofs.TargetLemmas.{map-some}
 use Rattle.mk_tool.proofs.WordLemmas.{word_of-read, word_of-written}

@@ -1,5 +1,5 @@
 -- The words of a script that change more than fields, as they are written.
-use Rattle.std.proofs.Common.{◌≡◌, ◌<◌, ◌≤◌, ◌^◌, ℕ, Bool, true, false, if◌then◌else◌, List, [], ◌∷◌, ◌++◌, Some, None, Option, codes, decimal, nat_le, refl, sym, ap, ◌∙◌, subst, inl, inr, arith}
+use Rattle.std.proofs.Common.{◌≡◌, ◌<◌, ◌^◌, ℕ, true, if◌then◌else◌, List, ◌∷◌, ◌++◌, Some, None, codes, decimal, nat_le, refl, ap, ◌∙◌, subst, inl, inr, arith}
 use Rattle.std.proofs.lemmas.Bool.{cases_Bool, leb-true, le-leb}
 use Rattle.std.proofs.lemmas.Slice.Eq.{bytes_eq-Decides}
 use Rattle.std.specs.Option.{option_map, option_and_then}
@@ -7,7 +7,7 @@ use Rattle.std.specs.Str.{bytes_eq}
 use Rattle.mk_line.specs.Ascii.{space}
 use Rattle.mk_tool.specs.Paths.{parted, number_of, path_of}
 use Rattle.mk_tool.specs.Targets.{is_name, count_of}
-use Rattle.mk_tool.specs.Script.{ScriptWord, Bodies, Replaces, Inserts, Removes, Wraps, within, piece_of, with_piece, placing, with_place, with_places, inserting, removing, with_subtype, with_wrapping, wrapping, word_on}
+use Rattle.mk_tool.specs.Script.{ScriptWord, Bodies, Replaces, Inserts, Removes, Wraps, piece_of, with_piece, placing, with_place, with_places, inserting, removing, with_subtype, with_wrapping, wrapping, word_on}
 use Rattle.mk_tool.specs.Written.{IsPath, IsPiece, written_path, written_place, IsWord, written}
 use Rattle.mk_tool.proofs.NumberLemmas.{some_same, none_some, number_of-decimal, number_of-written, decimal_digits}
 use Rattle.mk_tool.proofs.PieceLemmas.{HoldsNo-digits, parted-append, parted-joined}

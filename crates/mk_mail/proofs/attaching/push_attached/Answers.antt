@@ -1,4 +1,4 @@
-use Rattle.std.proofs.Common.{ap, ◌∙◌, ◌++◌, OnOk}
+use Rattle.std.proofs.Common.{ap, ◌∙◌, ◌++◌}
 use Rattle.mk_line.specs.Lines.{ending_bytes}
 use Rattle.mk_mail.specs.BuildViews.{attached_of}
 use Rattle.mk_mail.specs.Building.{disposition_line, encoded, encoding_line, type_line}

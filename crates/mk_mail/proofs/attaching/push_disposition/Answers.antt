@@ -1,4 +1,4 @@
-use Rattle.std.proofs.Common.{◌≡◌, ap, sym, ◌∙◌, ◌++◌, codes, OnOk, subst, Some}
+use Rattle.std.proofs.Common.{ap, sym, ◌∙◌, ◌++◌, codes}
 use Rattle.std.specs.Option.{option_map}
 use Rattle.mk_line.specs.Lines.{ending_bytes}
 use Rattle.mk_mail.specs.Building.{disposition_line}

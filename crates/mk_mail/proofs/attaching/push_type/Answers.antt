@@ -1,4 +1,4 @@
-use Rattle.std.proofs.Common.{ap, ◌∙◌, ◌++◌, codes, OnOk}
+use Rattle.std.proofs.Common.{ap, ◌∙◌, ◌++◌, codes}
 use Rattle.mk_line.specs.Lines.{ending_bytes}
 use Rattle.mk_mail.specs.BuildViews.{attached_of}
 use Rattle.mk_mail.specs.Building.{name_param}

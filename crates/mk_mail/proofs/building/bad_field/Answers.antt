@@ -1,6 +1,6 @@
-use Rattle.std.proofs.Common.{ap, sym, ◌∙◌, ◌+◌, ◌≡◌, map, drop, length, arith, None}
+use Rattle.std.proofs.Common.{ap, sym, ◌∙◌, ◌+◌, map, drop, arith}
 use Rattle.mk_mail.specs.Building.{first_failing, is_free_field}
-use Rattle.mk_mail.proofs.Failing.{behind, passes, fails, from_index, at_end}
+use Rattle.mk_mail.proofs.Failing.{passes, fails, from_index}
 use Rattle.mk_mail.proofs.building.bad_field.Goals as goal
 
 pub loop-index-preserved : goal.loop-index-preserved

@@ -1,7 +1,7 @@
-use Rattle.std.proofs.Common.{ap, sym, ◌∙◌, ◌+◌, ◌≡◌, map, drop, length, arith, None}
+use Rattle.std.proofs.Common.{sym, ◌∙◌, ◌+◌, map, drop, arith}
 use Rattle.mk_mail.specs.BuildViews.{attached_of}
 use Rattle.mk_mail.specs.Building.{first_failing, is_name_or_none}
-use Rattle.mk_mail.proofs.Failing.{behind, passes, fails, from_index, at_end}
+use Rattle.mk_mail.proofs.Failing.{passes, fails, from_index}
 use Rattle.mk_mail.proofs.building.bad_name.Goals as goal
 
 pub loop-index-preserved : goal.loop-index-preserved

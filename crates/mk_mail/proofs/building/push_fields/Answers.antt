@@ -1,4 +1,4 @@
-use Rattle.std.proofs.Common.{ap, ◌∙◌, ◌+◌, ◌++◌, map, drop, length, arith}
+use Rattle.std.proofs.Common.{ap, ◌∙◌, ◌+◌, ◌++◌, map, drop, arith}
 use Rattle.mk_mail.specs.Building.{closed_field}
 use Rattle.mk_mail.proofs.Failing.{from_index, written_one}
 use Rattle.mk_mail.proofs.building.push_fields.Goals as goal

@@ -1,4 +1,4 @@
-use Rattle.std.proofs.Common.{ap, ◌∙◌, ◌++◌, codes, OnOk}
+use Rattle.std.proofs.Common.{ap, ◌∙◌, ◌++◌, codes}
 use Rattle.mk_line.specs.Lines.{ending_bytes}
 use Rattle.mk_mail.proofs.Joined.{on_ok, written, joined}
 use Rattle.mk_mail.proofs.building.push_head.Goals as goal

@@ -1,4 +1,4 @@
-use Rattle.std.proofs.Common.{◌+◌, map, drop, length, arith}
+use Rattle.std.proofs.Common.{◌+◌, map, drop, arith}
 use Rattle.mk_mail.specs.BuildViews.{attached_of}
 use Rattle.mk_mail.specs.Building.{built_part}
 use Rattle.mk_mail.proofs.Failing.{from_index, written_one}

@@ -1,4 +1,4 @@
-use Rattle.std.proofs.Common.{ap, sym, subst}
+use Rattle.std.proofs.Common.{sym, subst}
 use Rattle.mk_line.specs.Lines.{AreLines}
 use Rattle.mk_tree.specs.Sections.{body_lines}
 use Rattle.mk_mail.proofs.Gaps.{root_lines}

@@ -1,4 +1,4 @@
-use Rattle.std.proofs.Common.{Err, length, sym, subst}
+use Rattle.std.proofs.Common.{Err, sym, subst}
 use Rattle.mk_tool.specs.RunClauses.{held, LeavesSteps}
 use Rattle.mk_tool.specs.Runs.{run_of}
 use Rattle.mk_tool.specs.ScriptSteps.{script_of}

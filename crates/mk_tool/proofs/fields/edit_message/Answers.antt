@@ -1,8 +1,7 @@
-use Rattle.std.proofs.Common.{◌≡◌, Some, None, inr, subst}
+use Rattle.std.proofs.Common.{inr}
 use Rattle.mk_edit.specs.Answers.{refusal_of}
 use Rattle.mk_edit.specs.Histories.{text_now}
 use Rattle.mk_mail.specs.LetterViews.{letters_of}
-use Rattle.mk_tool.specs.FilterClauses.{IsEdited}
 use Rattle.mk_tool.proofs.FilterLemmas.{said_accepted, said_hardly, said_partly, said_refused, sent_well, stopped_so}
 use Rattle.mk_tool.proofs.fields.edit_message.Goals as goal
 

@@ -1,9 +1,5 @@
-use Rattle.std.proofs.Common.{◌∙◌, ap, Some, sym}
-use Rattle.std.specs.Option.{option_map}
-use Rattle.mk_edit.specs.Histories.{text_now}
 use Rattle.mk_mail.specs.LetterViews.{letters_of}
 use Rattle.mk_tool.specs.FilterClauses.{SaysSome}
-use Rattle.mk_tool.specs.Filtering.{given_by}
 use Rattle.mk_tool.proofs.FilterLemmas.{given_all, given_none, given_some, on_err}
 use Rattle.mk_tool.proofs.fields.filter_message.Goals as goal
 

@@ -1,4 +1,4 @@
-use Rattle.std.proofs.Common.{◌∷◌, [], sym, subst}
+use Rattle.std.proofs.Common.{sym, subst}
 use Rattle.std.proofs.KnownBytes.{Keeps-refl}
 use Rattle.mk_mail.specs.LetterViews.{letters_of}
 use Rattle.mk_tool.specs.FilterClauses.{SaysSome}

@@ -1,5 +1,5 @@
 use Rattle.std.proofs.Common.{refl}
-use Rattle.mk_edit.specs.Edits.{Do, Undo, Redo}
+use Rattle.mk_edit.specs.Edits.{Do}
 use Rattle.mk_edit.specs.Views.{edit_of}
 use Rattle.mk_tool.proofs.steps.obey.Goals as goal
 

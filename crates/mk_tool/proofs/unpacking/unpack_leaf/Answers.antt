@@ -1,4 +1,4 @@
-use Rattle.std.proofs.Common.{◌≡◌, true, false, rules, refl, sym, subst, inl, inr}
+use Rattle.std.proofs.Common.{◌≡◌, true, false, rules, refl, inl, inr}
 use Rattle.std.proofs.KnownBytes.{Appends-nil}
 use Rattle.mk_mail.specs.LeafViews.{leaf_view}
 use Rattle.mk_tool.specs.Shown.{is_wanting}
