@@ -45,10 +45,10 @@ field_law path (Rename name n to) t fs s p h o k = locality_lem (RenameField pat
 field_law path (Set name n text) t fs s p h o k = locality_lem (SetField path name.now n text.now) t fs s p h o k
 
 -- the document that an edit plans
-abbrev put_document : (text path : List ℕ) (p : Placed) → IsSite text path p → LinePut → Document
+abbrev pub put_document : (text path : List ℕ) (p : Placed) → IsSite text path p → LinePut → Document
 put_document text path p s q = planned (tree text).envelope (put_plan s.around p.entity q)
 
-put_law : (text path : List ℕ) (edit : FieldEdit) (p : Placed) (s : IsSite text path p) (q : LinePut) → IsPutAt edit p q → (IsStable (put_document text path p s q) ↔ FieldsLocal text path p s q)
+pub put_law : (text path : List ℕ) (edit : FieldEdit) (p : Placed) (s : IsSite text path p) (q : LinePut) → IsPutAt edit p q → (IsStable (put_document text path p s q) ↔ FieldsLocal text path p s q)
 put_law text path edit p s q h =
     field_law path edit (tree text) s.around p.entity (put_plan s.around p.entity q) (read_stable text) (place_found text path p s) (plan_found text path edit p s ∙ ap (plan_of_put s.around p.entity) h)
 
@@ -67,7 +67,7 @@ stable_told text path edit p s q h c u =
     same_test (fits_at (tree text) s.numbers p (spliced (size q.before) (size q.old) (text_of q.given) (head_text p))) (is_stable t) (λ x. stable_test t (law.1 (fits.0 x))) (λ x. fits.1 (law.0 (test_stable t x)))
 
 -- the splice that is answered
-abbrev put_splice : Placed → LinePut → PlainSplice
+abbrev pub put_splice : Placed → LinePut → PlainSplice
 put_splice p q = record { place = p.start + size q.before; count = size q.old - length q.kept; new = take (length (text_of q.given) - length q.kept) (text_of q.given) }
 
 changes_by : (path : List ℕ) (edit : FieldEdit) (r : PlainSplice) (t u : Document) → ChangesFields path r.place r.count r.new t → ChangesBy (plain_of path edit) r t u

@@ -135,10 +135,10 @@ fits_parts false false k h = cc
 pub parts_fit : (g e k : Bool) → g ≡ false → e ≡ true → k ≡ true → (if g then false else (if e then k else false)) ≡ true
 parts_fit g e k a b c = rw (a, b, c) refl
 
-abbrev KindsStay : ℕ → Bool → List TextLine → Entity → Type 0
+abbrev pub KindsStay : ℕ → Bool → List TextLine → Entity → Type 0
 KindsStay n d fields e = IsAlike (kind_at n (field_lines e) d) (kind_at n fields d) × AreKept (below n) (is_digest (kind_at n (field_lines e) d)) (is_digest (kind_at n fields d)) (parts_of e)
 
-kinds_stay : (text path : List ℕ) (edit : FieldEdit) (p : Placed) (s : IsSite text path p) (q : LinePut) → IsPutAt edit p q → IsClosed text path p s q
+pub kinds_stay : (text path : List ℕ) (edit : FieldEdit) (p : Placed) (s : IsSite text path p) (q : LinePut) → IsPutAt edit p q → IsClosed text path p s q
     → ((keeps_kinds (length s.numbers + 1) (put_head p q) p ≡ true) ↔ KindsStay (left_at levels s.around) (default_at false s.around) (lines_put q) p.entity)
 kinds_stay text path edit p s q h c =
     let n = left_at levels s.around in
@@ -149,7 +149,7 @@ kinds_stay text path edit p s q h c =
     (subst (λ g. IsWellRead n g p.entity) (sym same) s.well) (parts_read n d p.entity (entity_are text path p s) s.well)
     (fields_put text path edit p s q h c))
 
-abbrev look_there : (text path : List ℕ) (p : Placed) → IsSite text path p → LinePut → Bool
+abbrev pub look_there : (text path : List ℕ) (p : Placed) → IsSite text path p → LinePut → Bool
 look_there text path p s q = ends_there (is_nil (put_head p q)) (is_first s.numbers p.start) (entity_head p.entity).separator (cut (body_text p))
 
 look_is : (text path : List ℕ) (edit : FieldEdit) (p : Placed) (s : IsSite text path p) (q : LinePut) → IsPutAt edit p q → IsClosed text path p s q

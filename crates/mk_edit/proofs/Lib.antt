@@ -72,3 +72,5 @@ pub mod WrapFits
 pub mod WrapAnswered
 pub mod WrapCounts
 pub mod LineCounts
+pub mod SilentFields
+pub mod RootEdits

@@ -70,7 +70,7 @@ behind_run (l ∷ ls) r =
       | inr h ↦ rw h (start_belongs false l (sym (or_false (is_start l)) ∙ (ap (λ t. is_start l || t) (sym h) ∙ r.0)), r.1)
     ]
 
-more_behind : (ls : List TextLine) → continuations ls ++ behind_continuations ls ≡ ls
+pub more_behind : (ls : List TextLine) → continuations ls ++ behind_continuations ls ≡ ls
 more_behind [] = refl
 more_behind (l ∷ ls) =
     elim (cases_Bool (is_more l)) [

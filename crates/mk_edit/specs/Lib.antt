@@ -27,3 +27,5 @@ pub mod Decided
 pub mod Made
 pub mod Counts
 pub mod Laws
+pub mod RootFields
+pub mod Drafts

@@ -99,7 +99,7 @@ fn decide_put(
     }
 }
 
-// Whether a line without an ending would stand before another, with whole lines in the place of `count` bytes.
+/// Whether a line without an ending would stand before another, with whole lines in the place of `count` bytes.
 pub(crate) fn opens_early(text: &[u8], place: usize, count: usize, lines: &[u8]) -> bool
     requires { place + count ≤ length text.now }
     ensures { result ≡ opens_at text.now place count lines.now }
@@ -148,8 +148,8 @@ fn is_first(numbers: &[u32], section: &Section<'_>) -> bool
     numbers.is_empty() && section.start() == 0
 }
 
-// What whole lines at a place replace, without the bytes that stay.
-fn splice_of(place: usize, put: Put) -> Replacement
+/// What whole lines at a place replace, without the bytes that stay.
+pub(crate) fn splice_of(place: usize, put: Put) -> Replacement
     requires stays { put.kept ≤ put.count }
     requires within { put.kept ≤ length put.lines.items }
     ensures place { result.place ≡ place }

@@ -9,10 +9,11 @@ ghost use Rattle.mk_edit.specs.History.{History};
 ghost use Rattle.mk_edit.specs.Made.{AreMade};
 ghost use Rattle.mk_edit.specs.Views.{edit_of, splice_of};
 
+use crate::drafts::Draft;
 use crate::edits::Edit;
 use crate::errors::{EditError, GroupError};
 use crate::splicing::Splice;
-use crate::stepping::{make, read_anew};
+use crate::stepping::read_anew;
 use mk_line::Meter;
 use mk_tree::Doc;
 use std::alloc::Global;
@@ -27,15 +28,19 @@ pub(crate) fn together(
     ensures ok { IfOk result (λ p. AreMade (map edit_of list.now) doc.now (map splice_of p.1.items) p.0) }
     ensures err { IfErr result (λ e. (h : History) → IsGroupRefusedBy e (grouped_by h (defined (map edit_of list.now) (tree doc.now)))) }
 {
-    let mut made = read_anew(alloc, doc)?;
+    let mut draft = Draft::Read(read_anew(alloc, doc)?);
     let mut splices = Vec::with_capacity(alloc, list.len())?;
     for edit in list {
-        match make(alloc, &mut made, edit, meter) {
-            Ok(splice) => splices.push_reserved(splice),
+        let next = draft.ready(&list[splices.len()..]);
+        match next.make(alloc, edit, meter) {
+            Ok((made, splice)) => {
+                draft = made;
+                splices.push_reserved(splice);
+            }
             Err(error) => return Err(refused(splices.len(), error)),
         }
     }
-    Ok((made, splices))
+    Ok((draft.read(alloc)?, splices))
 }
 
 // Why a group is refused of which this edit is.

@@ -6,6 +6,7 @@
 
 mod around;
 mod deciding;
+mod drafts;
 pub mod edit_laws;
 mod edits;
 mod errors;
@@ -17,6 +18,7 @@ pub mod laws;
 mod looking;
 mod part_edits;
 mod replies;
+mod root_fields;
 mod section_edits;
 mod session;
 mod splicing;

@@ -111,7 +111,8 @@ pub(crate) fn read_anew(alloc: Global, doc: &Doc) -> Result<Doc, AllocError>
     read(alloc, text)
 }
 
-fn read(alloc: Global, text: Vec<u8>) -> Result<Doc, AllocError>
+/// Reads a text.
+pub(crate) fn read(alloc: Global, text: Vec<u8>) -> Result<Doc, AllocError>
     ensures { IfOk result (λ d. d ≡ text.items) }
 {
     match Doc::read(alloc, text) {

@@ -1,0 +1,172 @@
+-- Where a field goes that says nothing of the body, or gets another such name, the kind that the fields say stays.
+use Rattle.std.proofs.Common.{◌≡◌, ◌&&◌, ◌++◌, if◌then◌else◌, ℕ, zero, suc, Bool, true, false, not, Option, None, Some, Result, Ok, Err, List, [], ◌∷◌, refl, ap, sym, ◌∙◌, subst, codes, inl, inr}
+use Rattle.std.proofs.lemmas.Bool.{cases_Bool}
+use Rattle.std.proofs.lemmas.Slice.Eq.{bytes_eq-Decides}
+use Rattle.std.specs.Str.{bytes_eq, str_to_ascii_lowercase}
+use Rattle.mk_line.specs.Lines.{TextLine}
+use Rattle.mk_head.specs.Split.{is_start, is_more}
+use Rattle.mk_head.specs.Fields.{continuations, field_text, is_named, name_of}
+use Rattle.mk_head.specs.Types.{field_value, type_by, encoding_by}
+use Rattle.mk_head.specs.Unfolding.{value_in}
+use Rattle.mk_head.proofs.FieldRuns.{more_start}
+use Rattle.mk_tree.specs.Kinds.{kind, kind_of}
+use Rattle.mk_edit.specs.declared.field_edits.FieldEdit.{FieldEdit}
+use Rattle.mk_edit.specs.declared.field_edits.FieldEdit.TheVariants.{Add, Remove, Rename, Set}
+use Rattle.mk_edit.specs.Edits.{Refusal, BadName}
+use Rattle.mk_edit.specs.FieldEdits.{starts_named, behind_continuations, Found, found_behind, find, field_at, renamed, is_name}
+use Rattle.mk_edit.specs.FieldPuts.{LinePut, name_put, put_unless, puts, removes, renames}
+use Rattle.mk_edit.specs.RootFields.{are_same, is_silent, IsSilent}
+use Rattle.mk_edit.proofs.Counting.{names_lem}
+use Rattle.mk_edit.proofs.PutPlans.{lines_put}
+use Rattle.mk_edit.proofs.Renaming.{both, renamed_start}
+use Rattle.mk_edit.proofs.Runs.{more_behind}
+use Rattle.mk_edit.proofs.WrapFields.{start_more}
+
+-- lines of which the first continues no field stand behind others
+continued : (xs ys zs : List TextLine) → continuations ys ≡ [] → continuations zs ≡ [] → continuations (xs ++ ys) ≡ continuations (xs ++ zs)
+continued [] ys zs h k = h ∙ sym k
+continued (x ∷ xs) ys zs h k = ap (λ ls. if is_more x then x ∷ ls else []) (continued xs ys zs h k)
+
+value_behind_others : (name : List ℕ) (xs ys zs : List TextLine) → continuations ys ≡ [] → continuations zs ≡ [] → field_value name ys ≡ field_value name zs → field_value name (xs ++ ys) ≡ field_value name (xs ++ zs)
+value_behind_others name [] ys zs h k e = e
+value_behind_others name (x ∷ xs) ys zs h k e =
+    let named = is_start x && is_named name (field_text x []) in
+    ap (λ ls. if named then Some (value_in (x ∷ ls)) else field_value name (xs ++ ys)) (continued xs ys zs h k)
+    ∙ ap (λ v. if named then Some (value_in (x ∷ continuations (xs ++ zs))) else v) (value_behind_others name xs ys zs h k e)
+
+-- continuations hold no field
+value_left : (name : List ℕ) (ls : List TextLine) → field_value name (behind_continuations ls) ≡ field_value name ls
+value_left name [] = refl
+value_left name (l ∷ ls) =
+    elim (cases_Bool (is_more l)) [
+      | inl m ↦ rw (m, more_start l m) (value_left name ls)
+      | inr m ↦ rw m refl
+    ]
+
+none_left : (ls : List TextLine) → continuations (behind_continuations ls) ≡ []
+none_left [] = refl
+none_left (l ∷ ls) =
+    elim (cases_Bool (is_more l)) [
+      | inl m ↦ rw m (none_left ls)
+      | inr m ↦ rw (m, m) refl
+    ]
+
+none_before : (l : TextLine) (ls : List TextLine) → is_start l ≡ true → continuations (l ∷ ls) ≡ []
+none_before l ls s = rw (start_more l s) refl
+
+-- a field that was found by its name
+pub record IsNamedIn (name : List ℕ) (ls : List TextLine) (f : Found) : Type 0 where
+  pub rest : List TextLine
+  pub whole : f.before ++ (f.start ∷ rest) ≡ ls
+  pub apart : f.more ++ f.after ≡ rest
+  pub after : f.after ≡ behind_continuations rest
+  pub named : starts_named name f.start ≡ true
+
+abbrev NamedIn : List ℕ → List TextLine → Option Found → Type 0
+NamedIn name ls None = Unit {0}
+NamedIn name ls (Some f) = IsNamedIn name ls f
+
+later : (name : List ℕ) (l : TextLine) (ls : List TextLine) (o : Option Found) → NamedIn name ls o → NamedIn name (l ∷ ls) (found_behind l o)
+later name l ls None h = tt
+later name l ls (Some f) h = record { rest = h.rest; whole = ap (λ xs. l ∷ xs) h.whole; apart = h.apart; after = h.after; named = h.named }
+
+here : (name : List ℕ) (t : Bool) (l : TextLine) (ls : List TextLine) (o : Option Found) → (t ≡ true → starts_named name l ≡ true) → NamedIn name ls o
+    → NamedIn name (l ∷ ls) (if t then Some (record { before = []; start = l; more = continuations ls; after = behind_continuations ls }) else found_behind l o)
+here name true l ls o s h = record { rest = ls; whole = refl; apart = more_behind ls; after = refl; named = s refl }
+here name false l ls o s h = later name l ls o h
+
+named_in : (name : List ℕ) (k : ℕ) (ls : List TextLine) → NamedIn name ls (find (starts_named name) k ls)
+named_in name k [] = tt
+named_in name zero (l ∷ ls) = here name (starts_named name l) l ls (find (starts_named name) zero ls) (λ h. h) (named_in name zero ls)
+named_in name (suc k) (l ∷ ls) = later name l ls (find (starts_named name) (if starts_named name l then k else suc k) ls) (named_in name (if starts_named name l then k else suc k) ls)
+
+found_named : (name : List ℕ) (k : ℕ) (ls : List TextLine) → NamedIn name ls (field_at name k ls)
+found_named name zero ls = tt
+found_named name (suc k) ls = named_in name k ls
+
+-- its name isn't another
+other_name : (spelt name other : List ℕ) → are_same spelt name ≡ true → are_same name other ≡ false → are_same spelt other ≡ false
+other_name spelt name other h k = ap (λ x. bytes_eq x (str_to_ascii_lowercase other)) ((bytes_eq-Decides (str_to_ascii_lowercase spelt) (str_to_ascii_lowercase name)).0 h) ∙ k
+
+none_named : (s t : Bool) → t ≡ false → (s && t) ≡ false
+none_named true t h = h
+none_named false t h = refl
+
+starts_other : (name other : List ℕ) (l : TextLine) → starts_named name l ≡ true → are_same name other ≡ false → starts_named other l ≡ false
+starts_other name other l h k = none_named (is_start l) (is_named other (field_text l [])) (other_name (name_of l) name other (both (is_start l) (is_named name (field_text l [])) h).1 k)
+
+passed_over : (other : List ℕ) (l : TextLine) (ls : List TextLine) → starts_named other l ≡ false → field_value other (l ∷ ls) ≡ field_value other ls
+passed_over other l ls h = rw h refl
+
+-- the field goes
+value_without : (name other : List ℕ) (ls : List TextLine) (f : Found) → IsNamedIn name ls f → are_same name other ≡ false → field_value other (f.before ++ f.after) ≡ field_value other ls
+value_without name other ls f h k =
+    let start = (both (is_start f.start) (is_named name (field_text f.start [])) h.named).0 in
+    value_behind_others other f.before f.after (f.start ∷ h.rest) (ap continuations h.after ∙ none_left h.rest) (none_before f.start h.rest start)
+    (ap (field_value other) h.after ∙ (value_left other h.rest ∙ sym (passed_over other f.start h.rest (starts_other name other f.start h.named k))))
+    ∙ ap (field_value other) h.whole
+
+-- the field gets another name
+value_renamed : (name to other : List ℕ) (ls : List TextLine) (f : Found) → IsNamedIn name ls f → is_name to ≡ true → are_same name other ≡ false → are_same to other ≡ false
+    → field_value other (f.before ++ (renamed to f.start ∷ (f.more ++ f.after))) ≡ field_value other ls
+value_renamed name to other ls f h n k e =
+    let start = (both (is_start f.start) (is_named name (field_text f.start [])) h.named).0 in
+    let new = renamed to f.start in
+    let spelt : name_of new ≡ to = (names_lem to f.start n start).0 in
+    let passed : starts_named other new ≡ false = none_named (is_start new) (is_named other (field_text new [])) (ap (λ x. are_same x other) spelt ∙ e) in
+    ap (λ xs. field_value other (f.before ++ (new ∷ xs))) h.apart
+    ∙ (value_behind_others other f.before (new ∷ h.rest) (f.start ∷ h.rest) (none_before new h.rest (renamed_start to f.start n start)) (none_before f.start h.rest start)
+    (passed_over other new h.rest passed ∙ sym (passed_over other f.start h.rest (starts_other name other f.start h.named k)))
+    ∙ ap (field_value other) h.whole)
+
+-- the kind that fields say
+kind_same : (xs ys : List TextLine) (digest : Bool) → field_value (codes "Content-Type") xs ≡ field_value (codes "Content-Type") ys → field_value (codes "Content-Transfer-Encoding") xs ≡ field_value (codes "Content-Transfer-Encoding") ys → kind xs digest ≡ kind ys digest
+unfolding kind
+kind_same xs ys digest t e =
+    ap (λ v. kind_of (type_by digest v) (encoding_by (field_value (codes "Content-Transfer-Encoding") xs))) t
+    ∙ ap (λ v. kind_of (type_by digest (field_value (codes "Content-Type") ys)) (encoding_by v)) e
+
+not_true : (a : Bool) → not a ≡ true → a ≡ false
+not_true true h = cc
+not_true false h = refl
+
+not_false : (a : Bool) → not a ≡ false → a ≡ true
+not_false true h = refl
+not_false false h = cc
+
+silent : (name : List ℕ) → is_silent name ≡ true → (are_same name (codes "Content-Type") ≡ false) × (are_same name (codes "Content-Transfer-Encoding") ≡ false)
+silent name h =
+    let p = both (not (are_same name (codes "Content-Type"))) (not (are_same name (codes "Content-Transfer-Encoding"))) h in
+    (not_true (are_same name (codes "Content-Type")) p.0, not_true (are_same name (codes "Content-Transfer-Encoding")) p.1)
+
+-- what an edit puts says the same kind
+abbrev SaysKind : Bool → List TextLine → Result LinePut Refusal → Type 0
+SaysKind digest fields (Ok q) = kind (lines_put q) digest ≡ kind fields digest
+SaysKind digest fields (Err e) = Unit {0}
+
+removal_says : (name : List ℕ) (digest : Bool) (fields : List TextLine) (o : Option Found) → is_silent name ≡ true → NamedIn name fields o → SaysKind digest fields (removes o)
+removal_says name digest fields None s h = tt
+removal_says name digest fields (Some f) s h =
+    let other = silent name s in
+    kind_same (f.before ++ f.after) fields digest (value_without name (codes "Content-Type") fields f h other.0) (value_without name (codes "Content-Transfer-Encoding") fields f h other.1)
+
+renamed_says : (name to : List ℕ) (digest : Bool) (fields : List TextLine) (f : Found) → is_silent name ≡ true → is_silent to ≡ true → IsNamedIn name fields f → (bad : Bool) → not (is_name to) ≡ bad → SaysKind digest fields (put_unless bad BadName (name_put to f))
+renamed_says name to digest fields f s r h true e = tt
+renamed_says name to digest fields f s r h false e =
+    let old = silent name s in
+    let new = silent to r in
+    let good : is_name to ≡ true = not_false (is_name to) e in
+    kind_same (f.before ++ (renamed to f.start ∷ (f.more ++ f.after))) fields digest (value_renamed name to (codes "Content-Type") fields f h good old.0 new.0) (value_renamed name to (codes "Content-Transfer-Encoding") fields f h good old.1 new.1)
+
+renaming_says : (name to : List ℕ) (digest : Bool) (fields : List TextLine) (o : Option Found) → is_silent name ≡ true → is_silent to ≡ true → NamedIn name fields o → SaysKind digest fields (renames to o)
+renaming_says name to digest fields None s r h = tt
+renaming_says name to digest fields (Some f) s r h = renamed_says name to digest fields f s r h (not (is_name to)) refl
+
+says : (edit : FieldEdit) (digest : Bool) (fields : List TextLine) → IsSilent edit → SaysKind digest fields (puts edit fields)
+says (Add top text) digest fields s = absurd s
+says (Remove name k) digest fields s = removal_says name.now digest fields (field_at name.now k fields) s (found_named name.now k fields)
+says (Rename name k to) digest fields s = renaming_says name.now to.now digest fields (field_at name.now k fields) s.0 s.1 (found_named name.now k fields)
+says (Set name k text) digest fields s = absurd s
+
+pub kind_stays : (edit : FieldEdit) (digest : Bool) (fields : List TextLine) (q : LinePut) → IsSilent edit → puts edit fields ≡ Ok q → kind (lines_put q) digest ≡ kind fields digest
+kind_stays edit digest fields q s h = subst (SaysKind digest fields) h (says edit digest fields s)
