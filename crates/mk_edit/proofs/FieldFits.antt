@@ -90,7 +90,7 @@ early_middle xs ys zs h =
 abbrev pub IsClosed : (text path : List ℕ) (p : Placed) → IsSite text path p → LinePut → Type 0
 IsClosed text path p s q = is_open_early (document_lines (planned (tree text).envelope (put_plan s.around p.entity q))) ≡ false
 
-put_are : (text path : List ℕ) (edit : FieldEdit) (p : Placed) (s : IsSite text path p) (q : LinePut) → IsPutAt edit p q → IsClosed text path p s q → AreLines (lines_put q)
+pub put_are : (text path : List ℕ) (edit : FieldEdit) (p : Placed) (s : IsSite text path p) (q : LinePut) → IsPutAt edit p q → IsClosed text path p s q → AreLines (lines_put q)
 put_are text path edit p s q h c =
     let fields = lines_put q in
     let t = tree text in

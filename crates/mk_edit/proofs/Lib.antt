@@ -73,4 +73,5 @@ pub mod WrapAnswered
 pub mod WrapCounts
 pub mod LineCounts
 pub mod SilentFields
+pub mod PassedFields
 pub mod RootEdits

@@ -4,7 +4,7 @@ use Rattle.std.proofs.Common.{◌≡◌, ◌+◌, ◌-◌, ◌≤◌, ◌++◌, 
 use Rattle.std.proofs.Math.Seq.{take-append_seam, drop-append_seam}
 use Rattle.std.proofs.lemmas.List.{length-take-le}
 use Rattle.mk_line.specs.Lines.{TextLine, cut, text_of}
-use Rattle.mk_line.proofs.Cuts.{text_cut, text_append}
+use Rattle.mk_line.proofs.Cuts.{cut_text, text_cut, text_append}
 use Rattle.mk_head.specs.Splits.{IsRun}
 use Rattle.mk_tree.specs.Kinds.{Kind, Leaf, Message, Multi, kind, kind_at, is_digest}
 use Rattle.mk_tree.specs.Tree.{Entity, leaf, message, multi, entity_head, field_lines, with_fields}
@@ -23,6 +23,7 @@ use Rattle.mk_edit.specs.declared.field_edits.FieldEdit.{FieldEdit}
 use Rattle.mk_edit.specs.declared.field_edits.Put.{Put}
 use Rattle.mk_edit.specs.declared.errors.EditError.{EditError}
 use Rattle.mk_edit.specs.Answers.{refusal_of, IsRefusedBy}
+use Rattle.mk_edit.specs.Decided.{IsDecided}
 use Rattle.mk_edit.specs.Edits.{Refusal, OpenLine}
 use Rattle.mk_edit.specs.FieldPuts.{LinePut, PutsLines, IsPut, puts, plain_of}
 use Rattle.mk_edit.specs.KindsKept.{keeps_kinds}
@@ -31,16 +32,19 @@ use Rattle.mk_edit.specs.LocalAnswers.{PlainSplice, opens_at, fits_at, unless_re
 use Rattle.mk_edit.specs.Looks.{has_separator, ends_there}
 use Rattle.mk_edit.specs.Made.{IsMade}
 use Rattle.mk_edit.specs.Outcomes.{edited}
-use Rattle.mk_edit.specs.RootFields.{root_in, IsSilent, HasFields, Replaces}
+use Rattle.mk_edit.specs.declared.silent_edits.SilentEdit.{SilentEdit}
+use Rattle.mk_edit.specs.RootFields.{root_in, lines_in, HasFields, HasPassed, IsHeld, Replaces}
+use Rattle.mk_edit.specs.SilentEdits.{numbered, IsSilent}
 use Rattle.mk_edit.proofs.FieldAnswers.{put_document, put_law, put_splice, answered_ok, answered_err}
-use Rattle.mk_edit.proofs.FieldFits.{IsPutAt, IsClosed, KindsStay, kinds_stay, put_head, look_there, parts_fit, line_put, given_put, fits_told}
+use Rattle.mk_edit.proofs.FieldFits.{IsPutAt, IsClosed, KindsStay, kinds_stay, put_are, put_head, look_there, parts_fit, line_put, given_put, fits_told}
 use Rattle.mk_edit.proofs.FieldPutFacts.{puts_is, puts_fit}
 use Rattle.mk_edit.proofs.GroupsMade.{made_so}
 use Rattle.mk_edit.proofs.KindsTold.{kept_same}
 use Rattle.mk_edit.proofs.PutPlans.{lines_put}
 use Rattle.mk_edit.proofs.PutSites.{opens_told, hit_told, printed_told}
 use Rattle.mk_edit.proofs.SectionSites.{IsSite, site_lines, front_lines, rest_lines, head_cut, head_is_run, head_within}
-use Rattle.mk_edit.proofs.SilentFields.{kind_stays}
+use Rattle.mk_edit.proofs.SilentFields.{NamesSilent, names_silent, kind_stays}
+use Rattle.mk_edit.proofs.PassedFields.{put_goes_on}
 
 -- the root in its place
 some_is : (p q : Placed) → ◌≡◌ {A = Option Placed} (Some p) (Some q) → p ≡ q
@@ -71,7 +75,7 @@ kinds_same n d fields e h =
     let same : old ≡ kind_at n fields d = sym (kind_at_same n fields (field_lines e) d h) in
     (subst (IsAlike old) same (alike old), subst (λ k. AreKept (below n) (is_digest old) (is_digest k) (parts_of e)) same (kept_same (below n) (is_digest old) (parts_of e)))
 
-kinds_keep : (text : List ℕ) (edit : FieldEdit) (q : LinePut) → IsSilent edit → IsPutAt edit (root_in text) q → IsClosed text (1 ∷ []) (root_in text) (root_site text) q → keeps_kinds 1 (put_head (root_in text) q) (root_in text) ≡ true
+kinds_keep : (text : List ℕ) (edit : FieldEdit) (q : LinePut) → NamesSilent edit → IsPutAt edit (root_in text) q → IsClosed text (1 ∷ []) (root_in text) (root_site text) q → keeps_kinds 1 (put_head (root_in text) q) (root_in text) ≡ true
 kinds_keep text edit q i h c =
     let p = root_in text in
     let s = root_site text in
@@ -82,7 +86,7 @@ kinds_keep text edit q i h c =
 ends_separated : (none first : Bool) (o : Option TextLine) (body : List TextLine) → has_separator o ≡ true → ends_there none first o body ≡ true
 ends_separated none first o body h = rw h refl
 
-fits_root : (text : List ℕ) (edit : FieldEdit) (q : LinePut) → IsSilent edit → has_separator (entity_head (root_in text).entity).separator ≡ true → IsPutAt edit (root_in text) q → IsClosed text (1 ∷ []) (root_in text) (root_site text) q
+fits_root : (text : List ℕ) (edit : FieldEdit) (q : LinePut) → NamesSilent edit → has_separator (entity_head (root_in text).entity).separator ≡ true → IsPutAt edit (root_in text) q → IsClosed text (1 ∷ []) (root_in text) (root_site text) q
     → fits_at (tree text) [] (root_in text) (put_head (root_in text) q) ≡ true
 fits_root text edit q i e h c =
     let p = root_in text in
@@ -95,7 +99,7 @@ record RootPut (text : List ℕ) (edit : FieldEdit) (q : LinePut) : Type 0 where
   fits : fits_at (tree text) [] (root_in text) (put_head (root_in text) q) ≡ true
   stable : IsStable (put_document text (1 ∷ []) (root_in text) (root_site text) q)
 
-root_put : (text : List ℕ) (edit : FieldEdit) (q : LinePut) → IsSilent edit → has_separator (entity_head (root_in text).entity).separator ≡ true → IsPutAt edit (root_in text) q
+root_put : (text : List ℕ) (edit : FieldEdit) (q : LinePut) → NamesSilent edit → has_separator (entity_head (root_in text).entity).separator ≡ true → IsPutAt edit (root_in text) q
     → opens_at text ((root_in text).start + size q.before) (size q.old) (text_of q.given) ≡ false → RootPut text edit q
 root_put text edit q i e h o =
     let p = root_in text in
@@ -166,14 +170,31 @@ left_fields text edit q e h k =
     (ap (λ n. length (head_text p) - r.count + n) added ∙ (sizes (size q.before) (size q.old) (size q.given) (size q.after) (length q.kept) (length i.gone) (length i.new) (length (head_text p)) whole old given ∙ sym all))
     (ap has_separator (same_separator (lines_put q) p.entity) ∙ e)
 
-replaces_put : (text : List ℕ) (edit : FieldEdit) (q : LinePut) → IsSilent edit → has_separator (entity_head (root_in text).entity).separator ≡ true → IsPutAt edit (root_in text) q
-    → opens_at text ((root_in text).start + size q.before) (size q.old) (text_of q.given) ≡ false → Replaces edit text (root_in text).start (length (head_text (root_in text))) (put_splice (root_in text) q)
+-- what an edit makes of the root
+pub record IsReplaced (text : List ℕ) (edit : FieldEdit) (q : LinePut) (r : PlainSplice) : Type 0 where
+  pub decided : IsDecided (plain_of (1 ∷ []) edit) text r
+  pub inside : r.count ≤ length (head_text (root_in text))
+  pub left : HasFields (spliced r.place r.count r.new text) (root_in text).start (length (head_text (root_in text)) - r.count + length r.new)
+  pub lines : lines_in (spliced r.place r.count r.new text) ≡ lines_put q
+
+new_lines : (text : List ℕ) (edit : FieldEdit) (q : LinePut) → IsPutAt edit (root_in text) q → RootPut text edit q
+    → lines_in (spliced (put_splice (root_in text) q).place (put_splice (root_in text) q).count (put_splice (root_in text) q).new text) ≡ lines_put q
+new_lines text edit q h k =
+    let p = root_in text in
+    let s = root_site text in
+    let path : List ℕ = 1 ∷ [] in
+    let read = ap tree (printed_told text path p s q (line_put edit p q h)) ∙ k.stable in
+    ap (λ t. cut (head_text (root_of t))) read ∙ (ap (λ ls. cut (text_of ls)) (same_fields (lines_put q) p.entity) ∙ cut_text (lines_put q) (put_are text path edit p s q h k.closed))
+
+replaces_put : (text : List ℕ) (edit : FieldEdit) (q : LinePut) → NamesSilent edit → has_separator (entity_head (root_in text).entity).separator ≡ true → IsPutAt edit (root_in text) q
+    → opens_at text ((root_in text).start + size q.before) (size q.old) (text_of q.given) ≡ false → IsReplaced text edit q (put_splice (root_in text) q)
 replaces_put text edit q i e h o =
     let k = root_put text edit q i e h o in
     record {
       decided = answered_ok text (1 ∷ []) edit (put_splice (root_in text) q) (answer_root text edit q h o k.fits);
       inside = omega (arith, head_size text edit q h);
       left = left_fields text edit q e h k;
+      lines = new_lines text edit q h k;
     }
 
 -- the fields of the root in its text
@@ -226,7 +247,23 @@ opens_put text start r q t m b o =
     ∙ (ap (λ n. opens_at text (start + n) (size q.old) (text_of q.given)) (sym m.from)
     ∙ (ap (λ n. opens_at text (start + r.from) n (text_of q.given)) (sym m.count) ∙ (ap (opens_at text (start + r.from) r.count) (sym m.lines) ∙ o)))
 
-put_by : (text : List ℕ) (start size : ℕ) (edit : FieldEdit) (r : Put) (w : PlainSplice) (x : Result LinePut Refusal) → HasFields text start size → IsSilent edit → puts edit (cut (head_text (root_in text))) ≡ x → IsPut r x
+-- the search goes on behind the splice
+held_behind : (text : List ℕ) (edit : SilentEdit) (q : LinePut) (r : PlainSplice) (start size : ℕ) → puts (numbered edit edit.k) (lines_in text) ≡ Ok q → IsReplaced text (numbered edit edit.k) q r → start ≡ (root_in text).start → size ≡ length (head_text (root_in text))
+    → r.place ≡ start + length (text_of q.before) → Replaces edit text start size r
+held_behind text edit q r start size h d b t p =
+    let g = put_goes_on edit (lines_in text) q (root_run text) h in
+    record {
+      decided = d.decided;
+      inside = omega (arith, d.inside, t);
+      behind = omega (arith, p);
+      counted = g.some;
+      left = record {
+        fields = subst (λ n. HasFields (spliced r.place r.count r.new text) n (size - r.count + length r.new)) (sym b) (subst (λ n. HasFields (spliced r.place r.count r.new text) (root_in text).start (n - r.count + length r.new)) (sym t) d.left);
+        passed = record { before = q.before; behind = q.given ++ q.after; whole = sym d.lines; takes = omega (arith, p); holds = g.holds; run = g.run };
+      };
+    }
+
+put_by : (text : List ℕ) (start size : ℕ) (edit : SilentEdit) (r : Put) (w : PlainSplice) (x : Result LinePut Refusal) → HasFields text start size → IsSilent edit → puts (numbered edit edit.k) (lines_in text) ≡ x → IsPut r x
     → opens_at text (start + r.from) r.count r.lines.items ≡ false → w.place ≡ start + r.from → w.count ≡ r.count - r.kept → w.new ≡ take (length r.lines.items - r.kept) r.lines.items
     → Replaces edit text start size w
 put_by text start taken edit r w (Err e) f i h m o place count new = absurd m
@@ -236,12 +273,12 @@ put_by text start taken edit r w (Ok q) f i h m o place count new =
     (place ∙ (ap (λ n. n + r.from) f.begins ∙ ap (λ n. root.start + n) m.from))
     (count ∙ (ap (λ n. n - r.kept) m.count ∙ ap (λ n. size q.old - n) m.kept))
     (new ∙ (ap (λ xs. take (length xs - r.kept) xs) m.lines ∙ ap (λ n. take (size q.given - n) (text_of q.given)) m.kept)) in
-    subst (λ n. Replaces edit text n taken w) (sym f.begins)
-    (subst (λ n. Replaces edit text root.start n w) (sym f.takes) (subst (Replaces edit text root.start (length (head_text root))) same (replaces_put text edit q i f.separated h (opens_put text start r q false m f.begins o))))
+    let done = replaces_put text (numbered edit edit.k) q (names_silent edit edit.k i) f.separated h (opens_put text start r q false m f.begins o) in
+    held_behind text edit q w start taken h (subst (IsReplaced text (numbered edit edit.k) q) same done) f.begins f.takes (place ∙ ap (λ n. start + n) m.from)
 
-pub put_root : (text : List ℕ) (start size : ℕ) (edit : FieldEdit) (r : Put) (w : PlainSplice) → HasFields text start size → IsSilent edit → IsPut r (puts edit (cut (head_text (root_in text)))) → opens_at text (start + r.from) r.count r.lines.items ≡ false
+pub put_root : (text : List ℕ) (start size : ℕ) (edit : SilentEdit) (r : Put) (w : PlainSplice) → HasFields text start size → IsSilent edit → IsPut r (puts (numbered edit edit.k) (lines_in text)) → opens_at text (start + r.from) r.count r.lines.items ≡ false
     → w.place ≡ start + r.from → w.count ≡ r.count - r.kept → w.new ≡ take (length r.lines.items - r.kept) r.lines.items → Replaces edit text start size w
-put_root text start size edit r w f i m o place count new = put_by text start size edit r w (puts edit (cut (head_text (root_in text)))) f i refl m o place count new
+put_root text start size edit r w f i m o place count new = put_by text start size edit r w (puts (numbered edit edit.k) (lines_in text)) f i refl m o place count new
 
 -- the reasons against it
 refused_puts : (text : List ℕ) (o : Option Refusal) (x : Result LinePut Refusal) → IsRefusedBy o x → IsRefusedBy o (answer_puts text [] (root_in text) x)
@@ -263,6 +300,22 @@ pub opens_root : (text : List ℕ) (start size : ℕ) (edit : FieldEdit) (r : Pu
 opens_root text start size edit r f m o = answered_err text (1 ∷ []) edit (Some OpenLine) (opens_by text start r (puts edit (cut (head_text (root_in text)))) m f.begins o)
 
 -- an edit that was made
-pub made_root : (edit : FieldEdit) (text x y old : List ℕ) (start size : ℕ) (r : PlainSplice) → Replaces edit text start size r → text ≡ x → old ≡ take r.count (drop r.place text) → y ≡ spliced r.place r.count r.new text
-    → IsMade (plain_of (1 ∷ []) edit) x (record { place = r.place; old = old; new = r.new }) y
-made_root edit text x y old start size r h e o t = subst (λ z. IsMade (plain_of (1 ∷ []) edit) z (record { place = r.place; old = old; new = r.new }) y) e (made_so (plain_of (1 ∷ []) edit) text y r old h.decided o t)
+pub made_root : (edit : SilentEdit) (text x y old : List ℕ) (start size : ℕ) (r : PlainSplice) → Replaces edit text start size r → text ≡ x → old ≡ take r.count (drop r.place text) → y ≡ spliced r.place r.count r.new text
+    → IsMade (plain_of (1 ∷ []) (numbered edit edit.k)) x (record { place = r.place; old = old; new = r.new }) y
+made_root edit text x y old start size r h e o t =
+    let plain = plain_of (1 ∷ []) (numbered edit edit.k) in
+    subst (λ z. IsMade plain z (record { place = r.place; old = old; new = r.new }) y) e (made_so plain text y r old h.decided o t)
+
+-- the fields of a document's root
+pub held_first : (doc text : List ℕ) (p : Placed) (start : ℕ) (head name : List ℕ) (bytes fields : ℕ) → text ≡ doc → p ≡ root_in doc → start ≡ p.start → head ≡ head_text p → has_separator (entity_head p.entity).separator ≡ true → HasPassed (lines_in doc) name bytes fields
+    → IsHeld text start (length head) name bytes fields
+held_first doc text p start head name bytes fields t r b h s k =
+    subst (λ x. IsHeld x start (length head) name bytes fields) (sym t)
+    (record {
+      fields = record {
+        begins = b ∙ ap (λ (x : Placed). x.start) r;
+        takes = ap length (h ∙ ap head_text r);
+        separated = ap (λ (x : Placed). has_separator (entity_head x.entity).separator) (sym r) ∙ s;
+      };
+      passed = k;
+    })

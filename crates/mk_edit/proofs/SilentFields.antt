@@ -1,5 +1,5 @@
 -- Where a field goes that says nothing of the body, or gets another such name, the kind that the fields say stays.
-use Rattle.std.proofs.Common.{◌≡◌, ◌&&◌, ◌++◌, if◌then◌else◌, ℕ, zero, suc, Bool, true, false, not, Option, None, Some, Result, Ok, Err, List, [], ◌∷◌, refl, ap, sym, ◌∙◌, subst, codes, inl, inr}
+use Rattle.std.proofs.Common.{◌≡◌, ◌&&◌, ◌++◌, if◌then◌else◌, ℕ, zero, suc, Bool, true, false, not, Option, None, Some, Result, Ok, Err, List, [], ◌∷◌, refl, ap, sym, ◌∙◌, subst, codes, Bor, IfSome, inl, inr}
 use Rattle.std.proofs.lemmas.Bool.{cases_Bool}
 use Rattle.std.proofs.lemmas.Slice.Eq.{bytes_eq-Decides}
 use Rattle.std.specs.Str.{bytes_eq, str_to_ascii_lowercase}
@@ -15,7 +15,8 @@ use Rattle.mk_edit.specs.declared.field_edits.FieldEdit.TheVariants.{Add, Remove
 use Rattle.mk_edit.specs.Edits.{Refusal, BadName}
 use Rattle.mk_edit.specs.FieldEdits.{starts_named, behind_continuations, Found, found_behind, find, field_at, renamed, is_name}
 use Rattle.mk_edit.specs.FieldPuts.{LinePut, name_put, put_unless, puts, removes, renames}
-use Rattle.mk_edit.specs.RootFields.{are_same, is_silent, IsSilent}
+use Rattle.mk_edit.specs.declared.silent_edits.SilentEdit.{SilentEdit}
+use Rattle.mk_edit.specs.SilentEdits.{are_same, is_silent, by_option, numbered, IsSilent}
 use Rattle.mk_edit.proofs.Counting.{names_lem}
 use Rattle.mk_edit.proofs.PutPlans.{lines_put}
 use Rattle.mk_edit.proofs.Renaming.{both, renamed_start}
@@ -130,7 +131,7 @@ not_true : (a : Bool) → not a ≡ true → a ≡ false
 not_true true h = cc
 not_true false h = refl
 
-not_false : (a : Bool) → not a ≡ false → a ≡ true
+pub not_false : (a : Bool) → not a ≡ false → a ≡ true
 not_false true h = refl
 not_false false h = cc
 
@@ -162,11 +163,25 @@ renaming_says : (name to : List ℕ) (digest : Bool) (fields : List TextLine) (o
 renaming_says name to digest fields None s r h = tt
 renaming_says name to digest fields (Some f) s r h = renamed_says name to digest fields f s r h (not (is_name to)) refl
 
-says : (edit : FieldEdit) (digest : Bool) (fields : List TextLine) → IsSilent edit → SaysKind digest fields (puts edit fields)
+-- a removal or a renaming, of and to names that say nothing of the body
+abbrev pub NamesSilent : FieldEdit → Type 0
+NamesSilent (Add top text) = ⊥
+NamesSilent (Remove name k) = is_silent name.now ≡ true
+NamesSilent (Rename name k to) = (is_silent name.now ≡ true) × (is_silent to.now ≡ true)
+NamesSilent (Set name k text) = ⊥
+
+names_by : (name : Bor (List ℕ)) (k : ℕ) (o : Option (Bor (List ℕ))) → is_silent name.now ≡ true → IfSome o (λ to. is_silent to.now ≡ true) → NamesSilent (by_option o (Remove name k) (λ to. Rename name k to))
+names_by name k None s t = s
+names_by name k (Some to) s t = (s, t)
+
+pub names_silent : (edit : SilentEdit) (k : ℕ) → IsSilent edit → NamesSilent (numbered edit k)
+names_silent edit k s = names_by edit.name k edit.to s.0 s.1
+
+says : (edit : FieldEdit) (digest : Bool) (fields : List TextLine) → NamesSilent edit → SaysKind digest fields (puts edit fields)
 says (Add top text) digest fields s = absurd s
 says (Remove name k) digest fields s = removal_says name.now digest fields (field_at name.now k fields) s (found_named name.now k fields)
 says (Rename name k to) digest fields s = renaming_says name.now to.now digest fields (field_at name.now k fields) s.0 s.1 (found_named name.now k fields)
 says (Set name k text) digest fields s = absurd s
 
-pub kind_stays : (edit : FieldEdit) (digest : Bool) (fields : List TextLine) (q : LinePut) → IsSilent edit → puts edit fields ≡ Ok q → kind (lines_put q) digest ≡ kind fields digest
+pub kind_stays : (edit : FieldEdit) (digest : Bool) (fields : List TextLine) (q : LinePut) → NamesSilent edit → puts edit fields ≡ Ok q → kind (lines_put q) digest ≡ kind fields digest
 kind_stays edit digest fields q s h = subst (SaysKind digest fields) h (says edit digest fields s)

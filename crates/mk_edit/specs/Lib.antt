@@ -27,5 +27,6 @@ pub mod Decided
 pub mod Made
 pub mod Counts
 pub mod Laws
+pub mod SilentEdits
 pub mod RootFields
 pub mod Drafts

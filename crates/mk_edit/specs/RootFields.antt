@@ -1,41 +1,27 @@
--- The fields of the root in a text, and edits of them that say nothing of its body.
-use Rattle.std.specs.Prelude.{◌≡◌, ◌≤◌, ◌+◌, ◌-◌, ◌==◌, ◌&&◌, ℕ, Bool, true, false, not, List, [], ◌∷◌, length, codes}
-use Rattle.std.specs.Str.{bytes_eq, str_to_ascii_lowercase}
-use Rattle.mk_line.specs.Lines.{is_nil}
+-- The fields of the root in a text, and what an edit replaces that says nothing of its body.
+use Rattle.std.specs.Prelude.{◌≡◌, ◌≤◌, ◌<◌, ◌+◌, ◌-◌, ◌++◌, ℕ, true, false, List, [], ◌∷◌, filter, length}
+use Rattle.mk_line.specs.Lines.{TextLine, cut}
+use Rattle.mk_head.specs.Splits.{IsRun}
 use Rattle.mk_tree.specs.Tree.{entity_head}
 use Rattle.mk_tree.specs.Documents.{tree}
 use Rattle.mk_tree.specs.Sections.{Placed, head_text, root_of}
+use Rattle.mk_tree.specs.Spans.{size}
 use Rattle.mk_tree.specs.Splicing.{spliced}
-use Rattle.mk_edit.specs.declared.field_edits.FieldEdit.{FieldEdit}
-use Rattle.mk_edit.specs.declared.field_edits.FieldEdit.TheVariants.{Add, Remove, Rename, Set}
+use Rattle.mk_edit.specs.declared.silent_edits.SilentEdit.{SilentEdit}
 use Rattle.mk_edit.specs.Decided.{IsDecided}
+use Rattle.mk_edit.specs.FieldEdits.{starts_named}
 use Rattle.mk_edit.specs.FieldPuts.{plain_of}
 use Rattle.mk_edit.specs.LocalAnswers.{PlainSplice}
 use Rattle.mk_edit.specs.Looks.{has_separator}
-
--- names are the same without regard to ASCII case
-abbrev pub are_same : List ℕ → List ℕ → Bool
-are_same a b = bytes_eq (str_to_ascii_lowercase a) (str_to_ascii_lowercase b)
-
--- a field of this name says nothing of the body
-abbrev pub is_silent : List ℕ → Bool
-is_silent name = not (are_same name (codes "Content-Type")) && not (are_same name (codes "Content-Transfer-Encoding"))
-
--- the path of the root
-abbrev pub leads_to_root : List ℕ → Bool
-leads_to_root [] = false
-leads_to_root (k ∷ ks) = k == 1 && is_nil ks
-
--- a removal or a renaming, of and to names that say nothing of the body
-abbrev pub IsSilent : FieldEdit → Type 0
-IsSilent (Add top text) = ⊥
-IsSilent (Remove name k) = is_silent name.now ≡ true
-IsSilent (Rename name k to) = (is_silent name.now ≡ true) × (is_silent to.now ≡ true)
-IsSilent (Set name k text) = ⊥
+use Rattle.mk_edit.specs.SilentEdits.{numbered}
 
 -- the root of a text
 abbrev pub root_in : List ℕ → Placed
 root_in text = root_of (tree text)
+
+-- the lines of its fields
+abbrev pub lines_in : List ℕ → List TextLine
+lines_in text = cut (head_text (root_in text))
 
 -- the root's fields take so many bytes at a place, and a separator stands behind them
 pub record HasFields (text : List ℕ) (start size : ℕ) : Type 0 where
@@ -43,8 +29,31 @@ pub record HasFields (text : List ℕ) (start size : ℕ) : Type 0 where
   pub takes : size ≡ length (head_text (root_in text))
   pub separated : has_separator (entity_head (root_in text).entity).separator ≡ true
 
--- an edit of the root is accepted, these bytes are its splice, and the root's fields stand at the same place behind it
-pub record Replaces (edit : FieldEdit) (text : List ℕ) (start size : ℕ) (r : PlainSplice) : Type 0 where
-  pub decided : IsDecided (plain_of (1 ∷ []) edit) text r
+-- fields in front take so many bytes, and so many of them have a name
+pub record HasPassed (ls : List TextLine) (name : List ℕ) (bytes fields : ℕ) : Type 0 where
+  pub before : List TextLine
+  pub behind : List TextLine
+  pub whole : before ++ behind ≡ ls
+  pub takes : size before ≡ bytes
+  pub holds : length (filter (starts_named name) before) ≡ fields
+  pub run : IsRun false behind
+
+-- the field of an edit is the k-th of its name behind fields that were passed over
+pub record IsBehind (name : List ℕ) (fields : ℕ) (edit : SilentEdit) (k : ℕ) : Type 0 where
+  pub named : name ≡ edit.name.now
+  pub number : edit.k ≡ fields + k
+  pub some : 0 < k
+
+-- the root's fields stand in a text, and some of them were passed over
+pub record IsHeld (text : List ℕ) (start size : ℕ) (name : List ℕ) (bytes named : ℕ) : Type 0 where
+  pub fields : HasFields text start size
+  pub passed : HasPassed (lines_in text) name bytes named
+
+-- an edit of the root is accepted, these bytes are its splice, and the root's fields stand at the same place behind it, where
+-- those before the splice were passed over
+pub record Replaces (edit : SilentEdit) (text : List ℕ) (start size : ℕ) (r : PlainSplice) : Type 0 where
+  pub decided : IsDecided (plain_of (1 ∷ []) (numbered edit edit.k)) text r
   pub inside : r.count ≤ size
-  pub left : HasFields (spliced r.place r.count r.new text) start (size - r.count + length r.new)
+  pub behind : start ≤ r.place
+  pub counted : 1 ≤ edit.k
+  pub left : IsHeld (spliced r.place r.count r.new text) start (size - r.count + length r.new) edit.name.now (r.place - start) (edit.k - 1)

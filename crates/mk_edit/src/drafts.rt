@@ -9,7 +9,8 @@ ghost use Rattle.mk_edit.specs.Views.{edit_of, splice_of};
 
 use crate::edits::Edit;
 use crate::errors::EditError;
-use crate::root_fields::{RootFields, silent_edit};
+use crate::root_fields::RootFields;
+use crate::silent_edits::silent_edit;
 use crate::splicing::Splice;
 use crate::stepping::make;
 use mk_line::Meter;
@@ -38,13 +39,13 @@ impl Draft {
     ghost use Rattle.mk_edit.specs.Views.{edit_of, splice_of};
 
     /// The same, without its tree where many edits come next that don't ask for it.
-    pub(crate) fn ready(self, next: &[Edit]) -> Draft
+    pub(crate) fn ready(self, alloc: Global, next: &[Edit]) -> Draft
         ensures { text_in result ≡ text_in self }
     {
         match self {
             Draft::Read(doc) => {
                 if starts_long_run(next) {
-                    from_fields(doc)
+                    from_fields(alloc, doc)
                 } else {
                     Draft::Read(doc)
                 }
@@ -88,10 +89,10 @@ impl Draft {
 }
 
 // A document without its tree, where its root allows it.
-fn from_fields(doc: Doc) -> Draft
+fn from_fields(alloc: Global, doc: Doc) -> Draft
     ensures { text_in result ≡ doc }
 {
-    match RootFields::of(doc) {
+    match RootFields::of(alloc, doc) {
         Ok(fields) => Draft::Fields(fields),
         Err(doc) => Draft::Read(doc),
     }

@@ -31,7 +31,7 @@ pub(crate) fn together(
     let mut draft = Draft::Read(read_anew(alloc, doc)?);
     let mut splices = Vec::with_capacity(alloc, list.len())?;
     for edit in list {
-        let next = draft.ready(&list[splices.len()..]);
+        let next = draft.ready(alloc, &list[splices.len()..]);
         match next.make(alloc, edit, meter) {
             Ok((made, splice)) => {
                 draft = made;

@@ -7,22 +7,20 @@ ghost use Rattle.mk_edit.specs.Answers.{refusal_of, IsRefusedBy};
 ghost use Rattle.mk_edit.specs.FieldPuts.{plain_of, puts, IsPut};
 ghost use Rattle.mk_edit.specs.LocalAnswers.{plain_splice};
 ghost use Rattle.mk_edit.specs.Outcomes.{edited};
-ghost use Rattle.mk_edit.specs.RootFields.{is_silent as says_nothing, leads_to_root, root_in, HasFields, IsSilent, Replaces};
-ghost use Rattle.mk_edit.specs.Views.{edit_of};
+ghost use Rattle.mk_edit.specs.RootFields.{lines_in, root_in, HasFields, HasPassed, Replaces};
+ghost use Rattle.mk_edit.specs.SilentEdits.{numbered, IsSilent};
 
-use crate::edits::Edit;
 use crate::errors::EditError;
 use crate::field_answers::{opens_early, splice_of};
-use crate::field_edits::{FieldEdit, Put, put_of};
+use crate::field_edits::Put;
 use crate::looking::has_separator;
+use crate::passing::{Passed, put_behind};
+use crate::silent_edits::SilentEdit;
 use crate::splicing::{Replacement, Splice, copied};
 use crate::stepping::read;
 use mk_tree::{Doc, replace};
 use std::alloc::{AllocError, Global};
 use std::marker::Model;
-
-/// The number of the root, the path to which it is.
-const ROOT: u32 = 1;
 
 /// A text whose root has a separator behind its fields.
 #[derive(Drop)]
@@ -32,6 +30,8 @@ pub(crate) struct RootFields {
     start: usize,
     /// How many bytes they take.
     size: usize,
+    /// Those that were passed over in the last search.
+    passed: Passed,
 }
 
 impl Model for RootFields {
@@ -39,11 +39,11 @@ impl Model for RootFields {
 
     ghost Value = { List ℕ };
 
-    ghost use Rattle.mk_edit.specs.RootFields.{HasFields};
+    ghost use Rattle.mk_edit.specs.RootFields.{IsHeld};
 
     ghost view = { λ f. f.text.items };
 
-    ghost invariant = { λ f. HasFields f.text.items f.start f.size };
+    ghost invariant = { λ f. IsHeld f.text.items f.start f.size f.passed.name.items f.passed.bytes f.passed.fields };
 }
 
 impl RootFields {
@@ -54,11 +54,12 @@ impl RootFields {
     ghost use Rattle.mk_edit.specs.LocalAnswers.{plain_splice};
     ghost use Rattle.mk_edit.specs.Made.{IsMade};
     ghost use Rattle.mk_edit.specs.Outcomes.{edited};
-    ghost use Rattle.mk_edit.specs.RootFields.{IsSilent, Replaces};
+    ghost use Rattle.mk_edit.specs.RootFields.{Replaces};
+    ghost use Rattle.mk_edit.specs.SilentEdits.{numbered, IsSilent};
     ghost use Rattle.mk_edit.specs.Views.{splice_of as plain_step};
 
     /// The text of a document. The document comes back where its root has no separator.
-    pub(crate) fn of(doc: Doc) -> Result<RootFields, Doc>
+    pub(crate) fn of(alloc: Global, doc: Doc) -> Result<RootFields, Doc>
         ensures ok { IfOk result (λ f. f ≡ doc) }
         ensures err { IfErr result (λ d. d ≡ doc) }
     {
@@ -72,21 +73,33 @@ impl RootFields {
             text: doc.into_text(),
             start,
             size,
+            passed: Passed::none(alloc),
         })
     }
 
     /// Makes an edit where nothing is against it, and answers its splice.
-    pub(crate) fn make(&mut self, alloc: Global, edit: &FieldEdit<'_>) -> Result<Splice, EditError>
+    pub(crate) fn make(&mut self, alloc: Global, edit: &SilentEdit<'_>) -> Result<Splice, EditError>
         requires { IsSilent edit.now }
-        ensures ok { IfOk result (λ s. IsMade (plain_of (1 ∷ []) edit.now) self.old (plain_step s) self.new) }
-        ensures err { IfErr result (λ e. IsRefusedBy (refusal_of e) (edited (plain_of (1 ∷ []) edit.now) (tree self.old))) }
+        ensures ok { IfOk result (λ s. IsMade (plain_of (1 ∷ []) (numbered edit.now edit.now.k)) self.old (plain_step s) self.new) }
+        ensures err { IfErr result (λ e. IsRefusedBy (refusal_of e) (edited (plain_of (1 ∷ []) (numbered edit.now edit.now.k)) (tree self.old))) }
     {
         let Replacement { place, count, new } = decide(
-            alloc, &self.text, self.start, self.size, edit,
+            alloc,
+            &self.text,
+            self.start,
+            self.size,
+            &self.passed,
+            edit,
         )?;
         let old = copied(alloc, &self.text, place, count)?;
+        let name = Vec::from_slice(alloc, edit.name)?;
         replace(&mut self.text, place, count, &new)?;
         self.size = self.size - count + new.len();
+        self.passed = Passed {
+            bytes: place - self.start,
+            name,
+            fields: edit.k - 1,
+        };
         Ok(Splice { place, old, new })
     }
 
@@ -104,14 +117,16 @@ fn decide(
     text: &[u8],
     start: usize,
     size: usize,
-    edit: &FieldEdit<'_>,
+    passed: &Passed,
+    edit: &SilentEdit<'_>,
 ) -> Result<Replacement, EditError>
     requires fields { HasFields text.now start size }
+    requires passed { HasPassed (lines_in text.now) passed.now.name.items passed.now.bytes passed.now.fields }
     requires silent { IsSilent edit.now }
     ensures ok { IfOk result (λ r. Replaces edit.now text.now start size (plain_splice r)) }
-    ensures err { IfErr result (λ e. IsRefusedBy (refusal_of e) (edited (plain_of (1 ∷ []) edit.now) (tree text.now))) }
+    ensures err { IfErr result (λ e. IsRefusedBy (refusal_of e) (edited (plain_of (1 ∷ []) (numbered edit.now edit.now.k)) (tree text.now))) }
 {
-    let put = put_in(alloc, text, start, size, edit)?;
+    let put = put_in(alloc, text, start, size, passed, edit)?;
     let place = start + put.from;
     if opens_early(text, place, put.count, &put.lines) {
         return Err(EditError::OpenLine);
@@ -125,13 +140,15 @@ fn put_in(
     text: &[u8],
     start: usize,
     size: usize,
-    edit: &FieldEdit<'_>,
+    passed: &Passed,
+    edit: &SilentEdit<'_>,
 ) -> Result<Put, EditError>
-    requires { HasFields text.now start size }
-    ensures ok { IfOk result (λ r. IsPut r (puts edit.now (lines_of (head_text (root_in text.now))))) }
-    ensures err { IfErr result (λ e. IsRefusedBy (refusal_of e) (edited (plain_of (1 ∷ []) edit.now) (tree text.now))) }
+    requires fields { HasFields text.now start size }
+    requires passed { HasPassed (lines_in text.now) passed.now.name.items passed.now.bytes passed.now.fields }
+    ensures ok { IfOk result (λ r. IsPut r (puts (numbered edit.now edit.now.k) (lines_in text.now))) }
+    ensures err { IfErr result (λ e. IsRefusedBy (refusal_of e) (edited (plain_of (1 ∷ []) (numbered edit.now edit.now.k)) (tree text.now))) }
 {
-    put_of(alloc, fields_at(text, start, size), edit)
+    put_behind(alloc, fields_at(text, start, size), passed, edit)
 }
 
 // The root's fields, which take `size` bytes at `start`.
@@ -142,45 +159,4 @@ fn fields_at(text: &[u8], start: usize, size: usize) -> &[u8]
     let (_, behind) = text.split_at(start);
     let (fields, _) = behind.split_at(size);
     fields
-}
-
-/// An edit of the root's fields that takes out or renames one that says nothing of the body.
-pub(crate) fn silent_edit(edit: &Edit) -> Option<FieldEdit<'_>>
-    ensures silent { IfSome result IsSilent }
-    ensures same { IfSome result (λ e. plain_of (1 ∷ []) e ≡ edit_of edit.now) }
-{
-    match edit {
-        Edit::RemoveField { path, name, k } => {
-            if is_root(path) && is_silent(name) {
-                Some(FieldEdit::Remove { name, k: *k })
-            } else {
-                None
-            }
-        }
-        Edit::RenameField { path, name, k, to } => {
-            if is_root(path) && is_silent(name) && is_silent(to) {
-                Some(FieldEdit::Rename { name, k: *k, to })
-            } else {
-                None
-            }
-        }
-        _ => None,
-    }
-}
-
-fn is_root(path: &[u32]) -> bool
-    ensures { result ≡ leads_to_root path.now }
-{
-    match path.split_first() {
-        Some((number, below)) => *number == ROOT && below.is_empty(),
-        None => false,
-    }
-}
-
-// Whether a field of this name says nothing of the body.
-fn is_silent(name: &[u8]) -> bool
-    ensures { result ≡ says_nothing name.now }
-{
-    !name.eq_ignore_ascii_case(b"Content-Type")
-        && !name.eq_ignore_ascii_case(b"Content-Transfer-Encoding")
 }

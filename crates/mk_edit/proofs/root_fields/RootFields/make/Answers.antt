@@ -10,7 +10,7 @@ overflow_sub-self c = c.in_ok-place.ensures.ok.inside
 pub overflow_add-self : goal.overflow_add-self
 overflow_add-self c =
     let r = plain_splice c.in_ok-place.field-0 in
-    let within = root_within (spliced r.place r.count r.new c.deref.result.now) c.self.inside.start (c.self.inside.size - r.count + length r.new) c.in_ok-place.ensures.ok.left in
+    let within = root_within (spliced r.place r.count r.new c.deref.result.now) c.self.inside.start (c.self.inside.size - r.count + length r.new) c.in_ok-place.ensures.ok.left.fields in
     let long = ap length (c.in_ok-replace.ensures.ok ∙ (ap (λ b. spliced r.place r.count b c.self.inside.text.items) c.deref-3.ensures.value ∙ ap (spliced r.place r.count r.new) (sym c.deref.ensures.value))) in
     omega (arith, within, long, c.len.ensures)
 

@@ -1,0 +1,33 @@
+-- Edits of the root's fields that say nothing of its body.
+use Rattle.std.specs.Prelude.{◌≡◌, ◌==◌, ◌&&◌, ℕ, Bool, true, false, not, Option, None, Some, List, [], ◌∷◌, codes, IfSome}
+use Rattle.std.specs.Str.{bytes_eq, str_to_ascii_lowercase}
+use Rattle.mk_line.specs.Lines.{is_nil}
+use Rattle.mk_edit.specs.declared.field_edits.FieldEdit.{FieldEdit}
+use Rattle.mk_edit.specs.declared.field_edits.FieldEdit.TheVariants.{Remove, Rename}
+use Rattle.mk_edit.specs.declared.silent_edits.SilentEdit.{SilentEdit}
+
+-- names are the same without regard to ASCII case
+abbrev pub are_same : List ℕ → List ℕ → Bool
+are_same a b = bytes_eq (str_to_ascii_lowercase a) (str_to_ascii_lowercase b)
+
+-- a field of this name says nothing of the body
+abbrev pub is_silent : List ℕ → Bool
+is_silent name = not (are_same name (codes "Content-Type")) && not (are_same name (codes "Content-Transfer-Encoding"))
+
+-- the path of the root
+abbrev pub leads_to_root : List ℕ → Bool
+leads_to_root [] = false
+leads_to_root (k ∷ ks) = k == 1 && is_nil ks
+
+-- none of the names says anything of it
+abbrev pub IsSilent : SilentEdit → Type 0
+IsSilent e = (is_silent e.name.now ≡ true) × IfSome e.to (λ to. is_silent to.now ≡ true)
+
+-- what is made of a value, or another where there is none
+abbrev pub by_option : {X Y : Type 0} → Option X → Y → (X → Y) → Y
+by_option None y f = y
+by_option (Some x) y f = f x
+
+-- the removal or the renaming of the field of a number
+abbrev pub numbered : SilentEdit → ℕ → FieldEdit
+numbered e k = by_option e.to (Remove e.name k) (λ to. Rename e.name k to)

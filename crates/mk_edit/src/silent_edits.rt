@@ -1,0 +1,80 @@
+//! Edits of the root's fields that say nothing of its body.
+ghost use Rattle.std.specs.Prelude.{◌≡◌, ◌∷◌, [], IfSome};
+ghost use Rattle.mk_edit.specs.FieldPuts.{plain_of};
+ghost use Rattle.mk_edit.specs.SilentEdits.{is_silent as says_nothing, leads_to_root, numbered, IsSilent};
+ghost use Rattle.mk_edit.specs.Views.{edit_of};
+
+use crate::edits::Edit;
+use crate::field_edits::FieldEdit;
+
+/// The number of the root, the path to which it is.
+const ROOT: u32 = 1;
+
+/// A removal or a renaming of a field of the root, of and to names that say nothing of its body.
+#[derive(Clone, Copy, Debug)]
+pub(crate) struct SilentEdit<'a> {
+    pub name: &'a [u8],
+    /// The field's number among those of the name, counted from 1.
+    pub k: u32,
+    /// Its new name. Without one it is taken out.
+    pub to: Option<&'a [u8]>,
+}
+
+impl<'a> SilentEdit<'a> {
+    ghost use Rattle.std.specs.Prelude.{◌≡◌};
+    ghost use Rattle.mk_edit.specs.SilentEdits.{numbered};
+
+    /// The same edit of the field of another number.
+    pub(crate) fn of_number(&self, k: u32) -> FieldEdit<'a>
+        ensures { result ≡ numbered self.now k }
+    {
+        let name = self.name;
+        match self.to {
+            Some(to) => FieldEdit::Rename { name, k, to },
+            None => FieldEdit::Remove { name, k },
+        }
+    }
+}
+
+/// An edit as one of the root's fields that says nothing of its body, where it is one.
+pub(crate) fn silent_edit(edit: &Edit) -> Option<SilentEdit<'_>>
+    ensures silent { IfSome result IsSilent }
+    ensures same { IfSome result (λ e. plain_of (1 ∷ []) (numbered e e.k) ≡ edit_of edit.now) }
+{
+    match edit {
+        Edit::RemoveField { path, name, k } => {
+            if is_root(path) && is_silent(name) {
+                let to = None;
+                Some(SilentEdit { name, k: *k, to })
+            } else {
+                None
+            }
+        }
+        Edit::RenameField { path, name, k, to } => {
+            if is_root(path) && is_silent(name) && is_silent(to) {
+                let to = Some(to.as_slice());
+                Some(SilentEdit { name, k: *k, to })
+            } else {
+                None
+            }
+        }
+        _ => None,
+    }
+}
+
+fn is_root(path: &[u32]) -> bool
+    ensures { result ≡ leads_to_root path.now }
+{
+    match path.split_first() {
+        Some((number, below)) => *number == ROOT && below.is_empty(),
+        None => false,
+    }
+}
+
+// Whether a field of this name says nothing of the body.
+fn is_silent(name: &[u8]) -> bool
+    ensures { result ≡ says_nothing name.now }
+{
+    !name.eq_ignore_ascii_case(b"Content-Type")
+        && !name.eq_ignore_ascii_case(b"Content-Transfer-Encoding")
+}
