@@ -8,6 +8,7 @@ mod groups;
 mod histories;
 mod kinds;
 mod levels;
+mod long_groups;
 mod looks;
 mod memory;
 mod meter;

@@ -59,7 +59,7 @@ pub fn replace(
     if count < text.len() {
         items.extend_from_slice(&text[count..])?;
         items.copy_within(place + count..size, place + text.len());
-    } else {
+    } else if text.len() < count {
         items.copy_within(place + count..size, place + text.len());
         items.truncate(size - (count - text.len()));
     }
