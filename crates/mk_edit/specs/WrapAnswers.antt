@@ -134,6 +134,7 @@ wrap_in text numbers subtype boundary p =
     (wrap_fits (tree text) (eol_of (cut text)) numbers subtype p)
     (record { place = p.start; count = length (raw_of p); new = wrap_bytes (eol_of (cut text)) (is_nil numbers) p subtype boundary })
 
+-- the answer for a section that is there: the boundary is looked at first, then the subtype
 abbrev pub wrap_answer : (text numbers subtype boundary : List ℕ) → Placed → Result PlainSplice Refusal
 wrap_answer text numbers subtype boundary p =
     if not (is_boundary boundary) then Err BadBoundary

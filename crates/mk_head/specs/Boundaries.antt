@@ -10,6 +10,7 @@ is_boundary_byte byte =
     (nat_le 48 byte && nat_le byte 57) || (nat_le 65 byte && nat_le byte 90) || (nat_le 97 byte && nat_le byte 122)
     || list_any (λ special. special == byte) (codes "'()+_,-./:=? ")
 
+-- the last byte is a space
 abbrev pub ends_in_space : List ℕ → Bool
 ends_in_space [] = false
 ends_in_space (byte ∷ []) = byte == space

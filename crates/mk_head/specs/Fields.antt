@@ -55,9 +55,11 @@ pub record HeaderView : Type 0 where
   pub separator : Option ℕ
   pub body : ℕ
 
+-- where the separator begins, in bytes: behind the fields
 abbrev pub place_behind : List TextLine → Option TextLine → Option ℕ
 place_behind fields None = None
 place_behind fields (Some l) = Some (length (text_of fields))
 
+-- a head as its fields and places
 abbrev pub header_view : Head → HeaderView
 header_view h = record { fields = fields_of h.fields; separator = place_behind h.fields h.separator; body = length (text_of (head_lines h)) }

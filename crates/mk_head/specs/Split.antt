@@ -3,12 +3,15 @@ use Rattle.std.specs.Prelude.{◌&&◌, ◌||◌, ◌++◌, if◌then◌else◌,
 use Rattle.mk_line.specs.Lines.{TextLine, is_nil}
 use Rattle.mk_line.specs.Kinds.{is_field_start, is_continuation}
 
+-- a line that a field begins with
 abbrev pub is_start : TextLine → Bool
 is_start l = is_field_start l.content
 
+-- a line that continues a field
 abbrev pub is_more : TextLine → Bool
 is_more l = is_continuation l.content
 
+-- a line without a byte before its ending
 abbrev pub is_empty : TextLine → Bool
 is_empty l = is_nil l.content
 
@@ -49,6 +52,7 @@ head_of ls = record { fields = fields_from false ls; separator = separator_of (r
 abbrev pub behind_head : List TextLine → List TextLine
 behind_head ls = body_of (rest_from false ls)
 
+-- a line, where there is one
 abbrev pub option_line : Option TextLine → List TextLine
 option_line None = []
 option_line (Some l) = l ∷ []

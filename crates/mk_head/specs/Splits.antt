@@ -8,6 +8,7 @@ abbrev pub IsRun : Bool → List TextLine → Type 0
 IsRun inside [] = Unit {0}
 IsRun inside (l ∷ ls) = (belongs inside l ≡ true) × IsRun true ls
 
+-- some line is there
 abbrev pub has_line : List TextLine → Bool
 has_line [] = false
 has_line (l ∷ ls) = true

@@ -20,6 +20,7 @@ abbrev pub default_type : Bool → MediaType
 default_type true = media_type (codes "message") (codes "rfc822") []
 default_type false = media_type (codes "text") (codes "plain") []
 
+-- the type that a value says, or the default where there is none
 abbrev pub type_by : Bool → Option (List ℕ) → MediaType
 type_by digest None = default_type digest
 type_by digest (Some value) = content_type_of value
@@ -28,6 +29,7 @@ type_by digest (Some value) = content_type_of value
 abbrev pub header_type : Bool → List TextLine → MediaType
 header_type digest fields = type_by digest (field_value (codes "Content-Type") fields)
 
+-- the encoding that a value says, and 7bit where there is none (RFC 2045, 6.1)
 abbrev pub encoding_by : Option (List ℕ) → Encoding
 encoding_by None = Identity
 encoding_by (Some value) = encoding_of value
@@ -36,6 +38,7 @@ encoding_by (Some value) = encoding_of value
 abbrev pub header_encoding : List TextLine → Encoding
 header_encoding fields = encoding_by (field_value (codes "Content-Transfer-Encoding") fields)
 
+-- a boundary without the blanks at its end; nothing where there is none
 abbrev pub trimmed_boundary : Option (List ℕ) → List ℕ
 trimmed_boundary None = []
 trimmed_boundary (Some boundary) = trimmed boundary

@@ -9,6 +9,7 @@ abbrev pub contents : List TextLine → List ℕ
 contents [] = []
 contents (l ∷ ls) = l.content ++ contents ls
 
+-- bytes, or none where they are missing
 abbrev pub or_nothing : Option (List ℕ) → List ℕ
 or_nothing None = []
 or_nothing (Some bytes) = bytes

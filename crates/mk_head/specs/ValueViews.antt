@@ -10,9 +10,11 @@ use Rattle.mk_head.specs.Values.{Scan, Plain, Quoted, QuotedEscaped, Comment, Co
 abbrev pub parameter_of : Vec ℕ × Vec ℕ → List ℕ × List ℕ
 parameter_of p = (p.0.items, p.1.items)
 
+-- a content type in memory as plain data
 abbrev pub media_type_of : ContentType → MediaType
 media_type_of t = record { main = t.main.items; sub = t.sub.items; params = map parameter_of t.params.items }
 
+-- what a scan in memory is inside of
 abbrev pub scan_of : ScanIn → Scan
 scan_of PlainIn = Plain
 scan_of QuotedIn = Quoted

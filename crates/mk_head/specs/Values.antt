@@ -64,6 +64,7 @@ is_kept QuotedEscaped byte = true
 is_kept (Comment depth) byte = false
 is_kept (CommentEscaped depth) byte = false
 
+-- neither inside quotes nor inside a comment
 abbrev pub is_plain : Scan → Bool
 is_plain Plain = true
 is_plain Quoted = false
@@ -76,6 +77,7 @@ abbrev pub uncommented : Scan → List ℕ → List ℕ
 uncommented s [] = []
 uncommented s (byte ∷ bytes) = if is_kept s byte then byte ∷ uncommented (scan s byte) bytes else uncommented (scan s byte) bytes
 
+-- a byte put before the first piece
 abbrev pub push_first : ℕ → List (List ℕ) → List (List ℕ)
 push_first byte [] = (byte ∷ []) ∷ []
 push_first byte (piece ∷ pieces) = (byte ∷ piece) ∷ pieces
@@ -115,6 +117,7 @@ abbrev pub parameter_value : List ℕ → List ℕ
 parameter_value [] = []
 parameter_value (byte ∷ bytes) = if byte == quote then unquoted false bytes else byte ∷ bytes
 
+-- in ASCII lower case
 abbrev pub lowered : List ℕ → List ℕ
 lowered bytes = str_to_ascii_lowercase bytes
 
@@ -123,6 +126,7 @@ abbrev pub parameter_before : List ℕ → Option (List ℕ) → List (List ℕ 
 parameter_before name None others = others
 parameter_before name (Some value) others = (lowered (stripped name), parameter_value (stripped value)) ∷ others
 
+-- the pieces with a `=` as names and values, the others left out
 abbrev pub parameters : List (List ℕ) → List (List ℕ × List ℕ)
 parameters [] = []
 parameters (piece ∷ pieces) = parameter_before (before equals piece) (behind equals piece) (parameters pieces)
@@ -141,6 +145,7 @@ pub record MediaType : Type 0 where
   pub sub : List ℕ
   pub params : List (List ℕ × List ℕ)
 
+-- a media type of these parts
 abbrev pub media_type : List ℕ → List ℕ → List (List ℕ × List ℕ) → MediaType
 media_type main sub params = record { main = main; sub = sub; params = params }
 
@@ -149,6 +154,7 @@ abbrev pub typed_as : List ℕ → Option (List ℕ) → List (List ℕ × List 
 typed_as main None params = media_type (codes "text") (codes "plain") params
 typed_as main (Some sub) params = if is_token main && is_token sub then media_type (lowered main) (lowered sub) params else media_type (codes "text") (codes "plain") params
 
+-- the first piece says the type, the others the parameters; without a piece it is text/plain
 abbrev pub type_of_pieces : List (List ℕ) → MediaType
 type_of_pieces [] = media_type (codes "text") (codes "plain") []
 type_of_pieces (piece ∷ pieces) = typed_as (before slash (stripped piece)) (behind slash (stripped piece)) (parameters pieces)

@@ -9,6 +9,7 @@ pub record TextLine : Type 0 where
   pub content : List ℕ
   pub ending : Ending
 
+-- a line of a content and an ending
 abbrev pub text_line : List ℕ → Ending → TextLine
 text_line content ending = record { content = content; ending = ending }
 
@@ -27,6 +28,7 @@ abbrev pub text_of : List TextLine → List ℕ
 text_of [] = []
 text_of (l ∷ ls) = printed_line l ++ text_of ls
 
+-- the ending is a line feed alone
 abbrev pub is_lf : Ending → Bool
 is_lf Crlf = false
 is_lf Lf = true
@@ -38,6 +40,7 @@ is_open Crlf = false
 is_open Lf = false
 is_open Missing = true
 
+-- no byte is there
 abbrev pub is_nil : List ℕ → Bool
 is_nil [] = true
 is_nil (byte ∷ bytes) = false
@@ -68,6 +71,7 @@ closed Crlf = Crlf
 closed Lf = Lf
 closed Missing = Lf
 
+-- the ending that new lines get: that of the first line, and a line feed where that has none (own)
 abbrev pub eol_of : List TextLine → Ending
 eol_of [] = Lf
 eol_of (l ∷ ls) = closed l.ending
@@ -77,6 +81,7 @@ abbrev pub has_line_feed : List ℕ → Bool
 has_line_feed [] = false
 has_line_feed (byte ∷ bytes) = byte == line_feed || has_line_feed bytes
 
+-- the last byte is a carriage return
 abbrev pub ends_in_return : List ℕ → Bool
 ends_in_return [] = false
 ends_in_return (byte ∷ []) = byte == carriage_return

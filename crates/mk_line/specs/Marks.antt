@@ -5,6 +5,7 @@ use Rattle.mk_line.specs.declared.marks.Mark.{Mark}
 use Rattle.mk_line.specs.declared.marks.Mark.TheVariants.{No, Part, Close}
 use Rattle.mk_line.specs.Ascii.{is_blank, hyphen}
 
+-- a byte before bytes that are trimmed: it goes where it is a blank and nothing is left of them
 abbrev pub trimmed_before : ℕ → List ℕ → List ℕ
 trimmed_before byte [] = if is_blank byte then [] else byte ∷ []
 trimmed_before byte (next ∷ bytes) = byte ∷ next ∷ bytes

@@ -22,6 +22,7 @@ abbrev pub disposed_name : Option (List ℕ) → Option (List ℕ)
 disposed_name None = None
 disposed_name (Some value) = param_of (codes "filename") (content_type_of value).params
 
+-- the first name, or the other where that is missing
 abbrev pub first_some : Option (List ℕ) → Option (List ℕ) → Option (List ℕ)
 first_some None other = other
 first_some (Some name) other = Some name
@@ -30,6 +31,7 @@ first_some (Some name) other = Some name
 abbrev pub raw_name : Placed → Option (List ℕ)
 raw_name p = first_some (disposed_name (field_value (codes "Content-Disposition") (field_lines p.entity))) (param_of (codes "name") (type_of p).params)
 
+-- a slash or a backslash
 abbrev pub is_divider : ℕ → Bool
 is_divider byte = byte == slash || byte == backslash
 
@@ -42,6 +44,7 @@ behind_last kept (byte ∷ bytes) = if is_divider byte then behind_last bytes by
 abbrev pub is_plain_byte : ℕ → Bool
 is_plain_byte byte = is_ascii_alphanumeric byte || byte == dot || byte == underscore || byte == hyphen
 
+-- a byte, or `_` for one that no name may have
 abbrev pub plain : ℕ → ℕ
 plain byte = if is_plain_byte byte then byte else underscore
 
@@ -49,6 +52,7 @@ plain byte = if is_plain_byte byte then byte else underscore
 abbrev pub leading : ℕ → ℕ
 leading byte = if byte == dot || byte == hyphen then underscore else byte
 
+-- bytes of which the first may begin a name
 abbrev pub led : List ℕ → List ℕ
 led [] = []
 led (byte ∷ bytes) = leading byte ∷ bytes
@@ -65,6 +69,7 @@ cleaned raw = take most_bytes (led (map plain (behind_last raw raw)))
 abbrev pub part_name : List ℕ → List ℕ
 part_name path = codes "part-" ++ path_text path
 
+-- a name, or another where no byte of it is left
 abbrev pub name_or : List ℕ → List ℕ → List ℕ
 name_or other name = if is_nil name then other else name
 
@@ -88,6 +93,7 @@ stored_by texts Leaf path t raw = if is_stored_by texts t raw then (path, name_b
 stored_by texts Multi path t raw = []
 stored_by texts Message path t raw = []
 
+-- the path of a listed section and the name that it would get by itself; none where it isn't stored
 unfoldable pub stored : Bool → Listed → List Named
 stored texts s = stored_by texts (kind_in s.section.entity) s.path (type_of s.section) (raw_name s.section)
 

@@ -45,6 +45,7 @@ abbrev pub AreDistinct : List (List ℕ) → List Named → Type 0
 AreDistinct names [] = Unit {0}
 AreDistinct names (g ∷ gs) = (is_taken names g.1 ≡ false) × AreDistinct (g.1 ∷ names) gs
 
+-- no byte is a slash
 abbrev pub has_no_slash : List ℕ → Bool
 has_no_slash bytes = list_all (λ byte. not (byte == slash)) bytes
 

@@ -27,17 +27,20 @@ abbrev pub path_text : List ℕ → List ℕ
 path_text [] = []
 path_text (number ∷ numbers) = decimal number ++ flat_map dotted numbers
 
+-- how a kind is written
 abbrev pub kind_name : Kind → List ℕ
 kind_name Leaf = codes "leaf"
 kind_name Multi = codes "multi"
 kind_name Message = codes "message"
 
+-- how an encoding is written
 abbrev pub encoding_name : Encoding → List ℕ
 encoding_name Identity = codes "identity"
 encoding_name Qp = codes "quoted-printable"
 encoding_name Base64 = codes "base64"
 encoding_name Other = codes "other"
 
+-- how a media type is written
 abbrev pub type_text : MediaType → List ℕ
 type_text t = t.main ++ slash ∷ t.sub
 

@@ -18,6 +18,7 @@ pub record Held : Type 0 where
   pub output : Option (List ℕ)
   pub errors : Option (List ℕ)
 
+-- the contents of the devices together
 abbrev pub held : Option (List ℕ) → Option (List ℕ) → Option (List ℕ) → Held
 held input output errors = record { input = input; output = output; errors = errors }
 
@@ -28,6 +29,7 @@ pub record Counts : Type 0 where
   pub output : ℕ
   pub errors : ℕ
 
+-- the counts of the devices together
 abbrev pub counts : ℕ → ℕ → ℕ → ℕ → Counts
 counts input reads output errors = record { input = input; reads = reads; output = output; errors = errors }
 

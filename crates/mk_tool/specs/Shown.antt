@@ -30,12 +30,14 @@ run_of_answer a = shown a.output.items a.errors.items
 abbrev pub IsListed : List ℕ → Run → Type 0
 IsListed message run = run ≡ shown (listing (tree message)) []
 
+-- how a reason against an extraction is written
 abbrev pub extract_name : ExtractError → List ℕ
 extract_name refused.NoSuchSection = codes "NoSuchSection"
 extract_name refused.BadBase64 = codes "BadBase64"
 extract_name refused.UnknownEncoding = codes "UnknownEncoding"
 extract_name refused.Memory = codes "Memory"
 
+-- memory was wanting
 abbrev pub is_wanting : ExtractError → Bool
 is_wanting refused.NoSuchSection = false
 is_wanting refused.BadBase64 = false

@@ -10,29 +10,35 @@ use Rattle.mk_head.specs.Split.{Head}
 use Rattle.mk_tree.specs.Tree.{Entity, leaf, message, multi, Parts, no_parts, part}
 use Rattle.mk_tree.specs.Sections.{Placed}
 
+-- an ending as a number
 abbrev ending_number : Ending → ℕ
 ending_number Crlf = 0
 ending_number Lf = 1
 ending_number Missing = 2
 
+-- the ending of a number
 abbrev ending_at : ℕ → Ending
 ending_at zero = Crlf
 ending_at (suc zero) = Lf
 ending_at (suc (suc n)) = Missing
 
+-- it is the one that the number was made of
 pub ending_back : (e : Ending) → ending_at (ending_number e) ≡ e
 ending_back Crlf = refl
 ending_back Lf = refl
 ending_back Missing = refl
 
+-- lines are told apart by their contents and endings
 abbrev pub line_code : Coded TextLine
 line_code =
     code_by (List ℕ × Ending) (coded× (coded_list coded_ℕ) (code_by ℕ coded_ℕ ending_number ending_at ending_back))
     (λ l. (l.content, l.ending)) (λ p. record { content = p.0; ending = p.1 }) (λ _. refl)
 
+-- lists of lines are told apart
 abbrev pub lines_code : Coded (List TextLine)
 lines_code = coded_list line_code
 
+-- heads are told apart by their fields and separators
 abbrev pub head_code : Coded Head
 head_code =
     code_by (List TextLine × Option TextLine) (coded× lines_code (coded_option line_code))
@@ -42,6 +48,7 @@ head_code =
 abbrev Rest : Type 0
 Rest = List ℕ × (List TextLine × Option (TextLine × List TextLine))
 
+-- what a multipart has beside its head and its parts is told apart
 abbrev rest_code : Coded Rest
 rest_code = coded× (coded_list coded_ℕ) (coded× lines_code (coded_option (coded× line_code lines_code)))
 
@@ -55,11 +62,13 @@ abbrev mutual
   parts_number no_parts = gnil
   parts_number (part l e ps) = gcons (line_code.code l) (gcons (entity_number e) (parts_number ps))
 
+-- the first of a pair
 abbrev first : Gv → Gv
 first gnil = gnil
 first (gnum n) = gnil
 first (gcons a b) = a
 
+-- the second of a pair
 abbrev second : Gv → Gv
 second gnil = gnil
 second (gnum n) = gnil
@@ -68,16 +77,19 @@ second (gcons a b) = b
 pairs_same : (a b c d : Gv) → gcons a b ≡ gcons c d → (a ≡ c) × (b ≡ d)
 pairs_same a b c d p = (ap first p, ap second p)
 
+-- a code is empty
 abbrev IsNone : Gv → Type 0
 IsNone gnil = Unit {0}
 IsNone (gnum n) = ⊥
 IsNone (gcons a b) = ⊥
 
+-- a code is a number
 abbrev IsNumber : Gv → Type 0
 IsNumber gnil = ⊥
 IsNumber (gnum n) = Unit {0}
 IsNumber (gcons a b) = ⊥
 
+-- a code is a pair
 abbrev IsPair : Gv → Type 0
 IsPair gnil = ⊥
 IsPair (gnum n) = ⊥
@@ -110,9 +122,11 @@ mutual
       let q = ap second p in
       λ i. part (line_code.inj l m (ap first p) i) (entity_one e f (ap first q) i) (parts_one ps qs (ap second q) i)
 
+-- entities are told apart by their codes
 pub entity_code : Coded Entity
 entity_code = record { code = entity_number; inj = entity_one }
 
+-- and entities in their places
 abbrev pub placed_code : Coded Placed
 placed_code =
     code_by (ℕ × (Bool × (Bool × Entity))) (coded× coded_ℕ (coded× coded_bool (coded× coded_bool entity_code)))

@@ -22,10 +22,12 @@ abbrev pub cut_by : List ℕ → List TextLine → Cut
 cut_by b [] = record { preamble = []; parts = []; tail = None }
 cut_by b (l ∷ ls) = cut_before (mark b l.content) l ls (cut_by b ls)
 
+-- the lines of parts, each behind its delimiter
 abbrev pub parts_lines : List (TextLine × List TextLine) → List TextLine
 parts_lines [] = []
 parts_lines (p ∷ ps) = p.0 ∷ (p.1 ++ parts_lines ps)
 
+-- the close line and the epilogue, where there is a close line
 abbrev pub tail_lines : Option (TextLine × List TextLine) → List TextLine
 tail_lines None = []
 tail_lines (Some p) = p.0 ∷ p.1

@@ -5,6 +5,7 @@ use Rattle.mk_line.specs.Kinds.{is_from_line}
 use Rattle.mk_head.specs.Split.{option_line}
 use Rattle.mk_tree.specs.Tree.{Entity, read, print}
 
+-- a message as a tree, and the From-line that a mailbox puts before it, where there is one
 pub record Document : Type 0 where
   pub envelope : Option TextLine
   pub root : Entity

@@ -8,6 +8,7 @@ use Rattle.mk_head.specs.Split.{Head}
 use Rattle.mk_tree.specs.Tree.{Entity, leaf, message, multi, Parts, no_parts, part}
 use Rattle.mk_tree.specs.Documents.{Document, tree, printed}
 
+-- two endings are one
 abbrev pub ending_eq : Ending → Ending → Bool
 ending_eq Crlf Crlf = true
 ending_eq Crlf Lf = false
@@ -19,24 +20,29 @@ ending_eq Missing Crlf = false
 ending_eq Missing Lf = false
 ending_eq Missing Missing = true
 
+-- two lines are one: their contents and endings are
 abbrev pub line_eq : TextLine → TextLine → Bool
 line_eq l m = bytes_eq l.content m.content && ending_eq l.ending m.ending
 
+-- two lists of lines are one
 abbrev pub lines_eq : List TextLine → List TextLine → Bool
 lines_eq [] [] = true
 lines_eq [] (m ∷ ms) = false
 lines_eq (l ∷ ls) [] = false
 lines_eq (l ∷ ls) (m ∷ ms) = line_eq l m && lines_eq ls ms
 
+-- two lines that may be missing are one
 abbrev pub option_eq : Option TextLine → Option TextLine → Bool
 option_eq None None = true
 option_eq None (Some m) = false
 option_eq (Some l) None = false
 option_eq (Some l) (Some m) = line_eq l m
 
+-- two heads are one
 abbrev pub head_eq : Head → Head → Bool
 head_eq h k = lines_eq h.fields k.fields && option_eq h.separator k.separator
 
+-- two close lines with their epilogues are one
 abbrev pub tail_eq : Option (TextLine × List TextLine) → Option (TextLine × List TextLine) → Bool
 tail_eq None None = true
 tail_eq None (Some q) = false
@@ -61,6 +67,7 @@ abbrev mutual
   parts_eq (part l e ps) no_parts = false
   parts_eq (part l e ps) (part m f qs) = line_eq l m && (entity_eq e f && parts_eq ps qs)
 
+-- two documents are one
 abbrev pub document_eq : Document → Document → Bool
 document_eq s t = option_eq s.envelope t.envelope && entity_eq s.root t.root
 

@@ -14,10 +14,12 @@ pub data Kind : Type 0 where
   Message : Kind
   Multi : (boundary : List ℕ) → (digest : Bool) → Kind
 
+-- some byte is a carriage return
 abbrev pub has_return : List ℕ → Bool
 has_return [] = false
 has_return (byte ∷ bytes) = byte == carriage_return || has_return bytes
 
+-- the encoding changes nothing: 7bit, 8bit or binary (RFC 2045, 6.2)
 abbrev pub is_identity : Encoding → Bool
 is_identity Identity = true
 is_identity Qp = false
@@ -32,6 +34,7 @@ has_boundary t = not (is_nil (boundary_of t)) && not (has_return (boundary_of t)
 abbrev pub holds_message : MediaType → Encoding → Bool
 holds_message t e = bytes_eq t.main (codes "message") && (bytes_eq t.sub (codes "rfc822") || bytes_eq t.sub (codes "global")) && is_identity e
 
+-- the kind that a media type and an encoding say
 abbrev pub kind_of : MediaType → Encoding → Kind
 kind_of t e =
     if bytes_eq t.main (codes "multipart") && has_boundary t then Multi (boundary_of t) (bytes_eq t.sub (codes "digest"))

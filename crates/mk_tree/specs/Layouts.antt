@@ -9,12 +9,15 @@ use Rattle.mk_tree.specs.Sections.{Placed}
 use Rattle.mk_tree.specs.declared.node.Node.{Node}
 use Rattle.mk_tree.specs.Nodes.{node_span}
 
+-- how many bytes the delimiter before an entity has
 abbrev pub delimiter_of : Span → ℕ
 delimiter_of (span delimiter fields separator whole form spans) = delimiter
 
+-- how many bytes the entity has
 abbrev pub whole_of : Span → ℕ
 whole_of (span delimiter fields separator whole form spans) = whole
 
+-- some span is there
 abbrev pub has_span : List Span → Bool
 has_span [] = false
 has_span (s ∷ ss) = true
@@ -36,6 +39,7 @@ pub record IsNodeOver (node : Node) (raw : List ℕ) (start : ℕ) (digest : Boo
 abbrev pub first_text : Span → List ℕ → List ℕ
 first_text s text = take (whole_of s) (drop (delimiter_of s) text)
 
+-- what stands behind an entity in the text that its delimiter begins
 abbrev pub text_behind : Span → List ℕ → List ℕ
 text_behind s text = drop (whole_of s) (drop (delimiter_of s) text)
 
@@ -46,6 +50,7 @@ placed_along (s ∷ ss) text place followed digest left =
     placed_over (first_text s text) (place + delimiter_of s) (has_span ss || followed) digest left
     ∷ placed_along ss (text_behind s text) (place + delimiter_of s + whole_of s) followed digest left
 
+-- spans are those of entities one behind another in a text
 abbrev pub AreSpansOver : List Span → List ℕ → Bool → ℕ → Type 0
 AreSpansOver [] text digest left = Unit {0}
 AreSpansOver (s ∷ ss) text digest left =

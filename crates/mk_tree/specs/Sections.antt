@@ -16,10 +16,12 @@ pub record Placed : Type 0 where
   pub digest : Bool
   pub entity : Entity
 
+-- some part is there
 abbrev pub has_part : Parts → Bool
 has_part no_parts = false
 has_part (part l e ps) = true
 
+-- a close line is there
 abbrev pub has_tail : Option (TextLine × List TextLine) → Bool
 has_tail None = false
 has_tail (Some t) = true
@@ -63,6 +65,7 @@ raw_of p = text_of (print p.entity)
 abbrev pub head_text : Placed → List ℕ
 head_text p = text_of (entity_head p.entity).fields
 
+-- the lines of an entity behind its head
 abbrev pub body_lines : Entity → List TextLine
 body_lines (leaf h ls) = ls
 body_lines (message h e) = print e
@@ -86,15 +89,18 @@ content_lines p = if p.followed then unended (body_lines p.entity) else body_lin
 abbrev pub content_text : Placed → List ℕ
 content_text p = text_of (content_lines p)
 
+-- the lines before the first delimiter of a multipart
 abbrev pub preamble_lines : Entity → List TextLine
 preamble_lines (leaf h ls) = []
 preamble_lines (message h e) = []
 preamble_lines (multi h b pre ps t) = pre
 
+-- the lines behind a close line, where there is one
 abbrev pub epilogue_of : Option (TextLine × List TextLine) → List TextLine
 epilogue_of None = []
 epilogue_of (Some t) = t.1
 
+-- the lines behind the close line of a multipart
 abbrev pub epilogue_lines : Entity → List TextLine
 epilogue_lines (leaf h ls) = []
 epilogue_lines (message h e) = []

@@ -25,6 +25,7 @@ mutual
     no_spans : Spans
     more_spans : Span → Spans → Spans
 
+-- how many bytes a close line and an epilogue have
 abbrev pub tail_sizes : Option (TextLine × List TextLine) → Option (ℕ × ℕ)
 tail_sizes t = option_map (λ p. (size (p.0 ∷ []), size p.1)) t
 

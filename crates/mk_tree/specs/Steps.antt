@@ -19,11 +19,13 @@ use Rattle.mk_tree.specs.Upto.{is_marked, upto, beyond, inner}
 abbrev pub boundaries_of : List (Bor (List ℕ)) → List (List ℕ)
 boundaries_of bs = map (λ b. b.now) bs
 
+-- what fields say of a body, in memory, as a kind
 abbrev pub kind_described : Described → Kind
 kind_described described.Leaf = Leaf
 kind_described described.Message = Message
 kind_described (described.Multi boundary digest) = Multi boundary.items digest
 
+-- the mark begins a part
 abbrev pub is_part : Mark → Bool
 is_part No = false
 is_part Part = true
@@ -34,10 +36,12 @@ abbrev pub begins_part : List (List ℕ) → List ℕ → List TextLine → Bool
 begins_part bs b [] = false
 begins_part bs b (l ∷ ls) = not (is_marked bs l) && is_part (mark b l.content)
 
+-- the lines behind the first
 abbrev pub behind_first : List TextLine → List TextLine
 behind_first [] = []
 behind_first (l ∷ ls) = ls
 
+-- how many bytes the first line has
 abbrev pub first_size : List TextLine → ℕ
 first_size [] = 0
 first_size (l ∷ ls) = length (printed_line l)

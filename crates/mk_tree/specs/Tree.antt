@@ -22,6 +22,7 @@ abbrev pub parts_by : (List TextLine → Entity) → List (TextLine × List Text
 parts_by f [] = no_parts
 parts_by f (p ∷ ps) = part p.0 (f p.1) (parts_by f ps)
 
+-- a multipart of a cut body, whose parts a function reads
 abbrev pub multi_by : (List TextLine → Entity) → Head → List ℕ → Cut → Entity
 multi_by f h b c = multi h b c.preamble (parts_by f c.parts) c.tail
 
@@ -47,6 +48,7 @@ abbrev mutual
   print_parts no_parts = []
   print_parts (part l e ps) = l ∷ (print e ++ print_parts ps)
 
+-- the fields and the separator of an entity
 abbrev pub entity_head : Entity → Head
 entity_head (leaf h ls) = h
 entity_head (message h e) = h

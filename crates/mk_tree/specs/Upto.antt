@@ -7,6 +7,7 @@ use Rattle.mk_line.specs.Marks.{mark}
 use Rattle.mk_head.specs.Split.{belongs}
 use Rattle.mk_tree.specs.Cutting.{Cut, cut_by}
 
+-- the line is a mark: it begins a part or closes a multipart
 abbrev pub is_mark : Mark → Bool
 is_mark No = false
 is_mark Part = true
@@ -36,6 +37,7 @@ abbrev pub fields_until : List (List ℕ) → Bool → List TextLine → List Te
 fields_until bs inside [] = []
 fields_until bs inside (l ∷ ls) = if goes_on bs inside l then l ∷ fields_until bs true ls else []
 
+-- what stands behind those lines
 abbrev pub rest_until : List (List ℕ) → Bool → List TextLine → List TextLine
 rest_until bs inside [] = []
 rest_until bs inside (l ∷ ls) = if goes_on bs inside l then rest_until bs true ls else l ∷ ls
