@@ -5,6 +5,7 @@ use Rattle.mk_line.specs.Lines.{is_nil}
 use Rattle.mk_edit.specs.declared.field_edits.FieldEdit.{FieldEdit}
 use Rattle.mk_edit.specs.declared.field_edits.FieldEdit.TheVariants.{Remove, Rename}
 use Rattle.mk_edit.specs.declared.silent_edits.SilentEdit.{SilentEdit}
+use Rattle.mk_edit.specs.Edits.{PlainEdit, AddField, RemoveField, RenameField, SetField, SetBody, SetSection, InsertPart, RemovePart, Wrap}
 
 -- names are the same without regard to ASCII case
 abbrev pub are_same : List ℕ → List ℕ → Bool
@@ -31,3 +32,15 @@ by_option (Some x) y f = f x
 -- the removal or the renaming of the field of a number
 abbrev pub numbered : SilentEdit → ℕ → FieldEdit
 numbered e k = by_option e.to (Remove e.name k) (λ to. Rename e.name k to)
+
+-- an edit is one of the root's fields that says nothing of its body
+abbrev pub is_silent_edit : PlainEdit → Bool
+is_silent_edit (AddField path top text) = false
+is_silent_edit (RemoveField path name k) = leads_to_root path && is_silent name
+is_silent_edit (RenameField path name k to) = leads_to_root path && is_silent name && is_silent to
+is_silent_edit (SetField path name k text) = false
+is_silent_edit (SetBody path text) = false
+is_silent_edit (SetSection path text) = false
+is_silent_edit (InsertPart path place text) = false
+is_silent_edit (RemovePart path) = false
+is_silent_edit (Wrap path subtype boundary) = false

@@ -1,5 +1,6 @@
 //! A field is looked for behind those that were passed over before.
-ghost use Rattle.std.specs.Prelude.{◌≡◌, false, IfOk, IfErr, IfSome};
+ghost use Rattle.std.specs.Prelude.{◌≡◌, ◌&&◌, false, nat_lt, IfOk, IfErr, IfNone, IfSome};
+ghost use Rattle.std.specs.Str.{bytes_eq};
 ghost use Rattle.mk_line.specs.Lines.{cut as lines_of};
 ghost use Rattle.mk_head.specs.Splits.{IsRun};
 ghost use Rattle.mk_edit.specs.Answers.{refusal_of, IsRefusedBy};
@@ -87,7 +88,8 @@ fn put_at(
 
 // The number of an edit's field among those of its name behind the ones that were passed over. `None` where it isn't known.
 fn number_behind(passed: &Passed, edit: &SilentEdit<'_>) -> Option<u32>
-    ensures { IfSome result (λ k. IsBehind passed.now.name.items passed.now.fields edit.now k) }
+    ensures some { IfSome result (λ k. IsBehind passed.now.name.items passed.now.fields edit.now k) }
+    ensures none { IfNone result ((nat_lt passed.now.fields edit.now.k && bytes_eq passed.now.name.items edit.now.name.now) ≡ false) }
 {
     if passed.fields < edit.k && passed.name.as_slice() == edit.name {
         Some(edit.k - passed.fields)

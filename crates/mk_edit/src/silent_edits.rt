@@ -1,7 +1,7 @@
 //! Edits of the root's fields that say nothing of its body.
-ghost use Rattle.std.specs.Prelude.{◌≡◌, ◌∷◌, [], IfSome};
+ghost use Rattle.std.specs.Prelude.{◌≡◌, ◌∷◌, [], false, IfNone, IfSome};
 ghost use Rattle.mk_edit.specs.FieldPuts.{plain_of};
-ghost use Rattle.mk_edit.specs.SilentEdits.{is_silent as says_nothing, leads_to_root, numbered, IsSilent};
+ghost use Rattle.mk_edit.specs.SilentEdits.{is_silent as says_nothing, is_silent_edit, leads_to_root, numbered, IsSilent};
 ghost use Rattle.mk_edit.specs.Views.{edit_of};
 
 use crate::edits::Edit;
@@ -40,6 +40,7 @@ impl<'a> SilentEdit<'a> {
 pub(crate) fn silent_edit(edit: &Edit) -> Option<SilentEdit<'_>>
     ensures silent { IfSome result IsSilent }
     ensures same { IfSome result (λ e. plain_of (1 ∷ []) (numbered e e.k) ≡ edit_of edit.now) }
+    ensures none { IfNone result (is_silent_edit (edit_of edit.now) ≡ false) }
 {
     match edit {
         Edit::RemoveField { path, name, k } => {
