@@ -307,15 +307,5 @@ made_root edit text x y old start size r h e o t =
     subst (λ z. IsMade plain z (record { place = r.place; old = old; new = r.new }) y) e (made_so plain text y r old h.decided o t)
 
 -- the fields of a document's root
-pub held_first : (doc text : List ℕ) (p : Placed) (start : ℕ) (head name : List ℕ) (bytes fields : ℕ) → text ≡ doc → p ≡ root_in doc → start ≡ p.start → head ≡ head_text p → has_separator (entity_head p.entity).separator ≡ true → HasPassed (lines_in doc) name bytes fields
-    → IsHeld text start (length head) name bytes fields
-held_first doc text p start head name bytes fields t r b h s k =
-    subst (λ x. IsHeld x start (length head) name bytes fields) (sym t)
-    (record {
-      fields = record {
-        begins = b ∙ ap (λ (x : Placed). x.start) r;
-        takes = ap length (h ∙ ap head_text r);
-        separated = ap (λ (x : Placed). has_separator (entity_head x.entity).separator) (sym r) ∙ s;
-      };
-      passed = k;
-    })
+pub held_first : (doc text : List ℕ) (start size : ℕ) (name : List ℕ) (bytes fields : ℕ) → text ≡ doc → HasFields doc start size → HasPassed (lines_in doc) name bytes fields → IsHeld text start size name bytes fields
+held_first doc text start size name bytes fields t f k = subst (λ x. IsHeld x start size name bytes fields) (sym t) (record { fields = f; passed = k })

@@ -12,7 +12,7 @@ use crate::errors::EditError;
 use crate::root_fields::RootFields;
 use crate::silent_edits::silent_edit;
 use crate::splicing::Splice;
-use crate::stepping::make;
+use crate::stepping::{make, read_anew};
 use mk_line::Meter;
 use mk_tree::Doc;
 use std::alloc::{AllocError, Global};
@@ -37,6 +37,18 @@ impl Draft {
     ghost use Rattle.mk_edit.specs.Made.{IsMade};
     ghost use Rattle.mk_edit.specs.Outcomes.{edited};
     ghost use Rattle.mk_edit.specs.Views.{edit_of, splice_of};
+
+    /// A copy of a document, in which these edits are to be made. Its tree is read when the first of them asks for it.
+    pub(crate) fn begin(alloc: Global, doc: &Doc, list: &[Edit]) -> Result<Draft, AllocError>
+        ensures { IfOk result (λ d. text_in d ≡ doc.now) }
+    {
+        if starts_silently(list) {
+            if let Some(fields) = RootFields::copy_of(alloc, doc)? {
+                return Ok(Draft::Fields(fields));
+            }
+        }
+        Ok(Draft::Read(read_anew(alloc, doc)?))
+    }
 
     /// The same, without its tree where many edits come next that don't ask for it.
     pub(crate) fn ready(self, alloc: Global, next: &[Edit]) -> Draft
@@ -111,6 +123,14 @@ fn make_read(
     let mut doc = doc;
     let splice = make(alloc, &mut doc, edit, meter)?;
     Ok((Draft::Read(doc), splice))
+}
+
+// Whether the first edit doesn't ask for the tree.
+fn starts_silently(list: &[Edit]) -> bool {
+    match list.first() {
+        Some(edit) => silent_edit(edit).is_some(),
+        None => false,
+    }
 }
 
 // Whether many edits come first that don't ask for the tree.

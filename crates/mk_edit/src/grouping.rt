@@ -13,7 +13,6 @@ use crate::drafts::Draft;
 use crate::edits::Edit;
 use crate::errors::{EditError, GroupError};
 use crate::splicing::Splice;
-use crate::stepping::read_anew;
 use mk_line::Meter;
 use mk_tree::Doc;
 use std::alloc::Global;
@@ -28,7 +27,7 @@ pub(crate) fn together(
     ensures ok { IfOk result (λ p. AreMade (map edit_of list.now) doc.now (map splice_of p.1.items) p.0) }
     ensures err { IfErr result (λ e. (h : History) → IsGroupRefusedBy e (grouped_by h (defined (map edit_of list.now) (tree doc.now)))) }
 {
-    let mut draft = Draft::Read(read_anew(alloc, doc)?);
+    let mut draft = Draft::begin(alloc, doc, list)?;
     let mut splices = Vec::with_capacity(alloc, list.len())?;
     for edit in list {
         let next = draft.ready(alloc, &list[splices.len()..]);

@@ -47,7 +47,7 @@ impl Model for RootFields {
 }
 
 impl RootFields {
-    ghost use Rattle.std.specs.Prelude.{◌≡◌, ◌∷◌, [], IfOk, IfErr};
+    ghost use Rattle.std.specs.Prelude.{◌≡◌, ◌∷◌, [], IfOk, IfErr, IfSome};
     ghost use Rattle.mk_tree.specs.Documents.{tree};
     ghost use Rattle.mk_edit.specs.Answers.{refusal_of, IsRefusedBy};
     ghost use Rattle.mk_edit.specs.FieldPuts.{plain_of};
@@ -63,18 +63,30 @@ impl RootFields {
         ensures ok { IfOk result (λ f. f ≡ doc) }
         ensures err { IfErr result (λ d. d ≡ doc) }
     {
-        let root = doc.root();
-        if !has_separator(&root) {
-            return Err(doc);
+        match fields_place(&doc) {
+            Some((start, size)) => Ok(RootFields {
+                text: doc.into_text(),
+                start,
+                size,
+                passed: Passed::none(alloc),
+            }),
+            None => Err(doc),
         }
-        let start = root.start();
-        let size = root.head().len();
-        Ok(RootFields {
-            text: doc.into_text(),
-            start,
-            size,
-            passed: Passed::none(alloc),
-        })
+    }
+
+    /// A copy of the text of a document. `None` where its root has no separator.
+    pub(crate) fn copy_of(alloc: Global, doc: &Doc) -> Result<Option<RootFields>, AllocError>
+        ensures { IfOk result (λ o. IfSome o (λ f. f ≡ doc.now)) }
+    {
+        match fields_place(doc) {
+            Some((start, size)) => Ok(Some(RootFields {
+                text: Vec::from_slice(alloc, doc.text())?,
+                start,
+                size,
+                passed: Passed::none(alloc),
+            })),
+            None => Ok(None),
+        }
     }
 
     /// Makes an edit where nothing is against it, and answers its splice.
@@ -108,6 +120,18 @@ impl RootFields {
         ensures { IfOk result (λ d. d ≡ self) }
     {
         read(alloc, self.text)
+    }
+}
+
+// Where the fields of the root begin, and how many bytes they take, where a separator stands behind them.
+fn fields_place(doc: &Doc) -> Option<(usize, usize)>
+    ensures { IfSome result (λ r. HasFields doc.now r.0 r.1) }
+{
+    let root = doc.root();
+    if has_separator(&root) {
+        Some((root.start(), root.head().len()))
+    } else {
+        None
     }
 }
 

@@ -1,5 +1,5 @@
 //! What fields say of a body (RFC 2045, 5.1, 5.2 and 6; RFC 2046, 5.1 and 5.2.1).
-ghost use Rattle.std.specs.Prelude.{◌≡◌, false, true, not, IfOk, IfNone, IfSome};
+ghost use Rattle.std.specs.Prelude.{◌≡◌, None, codes, false, true, not, IfOk, IfNone, IfSome};
 ghost use Rattle.std.specs.Option.{option_map};
 ghost use Rattle.mk_line.specs.Lines.{cut as lines_of};
 ghost use Rattle.mk_head.specs.Split.{fields_from};
@@ -37,16 +37,28 @@ pub enum Described {
 pub fn describe(alloc: Global, head: &[u8], digest: bool) -> Result<Described, AllocError>
     ensures { IfOk result (λ d. kind_described d ≡ kind (fields_from false (lines_of head.now)) digest) }
 {
-    let encoding = encoding_in(alloc, head)?;
     match value_in(alloc, head, b"Content-Type")? {
-        Some(value) => describe_type(alloc, &content_type(alloc, &value)?, encoding),
-        None => {
-            if digest && is_identity(encoding) {
-                Ok(Described::Message)
-            } else {
-                Ok(Described::Leaf)
-            }
+        Some(value) => {
+            let encoding = encoding_in(alloc, head)?;
+            describe_type(alloc, &content_type(alloc, &value)?, encoding)
         }
+        None => describe_untyped(alloc, head, digest),
+    }
+}
+
+// What fields without a content type say of a body, in a digest or not.
+fn describe_untyped(alloc: Global, head: &[u8], digest: bool) -> Result<Described, AllocError>
+    requires { field_value (codes "Content-Type") (fields_from false (lines_of head.now)) ≡ None }
+    ensures { IfOk result (λ d. kind_described d ≡ kind (fields_from false (lines_of head.now)) digest) }
+{
+    if !digest {
+        return Ok(Described::Leaf);
+    }
+    let encoding = encoding_in(alloc, head)?;
+    if is_identity(encoding) {
+        Ok(Described::Message)
+    } else {
+        Ok(Described::Leaf)
     }
 }
 
