@@ -7,11 +7,11 @@ use Rattle.mk_edit.specs.declared.field_edits.FieldEdit.TheVariants.{Remove, Ren
 use Rattle.mk_edit.specs.declared.silent_edits.SilentEdit.{SilentEdit}
 use Rattle.mk_edit.specs.Edits.{PlainEdit, AddField, RemoveField, RenameField, SetField, SetBody, SetSection, InsertPart, RemovePart, Wrap}
 
--- names are the same without regard to ASCII case
+-- names are the same without regard to ASCII case (RFC 5322, 2.2)
 abbrev pub are_same : List ℕ → List ℕ → Bool
 are_same a b = bytes_eq (str_to_ascii_lowercase a) (str_to_ascii_lowercase b)
 
--- a field of this name says nothing of the body
+-- a field of this name says nothing of the body (RFC 2045, 5 and 6)
 abbrev pub is_silent : List ℕ → Bool
 is_silent name = not (are_same name (codes "Content-Type")) && not (are_same name (codes "Content-Transfer-Encoding"))
 
