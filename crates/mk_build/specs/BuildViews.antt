@@ -1,12 +1,12 @@
 -- What is attached, in memory, as plain data; and the refusals.
 use Rattle.std.specs.Prelude.{◌≡◌, ℕ, Some, List}
 use Rattle.std.specs.Option.{option_map}
-use Rattle.mk_mail.specs.declared.attachment.Attach.{Attach}
-use Rattle.mk_mail.specs.declared.attaching.AttachError.{AttachError}
-use Rattle.mk_mail.specs.declared.attaching.AttachError.TheVariants as attach
-use Rattle.mk_mail.specs.declared.building.BuildError.{BuildError}
-use Rattle.mk_mail.specs.declared.building.BuildError.TheVariants as build
-use Rattle.mk_mail.specs.Building.{Attached, attach_refusal, build_refusal}
+use Rattle.mk_build.specs.declared.attachment.Attach.{Attach}
+use Rattle.mk_build.specs.declared.attaching.AttachError.{AttachError}
+use Rattle.mk_build.specs.declared.attaching.AttachError.TheVariants as attach
+use Rattle.mk_build.specs.declared.building.BuildError.{BuildError}
+use Rattle.mk_build.specs.declared.building.BuildError.TheVariants as build
+use Rattle.mk_build.specs.Building.{Attached, attach_refusal, build_refusal}
 
 -- its fields as lists
 abbrev pub attached_of : Attach → Attached

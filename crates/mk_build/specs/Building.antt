@@ -8,13 +8,16 @@ use Rattle.mk_line.specs.Lines.{TextLine, cut, ending_bytes, is_nil}
 use Rattle.mk_head.specs.Split.{is_start}
 use Rattle.mk_head.specs.Boundaries.{is_boundary}
 use Rattle.mk_head.specs.Fields.{is_one_field, name_of}
-use Rattle.mk_head.specs.Values.{backslash, before, behind, is_token, lowered, quote, slash}
+use Rattle.mk_head.specs.Values.{is_token, lowered}
+use Rattle.mk_line.specs.Ascii.{backslash, quote, slash}
+use Rattle.mk_line.specs.Parting.{before, behind}
+use Rattle.mk_line.specs.Lines.{ends_open}
 use Rattle.mk_code.specs.Base64Text.{base64_encoded}
 use Rattle.mk_code.specs.QuotedPrintable.{qp_encoded}
-use Rattle.mk_mail.specs.declared.attaching.AttachError.{AttachError}
-use Rattle.mk_mail.specs.declared.attaching.AttachError.TheVariants as attach
-use Rattle.mk_mail.specs.declared.building.BuildError.{BuildError}
-use Rattle.mk_mail.specs.declared.building.BuildError.TheVariants as build
+use Rattle.mk_build.specs.declared.attaching.AttachError.{AttachError}
+use Rattle.mk_build.specs.declared.attaching.AttachError.TheVariants as attach
+use Rattle.mk_build.specs.declared.building.BuildError.{BuildError}
+use Rattle.mk_build.specs.declared.building.BuildError.TheVariants as build
 
 -- what is attached: its media type, a name, its bytes, and whether they go as base64, not as quoted-printable
 pub record Attached : Type 0 where
@@ -118,13 +121,9 @@ build_refusal fields parts boundary =
     (refusal_at build.BadName (first_failing (λ a. is_name_or_none a.name) parts)
     (if is_boundary boundary then None else Some build.BadBoundary)))
 
--- whether the last line of a text has no ending: the text doesn't end in a line feed
-abbrev pub is_open_text : List ℕ → Bool
-is_open_text text = not (is_nil text) && not (ends_with nat_eq text (codes "\n"))
-
 -- a field whose last line has an ending
 abbrev pub closed_field : Ending → List ℕ → List ℕ
-closed_field eol field = if is_open_text field then field ++ ending_bytes eol else field
+closed_field eol field = if ends_open field then field ++ ending_bytes eol else field
 
 -- a part: its delimiter, what is attached, and the ending that belongs to the next delimiter
 abbrev pub built_part : Ending → List ℕ → Attached → List ℕ

@@ -1,10 +1,10 @@
 //! Parts of messages, from what is attached (RFC 2045, 5 and 6; RFC 2183).
 ghost use Rattle.std.specs.Prelude.{◌≡◌, ◌≢◌, ◌++◌, None, IfOk, IfErr, OnOk};
-ghost use Rattle.mk_mail.specs.BuildViews.{attached_of, IsAttachRefused};
-ghost use Rattle.mk_mail.specs.Building.{attach_refusal, attached as attached_text, disposition_line, encoded, encoding_line, encoding_name as name_of_encoding, name_param, type_line};
+ghost use Rattle.mk_build.specs.BuildViews.{attached_of, IsAttachRefused};
+ghost use Rattle.mk_build.specs.Building.{attach_refusal, attached as attached_text, disposition_line, encoded, encoding_line, encoding_name as name_of_encoding, name_param, type_line};
 
 use crate::attachment::{Attach, has_name, is_media};
-use mk_code::{bytes_of, push_b64, push_qp};
+use mk_code::{push_b64, push_qp};
 use mk_line::Ending;
 use std::alloc::{AllocError, Global};
 use thiserror::Error;
@@ -24,7 +24,7 @@ pub enum AttachError {
 }
 
 impl From<AllocError> for AttachError {
-    ghost use Rattle.mk_mail.specs.declared.attaching.AttachError.TheVariants.{Memory};
+    ghost use Rattle.mk_build.specs.declared.attaching.AttachError.TheVariants.{Memory};
     ghost use Rattle.std.specs.Prelude.{◌≡◌};
 
     ghost from_gives = { λ _ e. e ≡ Memory };
@@ -64,7 +64,7 @@ pub(crate) fn push_attached(
     push_type(text, attached, eol)?;
     push_disposition(text, attached, eol)?;
     push_encoding(text, attached.base64, eol)?;
-    text.extend_from_slice(bytes_of(eol))?;
+    text.extend_from_slice(eol.bytes())?;
     push_bytes(text, attached, eol)
 }
 
@@ -74,7 +74,7 @@ fn push_type(text: &mut Vec<u8>, attached: &Attach, eol: Ending) -> Result<(), A
     text.extend_from_slice(b"Content-Type: ")?;
     text.extend_from_slice(&attached.media)?;
     push_name(text, attached)?;
-    text.extend_from_slice(bytes_of(eol))
+    text.extend_from_slice(eol.bytes())
 }
 
 fn push_name(text: &mut Vec<u8>, attached: &Attach) -> Result<(), AllocError>
@@ -98,7 +98,7 @@ fn push_disposition(text: &mut Vec<u8>, attached: &Attach, eol: Ending) -> Resul
             text.extend_from_slice(b"Content-Disposition: attachment; filename=\"")?;
             text.extend_from_slice(name)?;
             text.extend_from_slice(b"\"")?;
-            text.extend_from_slice(bytes_of(eol))
+            text.extend_from_slice(eol.bytes())
         }
         None => Ok(()),
     }
@@ -109,7 +109,7 @@ fn push_encoding(text: &mut Vec<u8>, base64: bool, eol: Ending) -> Result<(), Al
 {
     text.extend_from_slice(b"Content-Transfer-Encoding: ")?;
     text.extend_from_slice(encoding_name(base64))?;
-    text.extend_from_slice(bytes_of(eol))
+    text.extend_from_slice(eol.bytes())
 }
 
 fn encoding_name(base64: bool) -> &'static [u8]

@@ -1,12 +1,11 @@
 //! What is attached to a message, and whether it may be (RFC 2045, 5.1).
-ghost use Rattle.std.specs.Prelude.{◌≡◌, None, Some, IfNone, IfSome};
+ghost use Rattle.std.specs.Prelude.{◌≡◌};
 ghost use Rattle.std.specs.List.{list_all};
-ghost use Rattle.mk_head.specs.Values.{before, behind, slash};
-ghost use Rattle.mk_mail.specs.BuildViews.{attached_of};
-ghost use Rattle.mk_mail.specs.Building.{is_media as may_be_attached, is_name as may_be_written, is_name_byte as may_stand, is_name_or_none, is_single as is_one_body};
+ghost use Rattle.mk_build.specs.BuildViews.{attached_of};
+ghost use Rattle.mk_build.specs.Building.{is_media as may_be_attached, is_name as may_be_written, is_name_byte as may_stand, is_name_or_none, is_single as is_one_body};
 
-use memchr::memchr;
 use mk_head::is_token;
+use mk_line::split_at_first;
 
 /// The most bytes of a media type and of a name.
 const LONGEST: usize = 100;
@@ -40,20 +39,9 @@ pub(crate) fn is_media(media: &[u8]) -> bool
     if media.len() > LONGEST {
         return false;
     }
-    match split_media(media) {
+    match split_at_first(media, SLASH) {
         Some((main, sub)) => is_token(main) && is_token(sub) && is_single(main),
         None => false,
-    }
-}
-
-// What stands before the slash of a media type, and what stands behind it.
-fn split_media(media: &[u8]) -> Option<(&[u8], &[u8])>
-    ensures none { IfNone result (behind slash media.now ≡ None) }
-    ensures some { IfSome result (λ p. (p.0.now ≡ before slash media.now) × (behind slash media.now ≡ Some p.1.now)) }
-{
-    match memchr(SLASH, media) {
-        Some(place) => Some((&media[..place], &media[place + 1..])),
-        None => None,
     }
 }
 

@@ -3,18 +3,15 @@ ghost use Rattle.std.specs.Prelude.{◌≡◌, ◌≢◌, ◌++◌, None, codes,
 ghost use Rattle.std.specs.List.{flat_map, starts_with};
 ghost use Rattle.mk_line.specs.Lines.{cut as lines_of};
 ghost use Rattle.mk_head.specs.Values.{lowered};
-ghost use Rattle.mk_mail.specs.BuildViews.{attached_of, IsBuildRefused};
-ghost use Rattle.mk_mail.specs.Building.{build_refusal, built, built_part, close_line, closed_field, first_failing, is_free_field as may_begin, is_free_start as begins_free, is_made_name as is_made, is_media as may_be_attached, is_name_or_none, is_open_text, made_head};
+ghost use Rattle.mk_build.specs.BuildViews.{attached_of, IsBuildRefused};
+ghost use Rattle.mk_build.specs.Building.{build_refusal, built, built_part, close_line, closed_field, first_failing, is_free_field as may_begin, is_free_start as begins_free, is_made_name as is_made, is_media as may_be_attached, is_name_or_none, made_head};
 
 use crate::attaching::push_attached;
 use crate::attachment::{Attach, has_name, is_media};
-use mk_code::bytes_of;
 use mk_head::{is_boundary, one_field};
-use mk_line::{Ending, first_line, name_len};
+use mk_line::{Ending, ends_open, first_line, name_len};
 use std::alloc::{AllocError, Global};
 use thiserror::Error;
-
-const LINE_FEED: &[u8; 1] = b"\n";
 
 const HYPHENS: &[u8; 2] = b"--";
 
@@ -43,7 +40,7 @@ pub enum BuildError {
 }
 
 impl From<AllocError> for BuildError {
-    ghost use Rattle.mk_mail.specs.declared.building.BuildError.TheVariants.{Memory};
+    ghost use Rattle.mk_build.specs.declared.building.BuildError.TheVariants.{Memory};
     ghost use Rattle.std.specs.Prelude.{◌≡◌};
 
     ghost from_gives = { λ _ e. e ≡ Memory };
@@ -171,23 +168,16 @@ fn push_field(text: &mut Vec<u8>, field: &[u8], eol: Ending) -> Result<(), Alloc
 {
     text.extend_from_slice(field)?;
     if ends_open(field) {
-        text.extend_from_slice(bytes_of(eol))
+        text.extend_from_slice(eol.bytes())
     } else {
         Ok(())
     }
 }
 
-// Whether the last line of a text has no ending.
-fn ends_open(text: &[u8]) -> bool
-    ensures { result ≡ is_open_text text.now }
-{
-    !text.is_empty() && !text.ends_with(LINE_FEED)
-}
-
 fn push_head(text: &mut Vec<u8>, boundary: &[u8], eol: Ending) -> Result<(), AllocError>
     ensures { OnOk result (text.new.items ≡ text.old.items ++ made_head eol boundary.now) }
 {
-    let ending = bytes_of(eol);
+    let ending = eol.bytes();
     text.extend_from_slice(b"MIME-Version: 1.0")?;
     text.extend_from_slice(ending)?;
     text.extend_from_slice(b"Content-Type: multipart/mixed; boundary=\"")?;
@@ -223,9 +213,9 @@ fn push_part(
 {
     text.extend_from_slice(HYPHENS)?;
     text.extend_from_slice(boundary)?;
-    text.extend_from_slice(bytes_of(eol))?;
+    text.extend_from_slice(eol.bytes())?;
     push_attached(text, part, eol)?;
-    text.extend_from_slice(bytes_of(eol))
+    text.extend_from_slice(eol.bytes())
 }
 
 fn push_close(text: &mut Vec<u8>, boundary: &[u8], eol: Ending) -> Result<(), AllocError>
@@ -234,5 +224,5 @@ fn push_close(text: &mut Vec<u8>, boundary: &[u8], eol: Ending) -> Result<(), Al
     text.extend_from_slice(HYPHENS)?;
     text.extend_from_slice(boundary)?;
     text.extend_from_slice(HYPHENS)?;
-    text.extend_from_slice(bytes_of(eol))
+    text.extend_from_slice(eol.bytes())
 }

@@ -12,8 +12,8 @@ use Rattle.base64.specs.Engines.{standard, standard_no_pad}
 use Rattle.mk_line.specs.declared.cutting.Ending.{Ending}
 use Rattle.mk_line.specs.declared.cutting.Ending.TheVariants.{Crlf, Lf, Missing}
 use Rattle.mk_line.specs.Lines.{ending_bytes}
-use Rattle.mk_code.specs.Ascii.{is_letter, equals_sign}
-use Rattle.mk_code.specs.Base64Text.{letters, lined, IsBase64Of, base64_encoded}
+use Rattle.mk_line.specs.Ascii.{equals_sign}
+use Rattle.mk_code.specs.Base64Text.{letters, lined, IsBase64Of, base64_encoded, is_letter}
 use Rattle.mk_code.proofs.OutputCuts.{differs}
 
 -- a test that each symbol passes, the symbols of any bytes pass

@@ -5,7 +5,9 @@ use Rattle.std.proofs.lemmas.Bool.{cases_Bool, or_parts}
 use Rattle.std.proofs.lemmas.List.{take_rest, drop-drop, nil_from_length}
 use Rattle.std.proofs.lemmas.List.Sums.{take_while-cons}
 use Rattle.std.specs.List.{filter, prefix_len, take_while}
-use Rattle.mk_code.specs.Ascii.{has_byte, is_letter, equals_sign}
+use Rattle.mk_line.specs.Parting.{has_byte}
+use Rattle.mk_code.specs.Base64Text.{is_letter}
+use Rattle.mk_line.specs.Ascii.{equals_sign}
 
 -- what comes before the first `=`
 pub before_found : (front behind : List ℕ) → has_byte 61 front ≡ false → front ≡ take_while (λ byte. not (byte == equals_sign)) (front ++ 61 ∷ behind)

@@ -9,9 +9,8 @@ use Rattle.mk_line.specs.declared.cutting.Ending.{Ending}
 use Rattle.mk_line.specs.declared.cutting.Ending.TheVariants.{Crlf, Lf, Missing}
 use Rattle.mk_line.specs.Lines.{TextLine, ending_bytes, cut, onto_first}
 use Rattle.mk_line.proofs.Cuts.{cut_other}
-use Rattle.mk_code.specs.Ascii.{is_letter}
 use Rattle.mk_code.specs.OutputLines.{IsSafe, AreSafe, widest}
-use Rattle.mk_code.specs.Base64Text.{lined, base64_encoded}
+use Rattle.mk_code.specs.Base64Text.{lined, base64_encoded, is_letter}
 use Rattle.mk_code.proofs.OutputCuts.{differs, with_other}
 use Rattle.mk_code.proofs.SafeLines.{not_from}
 use Rattle.mk_code.proofs.Base64Laws.{symbols_pass}

@@ -1,4 +1,3 @@
-pub mod Splits
 pub mod Base64Letters
 pub mod Base64Lines
 pub mod Unquoting

@@ -8,7 +8,8 @@ use Rattle.std.specs.List.{flat_map, join_by}
 use Rattle.memchr.specs.Find.{FindsNeedle}
 use Rattle.mk_line.specs.declared.cutting.Ending.{Ending}
 use Rattle.mk_line.specs.declared.cutting.Ending.TheVariants.{Crlf, Lf, Missing}
-use Rattle.mk_code.specs.Ascii.{has_byte, has_pair}
+use Rattle.mk_line.specs.Parting.{has_byte}
+use Rattle.mk_code.specs.EncodedWords.{has_pair}
 use Rattle.mk_code.specs.QuotedPrintable.{before_lines, logical_lines}
 use Rattle.mk_code.proofs.Pairs.{to_pair, from_pair, lacks_pair, pair_parted, pair_unfound}
 

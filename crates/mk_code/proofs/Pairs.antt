@@ -4,7 +4,7 @@ use Rattle.std.specs.Prelude.{is_some, Option}
 use Rattle.std.proofs.lemmas.Bool.{cases_Bool, and_parts, eqb-true, eq-eqb}
 use Rattle.std.proofs.lemmas.List.{take_all}
 use Rattle.memchr.specs.Find.{FindsNeedle, OccursAt}
-use Rattle.mk_code.specs.Ascii.{has_pair}
+use Rattle.mk_code.specs.EncodedWords.{has_pair}
 
 -- the two bytes stand at a place
 pub record IsPairAt (a b : ℕ) (text : List ℕ) (k : ℕ) : Type 0 where

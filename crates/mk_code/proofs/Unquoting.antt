@@ -4,7 +4,7 @@ use Rattle.std.proofs.lemmas.Bool.{or_parts}
 use Rattle.std.proofs.lemmas.List.{take_rest, nil_from_length, append-nil}
 use Rattle.std.specs.Prelude.{Bool, if◌then◌else◌}
 use Rattle.mk_line.specs.Marks.{trimmed}
-use Rattle.mk_code.specs.Ascii.{has_byte}
+use Rattle.mk_line.specs.Parting.{has_byte}
 use Rattle.std.specs.List.{flat_map}
 use Rattle.mk_line.specs.Lines.{TextLine, ending_bytes}
 use Rattle.mk_code.specs.QuotedPrintable.{is_hex_digit, pair_value, pair_at, unquoted, line_unquoted}

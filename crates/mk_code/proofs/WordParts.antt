@@ -11,7 +11,8 @@ use Rattle.std.proofs.lemmas.Slice.Eq.{bytes_eq-Decides}
 use Rattle.base64.specs.GeneralPurpose.{decode_of, decoded_of}
 use Rattle.base64.specs.Engines.{standard_no_pad}
 use Rattle.base64.specs.declared.decode.DecodeError.{DecodeError}
-use Rattle.mk_code.specs.Ascii.{has_byte, is_letter}
+use Rattle.mk_line.specs.Parting.{has_byte}
+use Rattle.mk_code.specs.Base64Text.{is_letter}
 use Rattle.mk_code.specs.EncodedWords.{parts, parts_decoded, word_decoded, text_bytes, in_utf8, is_padding, b_text, q_text, put_before}
 
 -- what stands before a question mark is a part

@@ -12,8 +12,9 @@ use Rattle.base64.proofs.EngineFacts.{decode_of-encode_of, front_bytes}
 use Rattle.mk_line.specs.Ascii.{is_blank}
 use Rattle.mk_line.specs.Lines.{ending_bytes}
 use Rattle.mk_line.specs.declared.cutting.Ending.{Ending}
-use Rattle.mk_code.specs.Ascii.{has_byte, has_pair, is_letter}
-use Rattle.mk_code.specs.EncodedWords.{Run, Gap, Word, run_before, runs, parts_decoded, word_decoded, b_text, is_padding, shown, unfolded, is_shown, encoded_word, characters, goes_on, goes_in, front_onto, pieces, stays, words_encoded, words_decoded}
+use Rattle.mk_line.specs.Parting.{has_byte}
+use Rattle.mk_code.specs.Base64Text.{is_letter}
+use Rattle.mk_code.specs.EncodedWords.{Run, Gap, Word, run_before, runs, parts_decoded, word_decoded, b_text, is_padding, shown, unfolded, is_shown, encoded_word, characters, goes_on, goes_in, front_onto, pieces, stays, words_encoded, words_decoded, has_pair}
 use Rattle.mk_code.proofs.OutputCuts.{differs}
 use Rattle.mk_code.proofs.Base64Laws.{symbols_pass}
 use Rattle.mk_code.proofs.QpBack.{AreBytes}

@@ -1,6 +1,6 @@
 -- A text that stays as it is has no word that is decoded.
 use Rattle.std.proofs.Common.{◌≡◌, ◌==◌, ◌&&◌, ℕ, Bool, true, false, List, [], ◌∷◌, ◌++◌, refl, ap, sym, ◌∙◌, inl, inr, None, append-nil, subst}
-use Rattle.std.specs.List.{list_all, flat_map, onto_first}
+use Rattle.std.specs.List.{list_all, onto_first}
 use Rattle.std.specs.Str.{bytes_eq}
 use Rattle.std.proofs.lemmas.Bool.{cases_Bool, and_parts, and_left, and_right, or_parts}
 use Rattle.mk_line.specs.Ascii.{is_blank}
@@ -8,13 +8,13 @@ use Rattle.mk_line.specs.Lines.{TextLine, cut, onto_first as line_onto, ending_b
 use Rattle.mk_line.specs.declared.cutting.Ending.{Ending}
 use Rattle.mk_line.specs.declared.cutting.Ending.TheVariants.{Crlf, Lf, Missing}
 use Rattle.mk_line.proofs.Cuts.{cut_other}
-use Rattle.mk_code.specs.Ascii.{has_pair}
-use Rattle.mk_code.specs.EncodedWords.{Run, Gap, Word, run_before, runs, parts, parts_decoded, word_decoded, shown, unfolded, is_shown}
+use Rattle.mk_head.specs.Unfolding.{contents}
+use Rattle.mk_code.specs.EncodedWords.{Run, Gap, Word, run_before, runs, parts, parts_decoded, word_decoded, shown, unfolded, is_shown, has_pair}
 use Rattle.mk_code.proofs.OutputCuts.{differs, with_other}
 use Rattle.mk_code.proofs.Runs.{gap_before}
 
 -- line endings go, other bytes stay
-unfold_onto : (byte : ℕ) (ls : List TextLine) → (byte == 13) ≡ false → flat_map (λ l. l.content) (line_onto byte ls) ≡ byte ∷ flat_map (λ l. l.content) ls
+unfold_onto : (byte : ℕ) (ls : List TextLine) → (byte == 13) ≡ false → contents (line_onto byte ls) ≡ byte ∷ contents ls
 unfold_onto byte [] h = refl
 unfold_onto byte (l ∷ ls) h = rw (with_other byte l h) refl
 

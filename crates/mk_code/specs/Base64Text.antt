@@ -1,12 +1,18 @@
 -- Base64 as a transfer encoding (RFC 2045, 6.8; that what isn't a letter is skipped, that the first `=` ends the text and
 -- that padding may be missing is our own).
-use Rattle.std.specs.Prelude.{◌≡◌, ◌==◌, ◌-◌, ℕ, zero, suc, not, List, [], ◌∷◌, ◌++◌, filter, take_while}
+use Rattle.std.specs.Prelude.{◌≡◌, ◌==◌, ◌&&◌, ◌||◌, ◌-◌, ℕ, zero, suc, Bool, nat_le, not, List, [], ◌∷◌, ◌++◌, filter, take_while}
 use Rattle.base64.specs.GeneralPurpose.{IsBytes, encode_of}
 use Rattle.base64.specs.Engines.{standard, standard_no_pad}
 use Rattle.mk_line.specs.declared.cutting.Ending.{Ending}
 use Rattle.mk_line.specs.Lines.{ending_bytes}
-use Rattle.mk_code.specs.Ascii.{equals_sign, is_letter}
+use Rattle.mk_line.specs.Ascii.{equals_sign}
 use Rattle.mk_code.specs.OutputLines.{widest}
+
+-- a letter of base64's alphabet (RFC 2045, 6.8)
+abbrev pub is_letter : ℕ → Bool
+is_letter byte =
+    (nat_le 65 byte && nat_le byte 90) || (nat_le 97 byte && nat_le byte 122) || (nat_le 48 byte && nat_le byte 57)
+    || byte == 43 || byte == 47
 
 -- the letters before the first `=`
 abbrev pub letters : List ℕ → List ℕ

@@ -6,14 +6,21 @@ use Rattle.std.specs.Str.{bytes_eq, str_to_ascii_lowercase}
 use Rattle.base64.specs.GeneralPurpose.{encode_of, decoded_of}
 use Rattle.base64.specs.Engines.{standard, standard_no_pad}
 use Rattle.mk_line.specs.declared.cutting.Ending.{Ending}
-use Rattle.mk_line.specs.Ascii.{is_blank, space}
+use Rattle.mk_line.specs.Ascii.{is_blank, space, equals_sign, question_mark, underscore}
 use Rattle.mk_line.specs.Lines.{cut, ending_bytes}
-use Rattle.mk_code.specs.Ascii.{equals_sign, question_mark, underscore, is_letter, has_pair}
+use Rattle.mk_head.specs.Unfolding.{contents}
+use Rattle.mk_code.specs.Base64Text.{is_letter}
 use Rattle.mk_code.specs.QuotedPrintable.{is_hex_digit, pair_value}
+
+-- these two bytes stand side by side
+abbrev pub has_pair : ℕ → ℕ → List ℕ → Bool
+has_pair first second [] = false
+has_pair first second (byte ∷ []) = false
+has_pair first second (byte ∷ next ∷ bytes) = (byte == first && next == second) || has_pair first second (next ∷ bytes)
 
 -- a value without its line endings (RFC 5322, 2.2.3)
 abbrev pub unfolded : List ℕ → List ℕ
-unfolded value = flat_map (λ l. l.content) (cut value)
+unfolded value = contents (cut value)
 
 -- a run of blanks, or a word: a run of other bytes
 pub data Run : Type 0 where

@@ -1,4 +1,3 @@
-pub mod Ascii
 pub mod OutputLines
 pub mod Base64Text
 pub mod QuotedPrintable

@@ -3,10 +3,9 @@ use Rattle.std.specs.Prelude.{◌==◌, ◌&&◌, ◌||◌, ◌+◌, ◌*◌, �
 use Rattle.std.specs.List.{flat_map, join_by}
 use Rattle.mk_line.specs.declared.cutting.Ending.{Ending}
 use Rattle.mk_line.specs.declared.cutting.Ending.TheVariants.{Crlf, Lf, Missing}
-use Rattle.mk_line.specs.Ascii.{is_blank, hyphen, line_feed, carriage_return}
+use Rattle.mk_line.specs.Ascii.{is_blank, hyphen, line_feed, carriage_return, equals_sign, full_stop, capital_f}
 use Rattle.mk_line.specs.Lines.{TextLine, cut, ending_bytes, is_nil}
 use Rattle.mk_line.specs.Marks.{trimmed}
-use Rattle.mk_code.specs.Ascii.{equals_sign, full_stop, capital_f}
 use Rattle.mk_code.specs.OutputLines.{widest}
 
 -- a hexadecimal digit of either case

@@ -3,17 +3,15 @@ ghost use Rattle.std.specs.Prelude.{◌≡◌, ◌≢◌, ◌<◌, ◌≤◌, �
 ghost use Rattle.std.specs.List.{prefix_len};
 ghost use Rattle.base64.specs.GeneralPurpose.{encode_of};
 ghost use Rattle.base64.specs.Engines.{standard};
-ghost use Rattle.mk_code.specs.Ascii.{equals_sign, is_letter as letter};
-ghost use Rattle.mk_code.specs.Base64Text.{IsBase64Of, letters as letters_of, base64_encoded};
+ghost use Rattle.mk_line.specs.Ascii.{equals_sign};
+ghost use Rattle.mk_code.specs.Base64Text.{IsBase64Of, letters as letters_of, base64_encoded, is_letter as letter};
 ghost use Rattle.mk_code.specs.Contents.{IsRefused};
 ghost use Rattle.mk_head.specs.declared.encodings.Encoding.TheVariants.{Base64};
 
 use crate::decoding::CodeError;
-use crate::endings::bytes_of;
-use crate::splitting::split_once;
 use base64::DecodeAllocError;
 use base64::engine::general_purpose::{STANDARD, STANDARD_NO_PAD};
-use mk_line::Ending;
+use mk_line::{Ending, split_at_first};
 use std::alloc::{AllocError, Global};
 
 const EQUALS: u8 = b'=';
@@ -41,7 +39,7 @@ pub fn push_b64(text: &mut Vec<u8>, bytes: &[u8], eol: Ending) -> Result<(), All
 {
     let size = bytes.len() / 3 * 4;
     text.reserve(size.saturating_add(size / WIDEST * 2))?;
-    let ending = bytes_of(eol);
+    let ending = eol.bytes();
     let mut rest = bytes;
     while rest.len() > LINE_BYTES {
         let (line, more) = rest.split_at(LINE_BYTES);
@@ -94,7 +92,7 @@ fn letters(alloc: Global, text: &[u8]) -> Result<Vec<u8>, AllocError>
 fn before_equals(text: &[u8]) -> &[u8]
     ensures { result.now ≡ take_while (λ byte. not (byte == equals_sign)) text.now }
 {
-    match split_once(EQUALS, text) {
+    match split_at_first(text, EQUALS) {
         Some((front, _)) => front,
         None => text,
     }

@@ -5,22 +5,16 @@
 
 mod base64_text;
 mod decoding;
-mod endings;
 pub mod laws;
 mod one_word;
 mod qp_decoding;
 mod qp_encoding;
-mod splitting;
 mod words_decoding;
 mod words_encoding;
 
 pub use base64_text::{b64_encode, push_b64};
 pub use decoding::{CodeError, decode};
-pub use endings::bytes_of;
 pub use mk_head::Encoding;
 pub use qp_encoding::{push_qp, qp_encode};
 pub use words_decoding::words_decode;
 pub use words_encoding::words_encode;
-
-#[cfg(test)]
-mod tests;

@@ -6,9 +6,9 @@ ghost use Rattle.mk_code.specs.EncodedWords.{word_decoded, inner_decoded, text_b
 
 use crate::base64_text::letter_front;
 use crate::qp_decoding::pair;
-use crate::splitting::split_once;
 use base64::DecodeAllocError;
 use base64::engine::general_purpose::STANDARD_NO_PAD;
+use mk_line::split_at_first;
 use std::alloc::{AllocError, Global};
 
 const EQUALS: u8 = b'=';
@@ -57,10 +57,10 @@ fn split_word(word: &[u8]) -> Option<WordParts<'_>>
     ensures { MatchOption result (word_decoded word.now ≡ None)
         (λ p. word_decoded word.now ≡ inner_decoded p.charset.now p.name.now p.text.now) }
 {
-    let (start, rest) = split_once(QUESTION_MARK, word)?;
-    let (charset, rest) = split_once(QUESTION_MARK, rest)?;
-    let (name, rest) = split_once(QUESTION_MARK, rest)?;
-    let (text, end) = split_once(QUESTION_MARK, rest)?;
+    let (start, rest) = split_at_first(word, QUESTION_MARK)?;
+    let (charset, rest) = split_at_first(rest, QUESTION_MARK)?;
+    let (name, rest) = split_at_first(rest, QUESTION_MARK)?;
+    let (text, end) = split_at_first(rest, QUESTION_MARK)?;
     if start == EDGE && end == EDGE {
         Some(WordParts {
             charset,
@@ -169,7 +169,7 @@ fn in_utf8(alloc: Global, charset: &[u8], bytes: Vec<u8>) -> Result<Option<Vec<u
 fn is_ascii(bytes: &[u8]) -> bool
     ensures { result ≡ list_all (λ byte. nat_lt byte 128) bytes.now }
 {
-    bytes.iter().all(|byte| *byte < NON_ASCII)
+    bytes.iter().all(|byte| byte.is_ascii())
 }
 
 // The characters of iso-8859-1 in UTF-8.

@@ -3,9 +3,7 @@ ghost use Rattle.std.specs.Prelude.{◌≡◌, ◌<◌, ◌++◌, ◌≤◌, tru
 ghost use Rattle.mk_line.specs.Marks.{trimmed};
 ghost use Rattle.mk_code.specs.QuotedPrintable.{qp_decoded, unquoted, pair_at, is_hex_digit as hex_digit, digit_value as value_of};
 
-use crate::endings::bytes_of;
-use crate::splitting::split_once;
-use mk_line::{cut, trimmed};
+use mk_line::{cut, split_at_first, trimmed};
 use std::alloc::{AllocError, Global};
 
 const EQUALS: u8 = b'=';
@@ -19,7 +17,7 @@ pub(crate) fn decode(alloc: Global, text: &[u8]) -> Result<Vec<u8>, AllocError>
 {
     let mut out = Vec::with_capacity(alloc, text.len())?;
     for line in cut(text) {
-        push_line(&mut out, line.content, bytes_of(line.ending))?;
+        push_line(&mut out, line.content, line.ending.bytes())?;
     }
     Ok(out)
 }
@@ -29,7 +27,7 @@ fn push_line(out: &mut Vec<u8>, content: &[u8], ending: &[u8]) -> Result<(), All
     ensures { OnOk result (out.new.items ≡ out.old.items ++ unquoted ending.now (trimmed content.now)) }
 {
     let mut rest = trimmed(content);
-    while let Some((front, behind)) = split_once(EQUALS, rest) {
+    while let Some((front, behind)) = split_at_first(rest, EQUALS) {
         out.extend_from_slice(front)?;
         if behind.is_empty() {
             return Ok(());
@@ -70,10 +68,7 @@ pub(crate) fn pair(digits: &[u8]) -> Option<u8>
 fn is_hex_digit(byte: u8) -> bool
     ensures { result ≡ hex_digit byte }
 {
-    let digit = byte >= b'0' && byte <= b'9';
-    let upper_case = byte >= b'A' && byte <= b'F';
-    let lower_case = byte >= b'a' && byte <= b'f';
-    digit | upper_case | lower_case
+    byte.is_ascii_hexdigit()
 }
 
 // The low four bits of a decimal digit are its number, and those of a letter count from 1; letters have the seventh bit.

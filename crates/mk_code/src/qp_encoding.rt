@@ -7,10 +7,8 @@ ghost use Rattle.mk_code.specs.OutputLines.{widest};
 ghost use Rattle.mk_code.specs.QuotedPrintable.{qp_encoded, packed, form, limit as line_limit, is_plain, is_quiet as quiet, is_guarded as guarded, escaped, hex_digit as digit_of, logical_lines};
 ghost use Rattle.mk_line.specs.declared.cutting.Ending.TheVariants.{Crlf};
 
-use crate::endings::bytes_of;
-use crate::splitting::split_once;
 use memchr::memmem;
-use mk_line::{Ending, is_blank};
+use mk_line::{Ending, is_blank, split_at_first};
 use std::alloc::{AllocError, Global};
 
 const EQUALS: u8 = b'=';
@@ -43,7 +41,7 @@ pub fn push_qp(text: &mut Vec<u8>, bytes: &[u8], eol: Ending) -> Result<(), Allo
     ensures { OnOk result (text.new.items ≡ text.old.items ++ qp_encoded eol bytes.now) }
 {
     text.reserve(bytes.len())?;
-    let ending = bytes_of(eol);
+    let ending = eol.bytes();
     let mut rest = bytes;
     while let Some((line, behind)) = split_line(rest, eol) {
         push_packed(text, line, ending)?;
@@ -61,7 +59,7 @@ fn split_line(bytes: &[u8], eol: Ending) -> Option<(&[u8], &[u8])>
 {
     match eol {
         Ending::Crlf => split_at_crlf(bytes),
-        Ending::Lf => split_once(LINE_FEED, bytes),
+        Ending::Lf => split_at_first(bytes, LINE_FEED),
         Ending::Missing => None,
     }
 }
@@ -181,16 +179,7 @@ fn quiet_front(bytes: &[u8]) -> usize
 fn stands_plain(column: usize, byte: u8, more: &[u8]) -> bool
     ensures { result ≡ is_plain (column == 0) (is_nil more.now) byte }
 {
-    is_quiet(byte) && !(column == 0 && is_guarded(byte)) && !(is_end(more) && is_blank(byte))
-}
-
-fn is_end(more: &[u8]) -> bool
-    ensures { result ≡ is_nil more.now }
-{
-    match more {
-        [] => true,
-        _ => false,
-    }
+    is_quiet(byte) && !(column == 0 && is_guarded(byte)) && !(more.is_empty() && is_blank(byte))
 }
 
 fn is_quiet(byte: u8) -> bool

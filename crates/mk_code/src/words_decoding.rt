@@ -2,10 +2,11 @@
 ghost use Rattle.std.specs.Prelude.{◌≡◌, ◌<◌, ◌≤◌, ◌++◌, Bool, length, not, IfOk, OnOk};
 ghost use Rattle.std.specs.List.{prefix_len};
 ghost use Rattle.mk_line.specs.Ascii.{is_blank as blank};
-ghost use Rattle.mk_code.specs.EncodedWords.{words_decoded, unfolded, runs, shown, is_decoded, word_shown, gap_shown};
+ghost use Rattle.mk_code.specs.EncodedWords.{words_decoded, runs, shown, is_decoded, word_shown, gap_shown};
 
 use crate::one_word::decode_word;
-use mk_line::{cut, is_blank};
+use mk_head::without_endings;
+use mk_line::{is_blank, leading_blanks};
 use std::alloc::{AllocError, Global};
 
 /// The value with its encoded words decoded, in UTF-8 where the charset is known. Line endings are taken
@@ -13,7 +14,7 @@ use std::alloc::{AllocError, Global};
 pub fn words_decode(alloc: Global, value: &[u8]) -> Result<Vec<u8>, AllocError>
     ensures { IfOk result (λ text. text.items ≡ words_decoded value.now) }
 {
-    let line = unfold(alloc, value)?;
+    let line = without_endings(alloc, value)?;
     let mut out = Vec::with_capacity(alloc, line.len())?;
     let mut rest = line.as_slice();
     let mut after = false;
@@ -21,17 +22,6 @@ pub fn words_decode(alloc: Global, value: &[u8]) -> Result<Vec<u8>, AllocError>
         let (gap, word, behind) = split_front(rest);
         after = push_word(alloc, &mut out, after, gap, word)?;
         rest = behind;
-    }
-    Ok(out)
-}
-
-// The value without its line endings.
-fn unfold(alloc: Global, value: &[u8]) -> Result<Vec<u8>, AllocError>
-    ensures { IfOk result (λ line. line.items ≡ unfolded value.now) }
-{
-    let mut out = Vec::with_capacity(alloc, value.len())?;
-    for line in cut(value) {
-        out.extend_from_slice(line.content)?;
     }
     Ok(out)
 }
@@ -44,17 +34,9 @@ fn split_front(text: &[u8]) -> (&[u8], &[u8], &[u8])
         ++ (word_shown result.1.now ++ shown (is_decoded result.1.now) (runs result.2.now)) }
     ensures less { length result.2.now < length text.now }
 {
-    let (gap, rest) = text.split_at(blank_front(text));
+    let (gap, rest) = text.split_at(leading_blanks(text));
     let (word, behind) = rest.split_at(word_front(rest));
     (gap, word, behind)
-}
-
-// How many blanks stand in front.
-fn blank_front(text: &[u8]) -> usize
-    ensures front { result ≡ prefix_len blank text.now }
-    ensures within { result ≤ length text.now }
-{
-    text.iter().take_while(|byte| is_blank(**byte)).count()
 }
 
 // How many other bytes stand in front.

@@ -2,10 +2,9 @@
 ghost use Rattle.std.specs.Prelude.{◌≡◌, ◌≢◌, ◌<◌, ◌≤◌, ◌++◌, ◌∷◌, [], take, drop, length, IfOk, IfSome, OnOk, MatchOption};
 ghost use Rattle.std.specs.List.{prefix_len, list_all};
 ghost use Rattle.std.specs.String.{string_bytes};
-ghost use Rattle.mk_line.specs.Ascii.{space};
+ghost use Rattle.mk_line.specs.Ascii.{space, equals_sign, question_mark};
 ghost use Rattle.mk_line.specs.Lines.{ending_bytes};
-ghost use Rattle.mk_code.specs.Ascii.{has_pair, equals_sign, question_mark};
-ghost use Rattle.mk_code.specs.EncodedWords.{words_encoded, encoded_word, pieces, characters, is_continuation_byte as continues, is_shown as shown, stays as text_stays};
+ghost use Rattle.mk_code.specs.EncodedWords.{words_encoded, encoded_word, pieces, characters, is_continuation_byte as continues, is_shown as shown, stays as text_stays, has_pair};
 
 use base64::engine::general_purpose::STANDARD;
 use memchr::memmem;

@@ -2,9 +2,9 @@
 use Rattle.std.proofs.Common.{◌≡◌, Bool, true, false, Option, None, Some, Result, Ok, Err, List, refl}
 use Rattle.mk_tree.specs.Tree.{Entity}
 use Rattle.mk_tree.specs.Places.{Frame}
-use Rattle.mk_edit.specs.Edits.{Refusal}
-use Rattle.mk_edit.specs.FieldEdits.{Found}
-use Rattle.mk_edit.specs.Plans.{Plan, unless, with_field, with_place}
+use Rattle.mk_decide.specs.Edits.{Refusal}
+use Rattle.mk_decide.specs.FieldEdits.{Found}
+use Rattle.mk_decide.specs.Plans.{Plan, unless, with_field, with_place}
 
 abbrev pub Holds : (Plan → Type 0) → Result Plan Refusal → Type 0
 Holds P (Ok p) = P p

@@ -8,9 +8,9 @@ use Rattle.mk_tree.specs.Tree.{Entity, leaf, message, multi, Parts}
 use Rattle.mk_tree.specs.Sections.{Placed, boundary_in, children}
 use Rattle.mk_tree.specs.Places.{Frame, in_message, in_multi, step_to, place_at, part_at}
 use Rattle.mk_tree.proofs.Placed.{placed_in, step_placed}
-use Rattle.mk_edit.specs.Outcomes.{hit}
-use Rattle.mk_edit.specs.Around.{marks_any, hit_below, glues, or_false, glued_below}
-use Rattle.mk_edit.specs.Looks.{has_separator}
+use Rattle.mk_decide.specs.Outcomes.{hit}
+use Rattle.mk_decide.specs.Around.{marks_any, hit_below, glues, or_false, glued_below}
+use Rattle.mk_decide.specs.Looks.{has_separator}
 
 -- what a frame says of the section that it is one of
 abbrev frame_boundary : Frame → Option (List ℕ)

@@ -15,29 +15,29 @@ use Rattle.mk_tree.specs.Places.{left_at, default_at}
 use Rattle.mk_tree.specs.Locality.{open_head, BeginsPlain, FitsIn, RootFits}
 use Rattle.mk_tree.proofs.Plugs.{lines_end}
 use Rattle.mk_tree.proofs.Stability.{read_stable}
-use Rattle.mk_edit.specs.Edits.{SetBody, NotLeaf}
-use Rattle.mk_edit.specs.EditSplices.{one_splice, made_separator}
-use Rattle.mk_edit.specs.Wrapping.{separator_or}
-use Rattle.mk_edit.specs.Plans.{set_body, body_plan, planned, plan_of}
-use Rattle.mk_edit.specs.Outcomes.{hit, edited}
-use Rattle.mk_edit.specs.Local.{IsLocal}
-use Rattle.mk_edit.specs.Around.{hit_below, glued_below}
-use Rattle.mk_edit.specs.Looks.{has_separator}
-use Rattle.mk_edit.specs.LocalAnswers.{behind_first, opens_at}
-use Rattle.mk_edit.specs.SectionAnswers.{separator_bytes, body_bytes, body_place, leaf_answer, body_answer, body_answer_of}
-use Rattle.mk_edit.proofs.EveryEdit.{locality_lem, eol_closed}
-use Rattle.mk_edit.proofs.Decisions.{AnswersAs, planned_answers, fits_is, unplanned}
-use Rattle.mk_edit.proofs.AroundFrames.{frames_glued}
-use Rattle.mk_edit.proofs.FieldFits.{before_each, behind_are, glued_told}
-use Rattle.mk_edit.proofs.HeadFits.{root_told, plain_some}
-use Rattle.mk_edit.proofs.LocalLooks.{separator_there, fits_unglued, glued_head}
-use Rattle.mk_edit.proofs.Openings.{Each, each_line, each_front}
-use Rattle.mk_edit.proofs.PartChanges.{separator_line, separator_empty}
-use Rattle.mk_edit.proofs.PartsLead.{separated}
-use Rattle.mk_edit.proofs.SectionFits.{none_own}
-use Rattle.mk_edit.proofs.SiteLines.{plan_here, splices_here, opens_here, hit_here}
-use Rattle.mk_edit.proofs.PutSites.{place_found}
-use Rattle.mk_edit.proofs.SectionSites.{IsSite, site}
+use Rattle.mk_decide.specs.Edits.{SetBody, NotLeaf}
+use Rattle.mk_decide.specs.EditSplices.{one_splice, made_separator}
+use Rattle.mk_decide.specs.Wrapping.{separator_or}
+use Rattle.mk_decide.specs.Plans.{set_body, body_plan, planned, plan_of}
+use Rattle.mk_decide.specs.Outcomes.{hit, edited}
+use Rattle.mk_decide.specs.Local.{IsLocal}
+use Rattle.mk_decide.specs.Around.{hit_below, glued_below}
+use Rattle.mk_decide.specs.Looks.{has_separator}
+use Rattle.mk_decide.specs.LocalAnswers.{behind_first, opens_at}
+use Rattle.mk_decide.specs.SectionAnswers.{separator_bytes, body_bytes, body_place, leaf_answer, body_answer, body_answer_of}
+use Rattle.mk_decide.proofs.EveryEdit.{locality_lem, eol_closed}
+use Rattle.mk_decide.proofs.Decisions.{AnswersAs, planned_answers, fits_is, unplanned}
+use Rattle.mk_decide.proofs.AroundFrames.{frames_glued}
+use Rattle.mk_decide.proofs.FieldFits.{before_each, behind_are, glued_told}
+use Rattle.mk_decide.proofs.HeadFits.{root_told, plain_some}
+use Rattle.mk_decide.proofs.LocalLooks.{separator_there, fits_unglued, glued_head}
+use Rattle.mk_decide.proofs.Openings.{Each, each_line, each_front}
+use Rattle.mk_decide.proofs.PartChanges.{separator_line, separator_empty}
+use Rattle.mk_decide.proofs.PartsLead.{separated}
+use Rattle.mk_decide.proofs.SectionFits.{none_own}
+use Rattle.mk_decide.proofs.SiteLines.{plan_here, splices_here, opens_here, hit_here}
+use Rattle.mk_decide.proofs.PutSites.{place_found}
+use Rattle.mk_decide.proofs.SectionSites.{IsSite, site}
 
 regroup : (fields separator made ls : List TextLine) → (fields ++ (separator ++ made)) ++ ls ≡ (fields ++ separator) ++ (made ++ ls)
 regroup fields separator made ls = simp append_assoc refl

@@ -9,19 +9,19 @@ use Rattle.mk_line.specs.declared.cutting.Ending.TheVariants.{Crlf, Lf, Missing}
 use Rattle.mk_line.specs.declared.marks.Mark.TheVariants.{Part, Close}
 use Rattle.mk_line.specs.Ascii.{is_blank}
 use Rattle.mk_line.specs.Lines.{TextLine, text_line, is_nil, is_open, has_line_feed, ends_in_return, IsLine}
-use Rattle.mk_line.specs.Marks.{trimmed_before, trimmed, dashed, mark}
+use Rattle.mk_line.specs.Marks.{trimmed_before, trimmed, dashed, mark, delimiter_line}
 use Rattle.mk_line.proofs.Blanks.{trimmed_kept, untold}
 use Rattle.mk_head.specs.declared.encodings.Encoding.{Encoding}
 use Rattle.mk_head.specs.Split.{is_start, is_more}
 use Rattle.mk_head.specs.Fields.{continuations, field_text, is_named}
 use Rattle.mk_head.specs.Unfolding.{contents, or_nothing, value_in}
-use Rattle.mk_head.specs.Values.{behind, param_of, content_type_of}
+use Rattle.mk_line.specs.Parting.{behind}
+use Rattle.mk_head.specs.Values.{param_of, content_type_of}
 use Rattle.mk_head.specs.Types.{field_value, type_by, header_encoding, trimmed_boundary, boundary_of}
 use Rattle.mk_head.proofs.Bytes.{parameters_bytes, boundaries_trimmed}
 use Rattle.mk_tree.specs.Kinds.{Leaf, Message, Multi, has_return, has_boundary, holds_message, kind_of, kind, kind_at}
-use Rattle.mk_edit.specs.Wrapping.{delimiter_line}
-use Rattle.mk_edit.proofs.Openings.{Each}
-use Rattle.mk_edit.proofs.Renaming.{both, feed_tested}
+use Rattle.mk_decide.proofs.Openings.{Each}
+use Rattle.mk_decide.proofs.Renaming.{both, feed_tested}
 
 -- what is known of a boundary
 pub record IsBound (b : List ℕ) : Type 0 where

@@ -8,10 +8,10 @@ use Rattle.mk_line.specs.Lines.{TextLine, is_nil}
 use Rattle.mk_line.specs.Kinds.{is_past_blanks_colon}
 use Rattle.mk_head.specs.Split.{is_start}
 use Rattle.mk_head.specs.Fields.{FieldText, field_text, fields_of, is_named, counted}
-use Rattle.mk_edit.specs.FieldEdits.{starts_named, Found, found_behind, find, field_at, behind_name}
-use Rattle.mk_edit.specs.EditLaws.{IsApart, FieldsAreCounted, FieldsAreApart, NamesAreReplaced}
-use Rattle.mk_edit.proofs.Runs.{FoundIn, field_is}
-use Rattle.mk_edit.proofs.Renaming.{both, start_past, past_name}
+use Rattle.mk_decide.specs.FieldEdits.{starts_named, Found, found_behind, find, field_at, behind_name}
+use Rattle.mk_decide.specs.EditLaws.{IsApart, FieldsAreCounted, FieldsAreApart, NamesAreReplaced}
+use Rattle.mk_decide.proofs.Runs.{FoundIn, field_is}
+use Rattle.mk_decide.proofs.Renaming.{both, start_past, past_name}
 
 abbrev text_found : Option Found → Option FieldText
 text_found o = option_map (λ (f : Found). field_text f.start f.more) o

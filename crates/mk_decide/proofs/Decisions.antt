@@ -7,28 +7,27 @@ use Rattle.mk_line.specs.Lines.{eol_of}
 use Rattle.mk_tree.specs.Tree.{Entity}
 use Rattle.mk_tree.specs.Documents.{Document, IsStable, tree, printed, document_lines}
 use Rattle.mk_tree.specs.Equal.{is_stable}
-use Rattle.mk_tree.specs.Splicing.{spliced}
+use Rattle.mk_splice.specs.Splices.{spliced, Splice, forth_step}
 use Rattle.mk_tree.specs.Sections.{Placed, section_at}
 use Rattle.mk_tree.specs.Places.{Frame, placed}
 use Rattle.mk_tree.proofs.Equals.{test_stable, stable_test}
 use Rattle.mk_tree.proofs.Kept.{text_kept}
-use Rattle.mk_edit.specs.declared.splicing.Replacement.{Replacement}
-use Rattle.mk_edit.specs.declared.errors.EditError.{EditError}
-use Rattle.mk_edit.specs.Reasons.{is_open_early}
-use Rattle.mk_edit.specs.Edits.{PlainEdit, path_of, Refusal, NoSuchSection, OpenLine, Recut}
-use Rattle.mk_edit.specs.Plans.{Plan, plan_at, place_of, with_place, plan_of, planned}
-use Rattle.mk_edit.specs.Outcomes.{hit_level, unless_hit, judged, judged_by, edited}
-use Rattle.mk_edit.specs.EditLaws.{IsJudged}
-use Rattle.mk_edit.specs.Splices.{Splice, forth_step}
-use Rattle.mk_edit.specs.EditSplices.{one_splice, splices_of}
-use Rattle.mk_edit.specs.Answers.{refusal_of, IsRefusedBy}
-use Rattle.mk_edit.specs.Decided.{ChangesBy, IsDecided}
-use Rattle.mk_edit.specs.LocalAnswers.{PlainSplice, unless_recut, unless_held, answer_by, plain_splice}
-use Rattle.mk_edit.proofs.Answered.{Holds}
-use Rattle.mk_edit.proofs.Late.{IsFair, fair, told}
-use Rattle.mk_edit.proofs.Leads.{Led, leads}
-use Rattle.mk_edit.proofs.EditsLead.{edit_led}
-use Rattle.mk_edit.proofs.PlacesAgain.{section_there}
+use Rattle.mk_decide.specs.declared.deciding.Replacement.{Replacement}
+use Rattle.mk_decide.specs.declared.errors.EditError.{EditError}
+use Rattle.mk_decide.specs.Reasons.{is_open_early}
+use Rattle.mk_decide.specs.Edits.{PlainEdit, path_of, Refusal, NoSuchSection, OpenLine, Recut}
+use Rattle.mk_decide.specs.Plans.{Plan, plan_at, place_of, with_place, plan_of, planned}
+use Rattle.mk_decide.specs.Outcomes.{hit_level, unless_hit, judged, judged_by, edited}
+use Rattle.mk_decide.specs.EditLaws.{IsJudged}
+use Rattle.mk_decide.specs.EditSplices.{one_splice, splices_of}
+use Rattle.mk_decide.specs.Answers.{refusal_of, IsRefusedBy}
+use Rattle.mk_decide.specs.Decided.{ChangesBy, IsDecided}
+use Rattle.mk_decide.specs.LocalAnswers.{PlainSplice, unless_recut, unless_held, answer_by, plain_splice}
+use Rattle.mk_decide.proofs.Answered.{Holds}
+use Rattle.mk_decide.proofs.Late.{IsFair, fair, told}
+use Rattle.mk_decide.proofs.Leads.{Led, leads}
+use Rattle.mk_decide.proofs.EditsLead.{edit_led}
+use Rattle.mk_decide.proofs.PlacesAgain.{section_there}
 
 -- bytes give what is defined, and are the splice of the edit
 pub record GivenBy (e : PlainEdit) (text : List ℕ) (r : PlainSplice) (x : Result Document Refusal) : Type 0 where
@@ -85,7 +84,7 @@ led_given e text new_text t r old p l s n c =
     record {
       document = t;
       given = refl;
-      printed_so = p ∙ (sym (leads text new_text (splices_of e (tree text)) l).0 ∙ (ap (λ ss. forth_step ss text) s ∙ ap (λ k. spliced r.place k r.new text) n));
+      printed_so = p ∙ (sym (leads text new_text (splices_of e (tree text)) l).forth ∙ (ap (λ ss. forth_step ss text) s ∙ ap (λ k. spliced r.place k r.new text) n));
       splices = s ∙ ap (λ b. one_splice r.place b r.new) (sym there);
       within = within;
       changes = c within;

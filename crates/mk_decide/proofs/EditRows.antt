@@ -3,8 +3,8 @@ use Rattle.std.proofs.Common.{◌≡◌, ℕ, true, false, Result, Ok, Err, List
 use Rattle.mk_tree.specs.Documents.{Document, tree, printed}
 use Rattle.mk_tree.specs.Kinds.{kind}
 use Rattle.mk_tree.specs.Equal.{is_stable}
-use Rattle.mk_edit.specs.Edits.{PlainEdit, AddField, RemoveField, RenameField, SetField, SetBody, SetSection, InsertPart, RemovePart, Wrap, Refusal, NoSuchSection, NotMultipart, NotLeaf, NotPart, NoSuchField, BadPlace, BadField, BadName, BadBoundary, BadSubtype, OpenLine, HoldsBoundary, Recut}
-use Rattle.mk_edit.specs.Outcomes.{edited}
+use Rattle.mk_decide.specs.Edits.{PlainEdit, AddField, RemoveField, RenameField, SetField, SetBody, SetSection, InsertPart, RemovePart, Wrap, Refusal, NoSuchSection, NotMultipart, NotLeaf, NotPart, NoSuchField, BadPlace, BadField, BadName, BadBoundary, BadSubtype, OpenLine, HoldsBoundary, Recut}
+use Rattle.mk_decide.specs.Outcomes.{edited}
 
 abbrev shown : Result Document Refusal → Result (List ℕ) Refusal
 shown (Ok t) = Ok (printed t)

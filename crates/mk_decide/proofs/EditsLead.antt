@@ -10,20 +10,20 @@ use Rattle.mk_tree.specs.Documents.{Document, tree, printed, document_lines, IsS
 use Rattle.mk_tree.specs.Spans.{size}
 use Rattle.mk_tree.specs.Places.{Frame, placed}
 use Rattle.mk_tree.proofs.Kept.{text_kept}
-use Rattle.mk_edit.specs.Edits.{PlainEdit, AddField, RemoveField, RenameField, SetField, SetBody, SetSection, InsertPart, RemovePart, Wrap, path_of, Refusal, BadField, BadName, BadBoundary, BadSubtype}
-use Rattle.mk_edit.specs.FieldEdits.{Found, field_at, is_name}
-use Rattle.mk_edit.specs.Plans.{Plan, add_plan, drop_plan, rename_plan, change_plan, wrap, unless, plan_at, place_of, with_place, plan_of, planned}
-use Rattle.mk_edit.specs.Outcomes.{judged_by, edited}
-use Rattle.mk_edit.specs.Splices.{Splice}
-use Rattle.mk_edit.specs.EditSplices.{splices_in, splices_at, splices_of, for_found, one_splice}
-use Rattle.mk_edit.specs.EditLaws.{IsJudged}
-use Rattle.mk_edit.specs.Laws.{SplicesLead, EditsReadBack}
-use Rattle.mk_edit.proofs.Answered.{Holds, unless_holds, field_holds}
-use Rattle.mk_edit.proofs.Runs.{IsFound, FoundIn, field_is}
-use Rattle.mk_edit.proofs.Late.{IsFair, fair, told}
-use Rattle.mk_edit.proofs.Removing.{place_there}
-use Rattle.mk_edit.proofs.Leads.{Led, leads, IsLed, add_led, drop_led, change_led, rename_led}
-use Rattle.mk_edit.proofs.PartsLead.{wrap_led, read_led, body_led, insert_led, remove_led}
+use Rattle.mk_decide.specs.Edits.{PlainEdit, AddField, RemoveField, RenameField, SetField, SetBody, SetSection, InsertPart, RemovePart, Wrap, path_of, Refusal, BadField, BadName, BadBoundary, BadSubtype}
+use Rattle.mk_line.specs.Kinds.{is_name}
+use Rattle.mk_decide.specs.FieldEdits.{Found, field_at}
+use Rattle.mk_decide.specs.Plans.{Plan, add_plan, drop_plan, rename_plan, change_plan, wrap, unless, plan_at, place_of, with_place, plan_of, planned}
+use Rattle.mk_decide.specs.Outcomes.{judged_by, edited}
+use Rattle.mk_splice.specs.Splices.{Splice}
+use Rattle.mk_decide.specs.EditSplices.{splices_in, splices_at, splices_of, for_found, one_splice}
+use Rattle.mk_decide.specs.EditLaws.{IsJudged, SplicesLead, EditsReadBack}
+use Rattle.mk_decide.proofs.Answered.{Holds, unless_holds, field_holds}
+use Rattle.mk_decide.proofs.Runs.{IsFound, FoundIn, field_is}
+use Rattle.mk_decide.proofs.Late.{IsFair, fair, told}
+use Rattle.mk_decide.proofs.Removing.{place_there}
+use Rattle.mk_decide.proofs.Leads.{Led, leads, IsLed, add_led, drop_led, change_led, rename_led}
+use Rattle.mk_decide.proofs.PartsLead.{wrap_led, read_led, body_led, insert_led, remove_led}
 
 -- the plan of an edit at a section, and its splices there
 abbrev LedBy : PlainEdit → Ending → Option TextLine → List Frame → Entity → Plan → Type 0

@@ -9,21 +9,22 @@ use Rattle.mk_head.specs.Values.{is_token}
 use Rattle.mk_tree.specs.Tree.{Entity, field_lines}
 use Rattle.mk_tree.specs.Documents.{Document, levels, document_lines, IsStable}
 use Rattle.mk_tree.specs.Places.{Frame, left_at, default_at, put}
-use Rattle.mk_edit.specs.Reasons.{added}
-use Rattle.mk_edit.specs.Edits.{PlainEdit, AddField, RemoveField, RenameField, SetField, SetBody, SetSection, InsertPart, RemovePart, Wrap, path_of, BadField, BadName, BadBoundary, BadSubtype, Refusal}
-use Rattle.mk_edit.specs.FieldEdits.{Found, field_at, renamed, is_name}
-use Rattle.mk_edit.specs.Plans.{Plan, add_plan, drop_plan, rename_plan, change_plan, unless, wrap, plan_at, place_of, with_place, plan_of, planned}
-use Rattle.mk_edit.specs.Local.{Own, IsLocal}
-use Rattle.mk_edit.specs.EditLaws.{LocalityOfEdits}
-use Rattle.mk_edit.proofs.Answered.{Holds, unless_holds, field_holds}
-use Rattle.mk_edit.proofs.Late.{fields_fair, added_unmarked, renamed_unmarked, set_unmarked}
-use Rattle.mk_edit.proofs.Removing.{IsRemoved, removed_is, stable_there}
-use Rattle.mk_edit.proofs.Locals.{IsEdit, local_stable}
-use Rattle.mk_edit.proofs.Runs.{FoundIn, IsFound, field_is}
-use Rattle.mk_edit.proofs.FieldChanges.{FieldsEdit, fields_edit, add_new, drop_new, change_new, rename_new}
-use Rattle.mk_edit.proofs.PartChanges.{read_edit, body_edit, insert_edit}
-use Rattle.mk_edit.proofs.Typed.{may_bound}
-use Rattle.mk_edit.proofs.Wraps.{wrap_edit}
+use Rattle.mk_decide.specs.Reasons.{added}
+use Rattle.mk_decide.specs.Edits.{PlainEdit, AddField, RemoveField, RenameField, SetField, SetBody, SetSection, InsertPart, RemovePart, Wrap, path_of, BadField, BadName, BadBoundary, BadSubtype, Refusal}
+use Rattle.mk_line.specs.Kinds.{is_name}
+use Rattle.mk_decide.specs.FieldEdits.{Found, field_at, renamed}
+use Rattle.mk_decide.specs.Plans.{Plan, add_plan, drop_plan, rename_plan, change_plan, unless, wrap, plan_at, place_of, with_place, plan_of, planned}
+use Rattle.mk_decide.specs.Local.{Own, IsLocal}
+use Rattle.mk_decide.specs.EditLaws.{LocalityOfEdits}
+use Rattle.mk_decide.proofs.Answered.{Holds, unless_holds, field_holds}
+use Rattle.mk_decide.proofs.Late.{fields_fair, added_unmarked, renamed_unmarked, set_unmarked}
+use Rattle.mk_decide.proofs.Removing.{IsRemoved, removed_is, stable_there}
+use Rattle.mk_decide.proofs.Locals.{IsEdit, local_stable}
+use Rattle.mk_decide.proofs.Runs.{FoundIn, IsFound, field_is}
+use Rattle.mk_decide.proofs.FieldChanges.{FieldsEdit, fields_edit, add_new, drop_new, change_new, rename_new}
+use Rattle.mk_decide.proofs.PartChanges.{read_edit, body_edit, insert_edit}
+use Rattle.mk_decide.proofs.Typed.{may_bound}
+use Rattle.mk_decide.proofs.Wraps.{wrap_edit}
 
 -- an edit of a section shows of itself what it has to, where it is
 abbrev EditedAt : PlainEdit → Ending → List Frame → Entity → Plan → Type 0

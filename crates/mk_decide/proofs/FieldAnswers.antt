@@ -6,35 +6,36 @@ use Rattle.mk_tree.specs.Tree.{Entity, field_lines}
 use Rattle.mk_tree.specs.Documents.{Document, IsStable, levels, tree, document_lines}
 use Rattle.mk_tree.specs.Equal.{is_stable}
 use Rattle.mk_tree.specs.Spans.{size}
-use Rattle.mk_tree.specs.Splicing.{spliced, ChangesFields}
+use Rattle.mk_splice.specs.Splices.{spliced}
+use Rattle.mk_tree.specs.Splicing.{ChangesFields}
 use Rattle.mk_tree.specs.Sections.{Placed, root_of, section_at, head_text}
 use Rattle.mk_tree.specs.Places.{Frame, left_at, default_at, placed}
 use Rattle.mk_tree.proofs.Equals.{test_stable, stable_test}
 use Rattle.mk_tree.proofs.Kept.{text_kept}
 use Rattle.mk_tree.proofs.Descent.{size_append}
 use Rattle.mk_tree.proofs.Stability.{read_stable}
-use Rattle.mk_edit.specs.declared.field_edits.FieldEdit.{FieldEdit}
-use Rattle.mk_edit.specs.declared.field_edits.FieldEdit.TheVariants.{Add, Remove, Rename, Set}
-use Rattle.mk_edit.specs.declared.splicing.Replacement.{Replacement}
-use Rattle.mk_edit.specs.declared.errors.EditError.{EditError}
-use Rattle.mk_edit.specs.Reasons.{is_open_early}
-use Rattle.mk_edit.specs.Edits.{AddField, RemoveField, RenameField, SetField, Refusal, NoSuchSection}
-use Rattle.mk_edit.specs.Plans.{Plan, place_of, plan_of, planned}
-use Rattle.mk_edit.specs.Outcomes.{hit_level, unless_hit, judged, judged_by, edited}
-use Rattle.mk_edit.specs.Local.{AreFieldsFor, IsLocal}
-use Rattle.mk_edit.specs.FieldPuts.{LinePut, puts, plain_of}
-use Rattle.mk_edit.specs.Answers.{refusal_of, IsRefusedBy}
-use Rattle.mk_edit.specs.Around.{hit_below}
-use Rattle.mk_edit.specs.LocalAnswers.{PlainSplice, opens_at, fits_at, unless_recut, unless_held, answer_put, answer_puts, answer_at, answer_found, behind_first, answer, plain_splice}
-use Rattle.mk_edit.specs.Decided.{ChangesBy, IsDecided}
-use Rattle.mk_edit.proofs.EveryEdit.{locality_lem}
-use Rattle.mk_edit.proofs.PutPlans.{put_plan, plan_of_put}
-use Rattle.mk_edit.proofs.PutSites.{path_same, place_found, plan_found, opens_told, edited_is, hit_told, printed_told}
-use Rattle.mk_edit.proofs.Decisions.{GivenBy, AnswersAs, by_open, by_hit, by_fit, none_there, decided_ok, decided_err}
-use Rattle.mk_edit.proofs.PutSplices.{splices_told, splice_within}
-use Rattle.mk_edit.proofs.FieldPutFacts.{IsLinePut}
-use Rattle.mk_edit.proofs.SectionSites.{IsSite, site, head_cut}
-use Rattle.mk_edit.proofs.FieldFits.{IsPutAt, line_put, given_put, FieldsLocal, fits_told}
+use Rattle.mk_decide.specs.declared.field_edits.FieldEdit.{FieldEdit}
+use Rattle.mk_decide.specs.declared.field_edits.FieldEdit.TheVariants.{Add, Remove, Rename, Set}
+use Rattle.mk_decide.specs.declared.deciding.Replacement.{Replacement}
+use Rattle.mk_decide.specs.declared.errors.EditError.{EditError}
+use Rattle.mk_decide.specs.Reasons.{is_open_early}
+use Rattle.mk_decide.specs.Edits.{AddField, RemoveField, RenameField, SetField, Refusal, NoSuchSection}
+use Rattle.mk_decide.specs.Plans.{Plan, place_of, plan_of, planned}
+use Rattle.mk_decide.specs.Outcomes.{hit_level, unless_hit, judged, judged_by, edited}
+use Rattle.mk_decide.specs.Local.{AreFieldsFor, IsLocal}
+use Rattle.mk_decide.specs.FieldPuts.{LinePut, puts, plain_of}
+use Rattle.mk_decide.specs.Answers.{refusal_of, IsRefusedBy}
+use Rattle.mk_decide.specs.Around.{hit_below}
+use Rattle.mk_decide.specs.LocalAnswers.{PlainSplice, opens_at, fits_at, unless_recut, unless_held, answer_put, answer_puts, answer_at, answer_found, behind_first, answer, plain_splice}
+use Rattle.mk_decide.specs.Decided.{ChangesBy, IsDecided}
+use Rattle.mk_decide.proofs.EveryEdit.{locality_lem}
+use Rattle.mk_decide.proofs.PutPlans.{put_plan, plan_of_put}
+use Rattle.mk_decide.proofs.PutSites.{path_same, place_found, plan_found, opens_told, edited_is, hit_told, printed_told}
+use Rattle.mk_decide.proofs.Decisions.{GivenBy, AnswersAs, by_open, by_hit, by_fit, none_there, decided_ok, decided_err}
+use Rattle.mk_decide.proofs.PutSplices.{splices_told, splice_within}
+use Rattle.mk_decide.proofs.FieldPutFacts.{IsLinePut}
+use Rattle.mk_decide.proofs.SectionSites.{IsSite, site, head_cut}
+use Rattle.mk_decide.proofs.FieldFits.{IsPutAt, line_put, given_put, FieldsLocal, fits_told}
 
 -- an edit of fields is stable exactly where its local conditions hold
 field_law : (path : List ℕ) (edit : FieldEdit) (t : Document) (fs : List Frame) (s : Entity) (p : Plan) → IsStable t → place_of path t.root ≡ Some (fs, s) → plan_of (plain_of path edit) t ≡ Ok p

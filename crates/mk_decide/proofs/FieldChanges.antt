@@ -10,16 +10,17 @@ use Rattle.mk_tree.specs.Tree.{Entity, leaf, message, multi, print, print_parts,
 use Rattle.mk_tree.specs.Places.{Frame}
 use Rattle.mk_tree.specs.Reading.{IsWellRead}
 use Rattle.mk_tree.proofs.Plugs.{unmarked_left, unmarked_right, unmarked_join}
-use Rattle.mk_edit.specs.Reasons.{added}
-use Rattle.mk_edit.specs.FieldEdits.{Found, renamed, is_name}
-use Rattle.mk_edit.specs.Plans.{Plan, fields_plan}
-use Rattle.mk_edit.specs.Local.{AreFieldsFor}
-use Rattle.mk_edit.proofs.Openings.{Each, each_line, each_join, each_front, each_back}
-use Rattle.mk_edit.proofs.Late.{IsFair}
-use Rattle.mk_edit.proofs.Locals.{IsEdit}
-use Rattle.mk_edit.proofs.NewFields.{fields_read, read_fields}
-use Rattle.mk_edit.proofs.Runs.{run_join, one_run, added_run, IsFound, FoundIn, run_before, run_behind, run_after, run_start}
-use Rattle.mk_edit.proofs.Renaming.{renamed_start, renamed_line}
+use Rattle.mk_decide.specs.Reasons.{added}
+use Rattle.mk_line.specs.Kinds.{is_name}
+use Rattle.mk_decide.specs.FieldEdits.{Found, renamed}
+use Rattle.mk_decide.specs.Plans.{Plan, fields_plan}
+use Rattle.mk_decide.specs.Local.{AreFieldsFor}
+use Rattle.mk_decide.proofs.Openings.{Each, each_line, each_join, each_front, each_back}
+use Rattle.mk_decide.proofs.Late.{IsFair}
+use Rattle.mk_decide.proofs.Locals.{IsEdit}
+use Rattle.mk_decide.proofs.NewFields.{fields_read, read_fields}
+use Rattle.mk_decide.proofs.Runs.{run_join, one_run, added_run, IsFound, FoundIn, run_before, run_behind, run_after, run_start}
+use Rattle.mk_decide.proofs.Renaming.{renamed_start, renamed_line}
 
 -- the lines of an entity's fields, and the others
 pub fields_each : (s : Entity) → Each (print s) → Each (field_lines s)

@@ -10,7 +10,7 @@ use Rattle.mk_tree.specs.Tree.{Entity, leaf, message, multi, print, field_lines,
 use Rattle.mk_tree.specs.Documents.{IsStable, levels, tree, document_lines}
 use Rattle.mk_tree.specs.Reading.{IsWellRead}
 use Rattle.mk_tree.specs.Spans.{size}
-use Rattle.mk_tree.specs.Splicing.{spliced}
+use Rattle.mk_splice.specs.Splices.{spliced}
 use Rattle.mk_tree.specs.Sections.{Placed, root_of, head_text, body_text, body_lines}
 use Rattle.mk_tree.specs.Locality.{BeginsPlain, FitsIn, RootFits}
 use Rattle.mk_tree.specs.Places.{below, left_at, default_at, lines_before, lines_after}
@@ -19,27 +19,27 @@ use Rattle.mk_tree.proofs.Kept.{lines_kept}
 use Rattle.mk_tree.proofs.Plugs.{print_plug, fits_in_of}
 use Rattle.mk_tree.proofs.Stability.{read_stable}
 use Rattle.mk_tree.proofs.FieldsChanged.{stable_well}
-use Rattle.mk_edit.specs.declared.field_edits.FieldEdit.{FieldEdit}
-use Rattle.mk_edit.specs.Reasons.{is_open_early}
-use Rattle.mk_edit.specs.Plans.{planned}
-use Rattle.mk_edit.specs.Outcomes.{hit_level}
-use Rattle.mk_edit.specs.Local.{IsAlike, AreKept, parts_of, HeaderEnds, AreFieldsFor, IsLocal}
-use Rattle.mk_edit.specs.FieldPuts.{LinePut, puts}
-use Rattle.mk_edit.specs.Looks.{ends_there}
-use Rattle.mk_edit.specs.KindsKept.{fields_in, keeps_kinds}
-use Rattle.mk_edit.specs.Around.{glued_below}
-use Rattle.mk_edit.specs.LocalAnswers.{is_first, fits_at}
-use Rattle.mk_edit.proofs.Openings.{Each, each_line, each_front, each_back, last_open, early_join, are_lines, lines_front, some_text}
-use Rattle.mk_edit.proofs.FieldChanges.{fields_same, fields_each, run_read}
-use Rattle.mk_edit.proofs.AroundFrames.{frames_glued, glued_is}
-use Rattle.mk_edit.proofs.LocalLooks.{fits_unglued, glued_bare}
-use Rattle.mk_edit.proofs.KindsTold.{kinds_told}
-use Rattle.mk_edit.proofs.PutPlans.{lines_put, put_plan}
-use Rattle.mk_edit.proofs.FieldPutFacts.{IsLinePut, Puts, puts_is}
-use Rattle.mk_edit.proofs.SectionSites.{IsSite, head_cut}
-use Rattle.mk_edit.proofs.PutNew.{OfPut, NewOf, IsSome, given_lines, puts_new, some_new, put_text}
-use Rattle.mk_edit.proofs.SiteFacts.{as_long, level_is, own_fields, parts_read}
-use Rattle.mk_edit.proofs.HeadFits.{head_told, begins_root, root_told, first_is}
+use Rattle.mk_decide.specs.declared.field_edits.FieldEdit.{FieldEdit}
+use Rattle.mk_decide.specs.Reasons.{is_open_early}
+use Rattle.mk_decide.specs.Plans.{planned}
+use Rattle.mk_decide.specs.Outcomes.{hit_level}
+use Rattle.mk_decide.specs.Local.{IsAlike, AreKept, parts_of, HeaderEnds, AreFieldsFor, IsLocal}
+use Rattle.mk_decide.specs.FieldPuts.{LinePut, puts}
+use Rattle.mk_decide.specs.Looks.{ends_there}
+use Rattle.mk_decide.specs.KindsKept.{fields_in, keeps_kinds}
+use Rattle.mk_decide.specs.Around.{glued_below}
+use Rattle.mk_decide.specs.LocalAnswers.{is_first, fits_at}
+use Rattle.mk_decide.proofs.Openings.{Each, each_line, each_front, each_back, last_open, early_join, are_lines, lines_front, some_text}
+use Rattle.mk_decide.proofs.FieldChanges.{fields_same, fields_each, run_read}
+use Rattle.mk_decide.proofs.AroundFrames.{frames_glued, glued_is}
+use Rattle.mk_decide.proofs.LocalLooks.{fits_unglued, glued_bare}
+use Rattle.mk_decide.proofs.KindsTold.{kinds_told}
+use Rattle.mk_decide.proofs.PutPlans.{lines_put, put_plan}
+use Rattle.mk_decide.proofs.FieldPutFacts.{IsLinePut, Puts, puts_is}
+use Rattle.mk_decide.proofs.SectionSites.{IsSite, head_cut}
+use Rattle.mk_decide.proofs.PutNew.{OfPut, NewOf, IsSome, given_lines, puts_new, some_new, put_text}
+use Rattle.mk_decide.proofs.SiteFacts.{as_long, level_is, own_fields, parts_read}
+use Rattle.mk_decide.proofs.HeadFits.{head_told, begins_root, root_told, first_is}
 
 -- what an edit puts at a section
 abbrev pub IsPutAt : FieldEdit → Placed → LinePut → Type 0

@@ -11,11 +11,11 @@ use Rattle.mk_head.specs.Views.{field_view}
 use Rattle.mk_head.specs.Fields.{FieldText, continuations, field_text, fields_of, is_named}
 use Rattle.mk_head.proofs.FieldRuns.{more_start}
 use Rattle.mk_tree.specs.Spans.{size}
-use Rattle.mk_edit.specs.FieldEdits.{starts_named, Found, found_behind, find, field_at}
-use Rattle.mk_edit.specs.FieldPuts.{placed_field, raw_size, IsFieldAt}
-use Rattle.mk_edit.proofs.Runs.{belongs_start, IsFound, FoundIn, field_is}
-use Rattle.mk_edit.proofs.Openings.{lines_front}
-use Rattle.mk_edit.proofs.WrapFields.{start_more}
+use Rattle.mk_decide.specs.FieldEdits.{starts_named, Found, found_behind, find, field_at}
+use Rattle.mk_decide.specs.FieldPuts.{placed_field, raw_size, IsFieldAt}
+use Rattle.mk_decide.proofs.Runs.{belongs_start, IsFound, FoundIn, field_is}
+use Rattle.mk_decide.proofs.Openings.{lines_front}
+use Rattle.mk_decide.proofs.WrapFields.{start_more}
 
 line_first : (l : TextLine) (ls : List TextLine) → size (l ∷ ls) ≡ length (printed_line l) + size ls
 line_first l ls = length-append (printed_line l) (text_of ls)

@@ -7,14 +7,15 @@ use Rattle.mk_head.specs.Fields.{name_of, is_one_field}
 use Rattle.mk_tree.specs.Spans.{size}
 use Rattle.mk_tree.proofs.Descent.{size_append}
 use Rattle.mk_tree.proofs.Plugs.{lines_end}
-use Rattle.mk_edit.specs.declared.field_edits.FieldEdit.{FieldEdit}
-use Rattle.mk_edit.specs.declared.field_edits.FieldEdit.TheVariants.{Add, Remove, Rename, Set}
-use Rattle.mk_edit.specs.declared.field_edits.Put.{Put}
-use Rattle.mk_edit.specs.Edits.{Refusal, BadField, BadName}
-use Rattle.mk_edit.specs.FieldEdits.{Found, field_at, behind_name, renamed, is_name}
-use Rattle.mk_edit.specs.FieldPuts.{LinePut, add_put, set_put, name_put, put_unless, put_found, puts, PutsLines, IsPut}
-use Rattle.mk_edit.proofs.Runs.{IsFound, FoundIn, field_is}
-use Rattle.mk_edit.proofs.Counting.{name_before}
+use Rattle.mk_decide.specs.declared.field_edits.FieldEdit.{FieldEdit}
+use Rattle.mk_decide.specs.declared.field_edits.FieldEdit.TheVariants.{Add, Remove, Rename, Set}
+use Rattle.mk_decide.specs.declared.field_edits.Put.{Put}
+use Rattle.mk_decide.specs.Edits.{Refusal, BadField, BadName}
+use Rattle.mk_line.specs.Kinds.{is_name}
+use Rattle.mk_decide.specs.FieldEdits.{Found, field_at, behind_name, renamed}
+use Rattle.mk_decide.specs.FieldPuts.{LinePut, add_put, set_put, name_put, put_unless, put_found, puts, PutsLines, IsPut}
+use Rattle.mk_decide.proofs.Runs.{IsFound, FoundIn, field_is}
+use Rattle.mk_decide.proofs.Counting.{name_before}
 
 pub record IsLinePut (fields : List TextLine) (q : LinePut) : Type 0 where
   pub gone : List ℕ

@@ -5,11 +5,11 @@ use Rattle.mk_line.specs.Lines.{TextLine, cut, text_of, printed_line, ending_byt
 use Rattle.mk_line.proofs.Cuts.{text_cut, append_nil}
 use Rattle.mk_head.specs.Fields.{FieldText, name_of}
 use Rattle.mk_tree.specs.Spans.{size}
-use Rattle.mk_edit.specs.declared.field_edits.Put.{Put}
-use Rattle.mk_edit.specs.Edits.{Refusal, NoSuchField}
-use Rattle.mk_edit.specs.FieldEdits.{Found, behind_name, renamed}
-use Rattle.mk_edit.specs.FieldPuts.{LinePut, add_put, set_put, name_put, put_unless, put_found, PutsLines, IsPut, IsFieldAt, first_line_size, behind_field_name}
-use Rattle.mk_edit.proofs.Counting.{name_before}
+use Rattle.mk_decide.specs.declared.field_edits.Put.{Put}
+use Rattle.mk_decide.specs.Edits.{Refusal, NoSuchField}
+use Rattle.mk_decide.specs.FieldEdits.{Found, behind_name, renamed}
+use Rattle.mk_decide.specs.FieldPuts.{LinePut, add_put, set_put, name_put, put_unless, put_found, PutsLines, IsPut, IsFieldAt, first_line_size, behind_field_name}
+use Rattle.mk_decide.proofs.Counting.{name_before}
 
 pub put_by : (r : Put) (x y : Result LinePut Refusal) → y ≡ x → IsPut r x → IsPut r y
 put_by r x y e h = subst (IsPut r) (sym e) h

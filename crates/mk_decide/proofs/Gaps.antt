@@ -9,9 +9,9 @@ use Rattle.mk_tree.specs.Tree.{Entity, leaf, message, multi, Parts, no_parts, pa
 use Rattle.mk_tree.specs.Sections.{Placed, parts_placed, has_tail, children_of, body_lines, preamble_lines}
 use Rattle.mk_tree.specs.Spans.{size, digest_below}
 use Rattle.mk_tree.proofs.Descent.{size_append}
-use Rattle.mk_edit.specs.Plans.{parts_at}
-use Rattle.mk_edit.specs.EditSplices.{front_lines}
-use Rattle.mk_edit.specs.SectionAnswers.{end_of, body_place, gap_at}
+use Rattle.mk_decide.specs.Plans.{parts_at}
+use Rattle.mk_decide.specs.EditSplices.{front_lines}
+use Rattle.mk_decide.specs.SectionAnswers.{end_of, body_place, gap_at}
 
 -- a number, where there are so many parts
 abbrev pub at_parts : ℕ → Option (Parts × Parts) → Option ℕ

@@ -11,13 +11,13 @@ use Rattle.mk_tree.specs.Tree.{Entity, print}
 use Rattle.mk_tree.specs.Spans.{size}
 use Rattle.mk_tree.specs.Places.{Frame, lines_before}
 use Rattle.mk_tree.specs.Locality.{BeginsPlain, RootFits}
-use Rattle.mk_edit.specs.Local.{HeaderEnds}
-use Rattle.mk_edit.specs.Looks.{has_separator, ends_there}
-use Rattle.mk_edit.specs.LocalAnswers.{is_first}
-use Rattle.mk_edit.proofs.Openings.{Each, some_text}
-use Rattle.mk_edit.proofs.Runs.{belongs_start}
-use Rattle.mk_edit.proofs.NewFields.{ends_follow, follow_ends}
-use Rattle.mk_edit.proofs.LocalLooks.{ends_told, separator_there}
+use Rattle.mk_decide.specs.Local.{HeaderEnds}
+use Rattle.mk_decide.specs.Looks.{has_separator, ends_there}
+use Rattle.mk_decide.specs.LocalAnswers.{is_first}
+use Rattle.mk_decide.proofs.Openings.{Each, some_text}
+use Rattle.mk_decide.proofs.Runs.{belongs_start}
+use Rattle.mk_decide.proofs.NewFields.{ends_follow, follow_ends}
+use Rattle.mk_decide.proofs.LocalLooks.{ends_told, separator_there}
 
 true_false : {A : Type 0} → true ≡ false → A
 true_false e = cc

@@ -20,32 +20,32 @@ use Rattle.mk_tree.proofs.Kept.{print_read}
 use Rattle.mk_tree.proofs.Plugs.{untyped, multi_leaf, print_append, fits_in_of}
 use Rattle.mk_tree.proofs.FieldsChanged.{stable_well}
 use Rattle.mk_tree.proofs.Stability.{read_stable}
-use Rattle.mk_edit.specs.Edits.{InsertPart, NotMultipart, BadPlace}
-use Rattle.mk_edit.specs.EditSplices.{part_splices, front_lines}
-use Rattle.mk_edit.specs.Wrapping.{delimiter_line}
-use Rattle.mk_edit.specs.Plans.{insert, insert_between, part_plan, part_read, parts_at, planned, plan_of}
-use Rattle.mk_edit.specs.Outcomes.{has_mark, hit, or_own, edited}
-use Rattle.mk_edit.specs.Local.{HeaderEnds, IsLocal}
-use Rattle.mk_edit.specs.Around.{hit_below}
-use Rattle.mk_edit.specs.Looks.{has_separator}
-use Rattle.mk_edit.specs.LocalAnswers.{behind_first, opens_at}
-use Rattle.mk_edit.specs.SectionAnswers.{body_place, part_bytes, ends_at_delimiter, insertion_at, insertion_of, insertion_answer}
-use Rattle.mk_edit.proofs.EveryEdit.{locality_lem, eol_closed}
-use Rattle.mk_edit.proofs.Decisions.{AnswersAs, planned_answers, fits_is, unplanned}
-use Rattle.mk_edit.proofs.AroundFrames.{frames_glued}
-use Rattle.mk_edit.proofs.Bounds.{read_bound, delimiter_is}
-use Rattle.mk_edit.proofs.FieldFits.{entity_are, before_each}
-use Rattle.mk_edit.proofs.Gaps.{at_parts, gap_told}
-use Rattle.mk_edit.proofs.HeadFits.{root_told, plain_none}
-use Rattle.mk_edit.proofs.LocalLooks.{separator_there, fits_unglued, glued_bare}
-use Rattle.mk_edit.proofs.NewFields.{ends_follow, follow_ends}
-use Rattle.mk_edit.proofs.Openings.{Each, each_line, each_front, each_back, some_text}
-use Rattle.mk_edit.proofs.PartChanges.{Sides, sides, counted_at, print_added, print_sides}
-use Rattle.mk_edit.proofs.PartsLead.{FrontOf, front_is}
-use Rattle.mk_edit.proofs.PutSites.{place_found}
-use Rattle.mk_edit.proofs.SiteFacts.{as_long}
-use Rattle.mk_edit.proofs.SiteLines.{plan_here, splices_here, opens_here, hit_here}
-use Rattle.mk_edit.proofs.SectionSites.{IsSite, site}
+use Rattle.mk_decide.specs.Edits.{InsertPart, NotMultipart, BadPlace}
+use Rattle.mk_decide.specs.EditSplices.{part_splices, front_lines}
+use Rattle.mk_line.specs.Marks.{delimiter_line}
+use Rattle.mk_decide.specs.Plans.{insert, insert_between, part_plan, part_read, parts_at, planned, plan_of}
+use Rattle.mk_decide.specs.Outcomes.{has_mark, hit, or_own, edited}
+use Rattle.mk_decide.specs.Local.{HeaderEnds, IsLocal}
+use Rattle.mk_decide.specs.Around.{hit_below}
+use Rattle.mk_decide.specs.Looks.{has_separator}
+use Rattle.mk_decide.specs.LocalAnswers.{behind_first, opens_at}
+use Rattle.mk_decide.specs.SectionAnswers.{body_place, part_bytes, ends_at_delimiter, insertion_at, insertion_of, insertion_answer}
+use Rattle.mk_decide.proofs.EveryEdit.{locality_lem, eol_closed}
+use Rattle.mk_decide.proofs.Decisions.{AnswersAs, planned_answers, fits_is, unplanned}
+use Rattle.mk_decide.proofs.AroundFrames.{frames_glued}
+use Rattle.mk_decide.proofs.Bounds.{read_bound, delimiter_is}
+use Rattle.mk_decide.proofs.FieldFits.{entity_are, before_each}
+use Rattle.mk_decide.proofs.Gaps.{at_parts, gap_told}
+use Rattle.mk_decide.proofs.HeadFits.{root_told, plain_none}
+use Rattle.mk_decide.proofs.LocalLooks.{separator_there, fits_unglued, glued_bare}
+use Rattle.mk_decide.proofs.NewFields.{ends_follow, follow_ends}
+use Rattle.mk_decide.proofs.Openings.{Each, each_line, each_front, each_back, some_text}
+use Rattle.mk_decide.proofs.PartChanges.{Sides, sides, counted_at, print_added, print_sides}
+use Rattle.mk_decide.proofs.PartsLead.{FrontOf, front_is}
+use Rattle.mk_decide.proofs.PutSites.{place_found}
+use Rattle.mk_decide.proofs.SiteFacts.{as_long}
+use Rattle.mk_decide.proofs.SiteLines.{plan_here, splices_here, opens_here, hit_here}
+use Rattle.mk_decide.proofs.SectionSites.{IsSite, site}
 
 true_false : {A : Type 0} → true ≡ false → A
 true_false e = cc

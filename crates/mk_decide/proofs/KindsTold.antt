@@ -10,9 +10,9 @@ use Rattle.mk_tree.specs.Sections.{Placed, parts_placed, has_part, has_tail}
 use Rattle.mk_tree.specs.Documents.{levels}
 use Rattle.mk_tree.specs.Places.{below}
 use Rattle.mk_head.specs.Split.{Head, head_lines}
-use Rattle.mk_edit.specs.Local.{IsAlike, AreKept, parts_of}
-use Rattle.mk_edit.specs.KindsKept.{fields_in, is_alike, keeps_default, all_keep, parts_keep, kept_below, keeps_kinds}
-use Rattle.mk_edit.proofs.NewFields.{kind_at_other}
+use Rattle.mk_decide.specs.Local.{IsAlike, AreKept, parts_of}
+use Rattle.mk_decide.specs.KindsKept.{fields_in, is_alike, keeps_default, all_keep, parts_keep, kept_below, keeps_kinds}
+use Rattle.mk_decide.proofs.NewFields.{kind_at_other}
 
 -- the kind of an entity, whose parts have a default
 abbrev pub entity_kind : Bool → Entity → Kind

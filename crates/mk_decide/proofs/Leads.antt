@@ -8,16 +8,15 @@ use Rattle.mk_tree.specs.Tree.{Entity, print, field_lines, with_fields}
 use Rattle.mk_tree.specs.Documents.{printed}
 use Rattle.mk_tree.specs.Spans.{size}
 use Rattle.mk_tree.specs.Places.{Frame, put, placed, lines_before, lines_after}
-use Rattle.mk_tree.specs.Splicing.{spliced}
+use Rattle.mk_splice.specs.Splices.{spliced, Splice, Stands, forth_step, GoesForth, LeadsTo}
+use Rattle.mk_splice.proofs.Bytes.{spliced_there, stands_there, leads_to}
 use Rattle.mk_tree.proofs.HeadChanged.{behind_fields, entity_lines, changed_lines}
 use Rattle.mk_tree.proofs.Plugs.{lines_end, print_plug}
-use Rattle.mk_edit.specs.FieldEdits.{Found, behind_name, renamed}
-use Rattle.mk_edit.specs.Plans.{Plan, add_plan, drop_plan, rename_plan, change_plan, planned}
-use Rattle.mk_edit.specs.Splices.{Splice, forth_step, back_step}
-use Rattle.mk_edit.specs.EditSplices.{one_splice}
-use Rattle.mk_edit.proofs.Counting.{name_before}
-use Rattle.mk_edit.proofs.Runs.{IsFound}
-use Rattle.mk_edit.proofs.PutTexts.{spliced_there}
+use Rattle.mk_decide.specs.FieldEdits.{Found, behind_name, renamed}
+use Rattle.mk_decide.specs.Plans.{Plan, add_plan, drop_plan, rename_plan, change_plan, planned}
+use Rattle.mk_decide.specs.EditSplices.{one_splice}
+use Rattle.mk_decide.proofs.Counting.{name_before}
+use Rattle.mk_decide.proofs.Runs.{IsFound}
 
 -- bytes that go and come between others
 pub record Led (text new_text : List ℕ) (ss : List Splice) : Type 0 where
@@ -29,11 +28,11 @@ pub record Led (text new_text : List ℕ) (ss : List Splice) : Type 0 where
   pub before : text ≡ front ++ (old ++ behind)
   pub after : new_text ≡ front ++ (new ++ behind)
 
-pub leads : (text new_text : List ℕ) (ss : List Splice) → Led text new_text ss → (forth_step ss text ≡ new_text) × (back_step ss new_text ≡ text)
-leads text new_text ss l = (
-  ap (λ rs. forth_step rs text) l.splices ∙ (ap (spliced (length l.front) (length l.old) l.new) l.before ∙ (spliced_there l.front l.old l.behind l.new ∙ sym l.after)),
-  ap (λ rs. back_step rs new_text) l.splices ∙ (ap (spliced (length l.front) (length l.new) l.old) l.after ∙ (spliced_there l.front l.new l.behind l.old ∙ sym l.before)),
-)
+pub leads : (text new_text : List ℕ) (ss : List Splice) → Led text new_text ss → LeadsTo ss text new_text
+leads text new_text ss l =
+    let stands : GoesForth (one_splice (length l.front) l.old l.new) text = (subst (Stands (length l.front) l.old) (sym l.before) (stands_there l.front l.old l.behind), tt) in
+    leads_to ss text new_text (subst (λ rs. GoesForth rs text) (sym l.splices) stands)
+    (ap (λ rs. forth_step rs text) l.splices ∙ (ap (spliced (length l.front) (length l.old) l.new) l.before ∙ (spliced_there l.front l.old l.behind l.new ∙ sym l.after)))
 
 -- the same between the lines of a section
 pub record Within (s n : Entity) (at : ℕ) (old new : List ℕ) : Type 0 where

@@ -12,22 +12,22 @@ use Rattle.mk_tree.specs.Documents.{tree, document_lines}
 use Rattle.mk_tree.specs.Spans.{size, digest_below}
 use Rattle.mk_tree.specs.Sections.{Placed, parts_placed, has_tail, section_at, head_text}
 use Rattle.mk_tree.specs.Places.{default_at}
-use Rattle.mk_edit.specs.declared.field_edits.FieldEdit.{FieldEdit}
-use Rattle.mk_edit.specs.declared.field_edits.FieldEdit.TheVariants.{Add, Remove, Rename, Set}
-use Rattle.mk_edit.specs.Edits.{Refusal}
-use Rattle.mk_edit.specs.Plans.{Plan, place_of}
-use Rattle.mk_edit.specs.Local.{parts_of}
-use Rattle.mk_edit.specs.FieldPuts.{LinePut, puts, plain_of}
-use Rattle.mk_edit.specs.KindsKept.{is_alike, is_other, lines_of_others, lines_alike, looked_below}
-use Rattle.mk_edit.specs.LocalAnswers.{opens_at, looked_bytes, looked_put, looked_at, looked_found, looked}
-use Rattle.mk_edit.specs.Counts.{part_lines, default_lines, section_lines, planned_lines, place_lines, edit_lines}
-use Rattle.mk_edit.proofs.Openings.{lines_front}
-use Rattle.mk_edit.proofs.PutPlans.{lines_put, put_plan, plan_of_put, plan_is}
-use Rattle.mk_edit.proofs.PutSites.{path_same, place_found, opens_told}
-use Rattle.mk_edit.proofs.SectionSites.{IsSite, site, head_cut}
-use Rattle.mk_edit.proofs.SiteFacts.{entity_fields}
-use Rattle.mk_edit.proofs.FieldChanges.{fields_same}
-use Rattle.mk_edit.proofs.FieldFits.{IsPutAt, line_put, given_put, entity_are, put_head, fields_put}
+use Rattle.mk_decide.specs.declared.field_edits.FieldEdit.{FieldEdit}
+use Rattle.mk_decide.specs.declared.field_edits.FieldEdit.TheVariants.{Add, Remove, Rename, Set}
+use Rattle.mk_decide.specs.Edits.{Refusal}
+use Rattle.mk_decide.specs.Plans.{Plan, place_of}
+use Rattle.mk_decide.specs.Local.{parts_of}
+use Rattle.mk_decide.specs.FieldPuts.{LinePut, puts, plain_of}
+use Rattle.mk_decide.specs.KindsKept.{is_alike, is_other, lines_of_others, lines_alike, looked_below}
+use Rattle.mk_decide.specs.LocalAnswers.{opens_at, looked_bytes, looked_put, looked_at, looked_found, looked}
+use Rattle.mk_decide.specs.Counts.{part_lines, default_lines, section_lines, planned_lines, place_lines, edit_lines}
+use Rattle.mk_decide.proofs.Openings.{lines_front}
+use Rattle.mk_decide.proofs.PutPlans.{lines_put, put_plan, plan_of_put, plan_is}
+use Rattle.mk_decide.proofs.PutSites.{path_same, place_found, opens_told}
+use Rattle.mk_decide.proofs.SectionSites.{IsSite, site, head_cut}
+use Rattle.mk_decide.proofs.SiteFacts.{entity_fields}
+use Rattle.mk_decide.proofs.FieldChanges.{fields_same}
+use Rattle.mk_decide.proofs.FieldFits.{IsPutAt, line_put, given_put, entity_are, put_head, fields_put}
 
 zero_least : (n : ℕ) → 0 ≤ n
 zero_least n = omega arith

@@ -12,8 +12,8 @@ use Rattle.mk_tree.specs.Sections.{body_lines}
 use Rattle.mk_tree.specs.Spans.{size}
 use Rattle.mk_head.specs.Split.{option_line}
 use Rattle.mk_tree.proofs.OwnFields.{size_entity}
-use Rattle.mk_edit.proofs.Walking.{first_is, none_is, begins_far, begins_next, cut_next, line_size}
-use Rattle.mk_edit.specs.Looks.{IsNext, IsEnd, has_separator}
+use Rattle.mk_decide.proofs.Walking.{first_is, none_is, begins_far, begins_next, cut_next, line_size}
+use Rattle.mk_decide.specs.Looks.{IsNext, IsEnd, has_separator}
 
 pub ticked_most : (n m : ℕ) → m ≡ ticked n → m ≤ n + 1
 ticked_most n m e =

@@ -8,9 +8,9 @@ use Rattle.mk_head.specs.Splits.{Stops}
 use Rattle.mk_tree.specs.Tree.{Entity, entity_head, field_lines, print_parts}
 use Rattle.mk_tree.specs.Places.{Frame, in_message, in_multi, lines_before}
 use Rattle.mk_tree.specs.Locality.{BeginsPlain, open_head, Continues, FitsFrame, FitsIn}
-use Rattle.mk_edit.specs.Looks.{has_separator, ends_before}
-use Rattle.mk_edit.proofs.Openings.{Each, each_front, each_back, some_text}
-use Rattle.mk_edit.proofs.AroundFrames.{frame_glues, frames_glued}
+use Rattle.mk_decide.specs.Looks.{has_separator, ends_before}
+use Rattle.mk_decide.proofs.Openings.{Each, each_front, each_back, some_text}
+use Rattle.mk_decide.proofs.AroundFrames.{frame_glues, frames_glued}
 
 true_false : {A : Type 0} → true ≡ false → A
 true_false e = cc

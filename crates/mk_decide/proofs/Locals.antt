@@ -12,12 +12,12 @@ use Rattle.mk_tree.specs.Reading.{IsWellRead}
 use Rattle.mk_tree.proofs.WellRead.{well_read, well_of}
 use Rattle.mk_tree.proofs.Plugs.{print_plug}
 use Rattle.mk_tree.proofs.Stability.{replaced}
-use Rattle.mk_edit.specs.Plans.{Plan, planned}
-use Rattle.mk_edit.specs.Outcomes.{has_mark, hit, or_own}
-use Rattle.mk_edit.specs.Local.{IsLocal}
-use Rattle.mk_edit.proofs.Openings.{Each, each_line, each_join, each_front, each_back, are_lines}
-use Rattle.mk_edit.proofs.Marked.{none_unmarked, of_none, unmarked_both}
-use Rattle.mk_edit.proofs.Late.{IsFair, stable_closed, stable_unhit}
+use Rattle.mk_decide.specs.Plans.{Plan, planned}
+use Rattle.mk_decide.specs.Outcomes.{has_mark, hit, or_own}
+use Rattle.mk_decide.specs.Local.{IsLocal}
+use Rattle.mk_decide.proofs.Openings.{Each, each_line, each_join, each_front, each_back, are_lines}
+use Rattle.mk_decide.proofs.Marked.{none_unmarked, of_none, unmarked_both}
+use Rattle.mk_decide.proofs.Late.{IsFair, stable_closed, stable_unhit}
 
 -- what an edit of a section shows of itself, where so many levels may stand below and a missing type means a message or
 -- not; `Asked`: what it asks of its own section

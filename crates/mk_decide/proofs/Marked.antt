@@ -13,7 +13,7 @@ use Rattle.mk_tree.specs.Places.{Frame, in_message, in_multi}
 use Rattle.mk_tree.specs.Locality.{Unmarked_in}
 use Rattle.mk_tree.proofs.Plugs.{unmarked_left}
 use Rattle.mk_tree.specs.Upto.{is_mark}
-use Rattle.mk_edit.specs.Outcomes.{has_mark, hit}
+use Rattle.mk_decide.specs.Outcomes.{has_mark, hit}
 
 mark_no : (m : Mark) → is_mark m ≡ false → m ≡ No
 mark_no No h = refl

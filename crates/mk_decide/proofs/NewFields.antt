@@ -13,7 +13,7 @@ use Rattle.mk_tree.specs.Places.{below}
 use Rattle.mk_tree.specs.Locality.{first_line}
 use Rattle.mk_tree.specs.Reading.{IsWellRead, AreWellRead}
 use Rattle.mk_tree.proofs.Plugs.{ends_of, of_ends, stops_first, first_stops}
-use Rattle.mk_edit.specs.Local.{IsAlike, AreKept, HeaderEnds, AreFieldsFor}
+use Rattle.mk_decide.specs.Local.{IsAlike, AreKept, HeaderEnds, AreFieldsFor}
 
 -- a header that ends before a body
 pub ends_follow : (inside : Bool) (fields : List TextLine) (o : Option TextLine) (old new : List TextLine) → Follows inside o old → HeaderEnds fields o new → Follows (has_line fields) o new

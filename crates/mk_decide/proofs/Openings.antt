@@ -1,12 +1,11 @@
 -- Open lines: by the last byte of a text, and where lines are put between others.
-use Rattle.std.proofs.Common.{◌≡◌, ◌==◌, ◌&&◌, ◌||◌, ◌-◌, ◌<◌, ◌++◌, ℕ, suc, Bool, true, false, not, List, [], ◌∷◌, refl, ap, sym, ◌∙◌, length, slice_index, arith, length-append}
+use Rattle.std.proofs.Common.{◌≡◌, ◌==◌, ◌&&◌, ◌||◌, ◌<◌, ◌++◌, ℕ, Bool, true, false, not, List, [], ◌∷◌, refl, ap, sym, ◌∙◌, length, arith, length-append}
 use Rattle.std.proofs.lemmas.Bool.{or_parts}
 use Rattle.mk_line.specs.declared.cutting.Ending.{Ending}
 use Rattle.mk_line.specs.declared.cutting.Ending.TheVariants.{Crlf, Lf, Missing}
-use Rattle.mk_line.specs.Lines.{TextLine, text_line, ending_bytes, printed_line, text_of, is_open, is_nil, has_line_feed, IsLine, AreLines}
+use Rattle.mk_line.specs.Lines.{TextLine, text_line, ending_bytes, printed_line, text_of, is_open, is_nil, has_line_feed, IsLine, AreLines, ends_open}
 use Rattle.mk_line.proofs.Cuts.{append_nil}
-use Rattle.mk_edit.specs.Reasons.{is_open_early}
-use Rattle.mk_edit.specs.Seams.{ends_open}
+use Rattle.mk_decide.specs.Reasons.{is_open_early}
 
 abbrev pub has_line : List TextLine → Bool
 has_line [] = false
@@ -19,24 +18,15 @@ last_open (l ∷ []) = is_open l.ending
 last_open (l ∷ m ∷ ls) = last_open (m ∷ ls)
 
 -- the last byte of bytes that others stand before
-one_less : (m n : ℕ) → n ≡ m → suc m - 1 ≡ n
-one_less m n e = omega arith
-
-last_byte : (b : ℕ) (bs : List ℕ) (n : ℕ) → n ≡ length bs → slice_index (b ∷ bs) (length (b ∷ bs) - 1) ≡ slice_index (b ∷ bs) n
-last_byte b bs n e = ap (slice_index (b ∷ bs)) (one_less (length bs) n e)
-
-ends_more : (a b : ℕ) (bs : List ℕ) → ends_open (a ∷ b ∷ bs) ≡ ends_open (b ∷ bs)
-ends_more a b bs = ap (λ x. not (x == 10)) (last_byte a (b ∷ bs) (suc (length bs)) refl ∙ sym (last_byte b bs (length bs) refl))
-
 pub ends_behind : (us : List ℕ) (b : ℕ) (bs : List ℕ) → ends_open (us ++ (b ∷ bs)) ≡ ends_open (b ∷ bs)
 ends_behind [] b bs = refl
-ends_behind (a ∷ []) b bs = ends_more a b bs
-ends_behind (a ∷ c ∷ us) b bs = ends_more a c (us ++ (b ∷ bs)) ∙ ends_behind (c ∷ us) b bs
+ends_behind (a ∷ []) b bs = refl
+ends_behind (a ∷ c ∷ us) b bs = ends_behind (c ∷ us) b bs
 
 -- bytes without a line feed end open
 no_feed_open : (b : ℕ) (bs : List ℕ) → has_line_feed (b ∷ bs) ≡ false → ends_open (b ∷ bs) ≡ true
 no_feed_open b [] h = ap not (or_parts (b == 10) false h).0
-no_feed_open b (c ∷ bs) h = ends_more b c bs ∙ no_feed_open c bs (or_parts (b == 10) (has_line_feed (c ∷ bs)) h).1
+no_feed_open b (c ∷ bs) h = no_feed_open c bs (or_parts (b == 10) (has_line_feed (c ∷ bs)) h).1
 
 nil_full : {A : Type 0} → is_nil [] ≡ false → A
 nil_full e = cc

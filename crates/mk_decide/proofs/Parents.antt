@@ -6,9 +6,9 @@ use Rattle.mk_tree.specs.Tree.{Entity}
 use Rattle.mk_tree.specs.Documents.{tree}
 use Rattle.mk_tree.specs.Sections.{Placed, section_at}
 use Rattle.mk_tree.specs.Places.{Frame, step_to, place_at, placed}
-use Rattle.mk_edit.specs.SectionAnswers.{outer_path, last_number}
-use Rattle.mk_edit.proofs.PlacesAgain.{section_there}
-use Rattle.mk_edit.proofs.SectionSites.{IsSite}
+use Rattle.mk_decide.specs.SectionAnswers.{outer_path, last_number}
+use Rattle.mk_decide.proofs.PlacesAgain.{section_there}
+use Rattle.mk_decide.proofs.SectionSites.{IsSite}
 
 abbrev onto : Frame → Option (List Frame × Entity) → Option (List Frame × Entity)
 onto f o = option_map {U = List Frame × Entity} (λ (q : List Frame × Entity). (f ∷ q.0, q.1)) o

@@ -4,7 +4,7 @@ use Rattle.std.specs.Option.{option_map}
 use Rattle.mk_line.specs.declared.cutting.Ending.{Ending}
 use Rattle.mk_line.specs.declared.marks.Mark.TheVariants.{No, Part}
 use Rattle.mk_line.specs.Lines.{TextLine, cut, is_open, IsLine}
-use Rattle.mk_line.specs.Marks.{mark}
+use Rattle.mk_line.specs.Marks.{mark, delimiter_line}
 use Rattle.mk_line.proofs.Cuts.{lines_cut}
 use Rattle.mk_head.specs.Split.{Head, is_empty, head_lines, option_line}
 use Rattle.mk_head.specs.Splits.{has_line, Follows}
@@ -19,15 +19,15 @@ use Rattle.mk_tree.specs.Splicing.{part_count}
 use Rattle.mk_tree.proofs.Kept.{print_read}
 use Rattle.mk_tree.proofs.WellRead.{read_well}
 use Rattle.mk_tree.proofs.Plugs.{unmarked_left, unmarked_right, unmarked_join, print_append}
-use Rattle.mk_edit.specs.Plans.{Plan, read_plan, part_plan, part_read, set_body, insert_between, insert, parts_at}
-use Rattle.mk_edit.specs.Wrapping.{separator_or, delimiter_line}
-use Rattle.mk_edit.specs.Local.{HeaderEnds}
-use Rattle.mk_edit.proofs.Openings.{Each, each_line, each_join, each_front, each_back}
-use Rattle.mk_edit.proofs.Answered.{Holds}
-use Rattle.mk_edit.proofs.Late.{plain_fair, part_fair}
-use Rattle.mk_edit.proofs.Locals.{IsEdit}
-use Rattle.mk_edit.proofs.NewFields.{ends_follow, follow_ends}
-use Rattle.mk_edit.proofs.Bounds.{read_bound, made_line, delimiter_is, delimiter_mark}
+use Rattle.mk_decide.specs.Plans.{Plan, read_plan, part_plan, part_read, set_body, insert_between, insert, parts_at}
+use Rattle.mk_decide.specs.Wrapping.{separator_or}
+use Rattle.mk_decide.specs.Local.{HeaderEnds}
+use Rattle.mk_decide.proofs.Openings.{Each, each_line, each_join, each_front, each_back}
+use Rattle.mk_decide.proofs.Answered.{Holds}
+use Rattle.mk_decide.proofs.Late.{plain_fair, part_fair}
+use Rattle.mk_decide.proofs.Locals.{IsEdit}
+use Rattle.mk_decide.proofs.NewFields.{ends_follow, follow_ends}
+use Rattle.mk_decide.proofs.Bounds.{read_bound, made_line, delimiter_is, delimiter_mark}
 
 -- a section read from a text
 pub read_edit : (fs : List Frame) (s : Entity) (text : List ℕ) → IsEdit (left_at levels fs) (default_at false fs) s (read_plan fs (cut text)) (Unit {0})

@@ -13,14 +13,15 @@ use Rattle.mk_tree.specs.Sections.{body_lines}
 use Rattle.mk_tree.specs.Places.{Frame, in_message, in_multi, append_parts, plug_one, plug, put, placed, below, left_at, default_at, lines_before}
 use Rattle.mk_tree.proofs.Descent.{size_append}
 use Rattle.mk_tree.proofs.Kept.{print_read}
-use Rattle.mk_edit.specs.Wrapping.{separator_or, delimiter_line, wrapped}
-use Rattle.mk_edit.specs.Plans.{read_plan, plain_plan, part_read, parts_at, set_body, insert, insert_between, without, last_without, remove, wrap}
-use Rattle.mk_edit.specs.Splices.{Splice}
-use Rattle.mk_edit.specs.EditSplices.{one_splice, made_separator, front_lines, part_splices, own_delimiter}
-use Rattle.mk_edit.proofs.Answered.{Holds}
-use Rattle.mk_edit.proofs.Leads.{Led, Within, put_led, put_first, IsLed}
-use Rattle.mk_edit.proofs.PartChanges.{Sides, sides, print_added, print_sides}
-use Rattle.mk_edit.proofs.Replacing.{LastWithout, without_is}
+use Rattle.mk_line.specs.Marks.{delimiter_line}
+use Rattle.mk_decide.specs.Wrapping.{separator_or, wrapped}
+use Rattle.mk_decide.specs.Plans.{read_plan, plain_plan, part_read, parts_at, set_body, insert, insert_between, without, last_without, remove, wrap}
+use Rattle.mk_splice.specs.Splices.{Splice}
+use Rattle.mk_decide.specs.EditSplices.{one_splice, made_separator, front_lines, part_splices, own_delimiter}
+use Rattle.mk_decide.proofs.Answered.{Holds}
+use Rattle.mk_decide.proofs.Leads.{Led, Within, put_led, put_first, IsLed}
+use Rattle.mk_decide.proofs.PartChanges.{Sides, sides, print_added, print_sides}
+use Rattle.mk_decide.proofs.Replacing.{LastWithout, without_is}
 
 -- another section
 whole_within : (s n : Entity) → Within s n 0 (text_of (print s)) (text_of (print n))

@@ -8,7 +8,7 @@ use Rattle.mk_tree.specs.Documents.{Document}
 use Rattle.mk_tree.specs.Sections.{Placed, root_of, section_below, section_at}
 use Rattle.mk_tree.specs.Places.{Frame, in_multi, append_parts, plug_one, plug, part_at, step_to, place_at, placed}
 use Rattle.mk_tree.proofs.Placed.{sections_placed}
-use Rattle.mk_edit.specs.Plans.{place_of}
+use Rattle.mk_decide.specs.Plans.{place_of}
 
 -- a part in its place
 abbrev PartAgain : ℕ → Option (Parts × TextLine × Entity × Parts) → Type 0

@@ -5,19 +5,21 @@ use Rattle.mk_line.proofs.Cuts.{lines_cut}
 use Rattle.mk_head.specs.Fields.{is_one_field}
 use Rattle.mk_tree.specs.Tree.{Entity, field_lines}
 use Rattle.mk_tree.specs.Spans.{size}
-use Rattle.mk_tree.specs.Splicing.{spliced}
+use Rattle.mk_splice.specs.Splices.{spliced}
 use Rattle.mk_tree.proofs.Plugs.{lines_end}
-use Rattle.mk_edit.specs.declared.field_edits.FieldEdit.{FieldEdit}
-use Rattle.mk_edit.specs.declared.field_edits.FieldEdit.TheVariants.{Add, Remove, Rename, Set}
-use Rattle.mk_edit.specs.Edits.{Refusal, BadField, BadName}
-use Rattle.mk_edit.specs.FieldEdits.{Found, field_at, renamed, is_name}
-use Rattle.mk_edit.specs.FieldPuts.{LinePut, add_put, set_put, name_put, put_unless, put_found, puts}
-use Rattle.mk_edit.proofs.Openings.{Each}
-use Rattle.mk_edit.proofs.Runs.{IsFound, FoundIn, field_is}
-use Rattle.mk_edit.proofs.Renaming.{renamed_line}
-use Rattle.mk_edit.proofs.FieldChanges.{AreNew, add_new, drop_new, change_new, rename_new, behind_each, not_true}
-use Rattle.mk_edit.proofs.PutPlans.{lines_put}
-use Rattle.mk_edit.proofs.PutTexts.{apart, spliced_there}
+use Rattle.mk_decide.specs.declared.field_edits.FieldEdit.{FieldEdit}
+use Rattle.mk_decide.specs.declared.field_edits.FieldEdit.TheVariants.{Add, Remove, Rename, Set}
+use Rattle.mk_decide.specs.Edits.{Refusal, BadField, BadName}
+use Rattle.mk_line.specs.Kinds.{is_name}
+use Rattle.mk_decide.specs.FieldEdits.{Found, field_at, renamed}
+use Rattle.mk_decide.specs.FieldPuts.{LinePut, add_put, set_put, name_put, put_unless, put_found, puts}
+use Rattle.mk_decide.proofs.Openings.{Each}
+use Rattle.mk_decide.proofs.Runs.{IsFound, FoundIn, field_is}
+use Rattle.mk_decide.proofs.Renaming.{renamed_line}
+use Rattle.mk_decide.proofs.FieldChanges.{AreNew, add_new, drop_new, change_new, rename_new, behind_each, not_true}
+use Rattle.mk_decide.proofs.PutPlans.{lines_put}
+use Rattle.mk_splice.proofs.Bytes.{spliced_there}
+use Rattle.mk_decide.proofs.PutTexts.{apart}
 
 -- of what is put
 abbrev pub OfPut : (LinePut → Type 0) → Result LinePut Refusal → Type 0

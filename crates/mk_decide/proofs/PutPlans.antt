@@ -6,12 +6,13 @@ use Rattle.mk_head.specs.Fields.{is_one_field}
 use Rattle.mk_tree.specs.Tree.{Entity, field_lines}
 use Rattle.mk_tree.specs.Places.{Frame}
 use Rattle.mk_tree.proofs.Plugs.{lines_end}
-use Rattle.mk_edit.specs.declared.field_edits.FieldEdit.{FieldEdit}
-use Rattle.mk_edit.specs.declared.field_edits.FieldEdit.TheVariants.{Add, Remove, Rename, Set}
-use Rattle.mk_edit.specs.Edits.{Refusal, BadField, BadName}
-use Rattle.mk_edit.specs.FieldEdits.{Found, field_at, is_name}
-use Rattle.mk_edit.specs.Plans.{Plan, fields_plan, add_plan, change_plan, drop_plan, rename_plan, unless, with_field, plan_at}
-use Rattle.mk_edit.specs.FieldPuts.{LinePut, add_put, set_put, name_put, put_unless, put_found, puts, plain_of}
+use Rattle.mk_decide.specs.declared.field_edits.FieldEdit.{FieldEdit}
+use Rattle.mk_decide.specs.declared.field_edits.FieldEdit.TheVariants.{Add, Remove, Rename, Set}
+use Rattle.mk_decide.specs.Edits.{Refusal, BadField, BadName}
+use Rattle.mk_line.specs.Kinds.{is_name}
+use Rattle.mk_decide.specs.FieldEdits.{Found, field_at}
+use Rattle.mk_decide.specs.Plans.{Plan, fields_plan, add_plan, change_plan, drop_plan, rename_plan, unless, with_field, plan_at}
+use Rattle.mk_decide.specs.FieldPuts.{LinePut, add_put, set_put, name_put, put_unless, put_found, puts, plain_of}
 
 -- the lines with those put among them
 abbrev pub lines_put : LinePut → List TextLine

@@ -5,24 +5,24 @@ use Rattle.mk_tree.specs.Tree.{with_fields}
 use Rattle.mk_tree.specs.Documents.{tree, document_lines, printed}
 use Rattle.mk_tree.specs.Spans.{size}
 use Rattle.mk_tree.specs.Sections.{Placed, root_of, head_text}
-use Rattle.mk_tree.specs.Splicing.{spliced}
+use Rattle.mk_splice.specs.Splices.{spliced}
 use Rattle.mk_line.proofs.Cuts.{cut_text}
 use Rattle.mk_tree.proofs.HeadChanged.{behind_fields, changed_lines, apart}
 use Rattle.mk_tree.proofs.Descent.{size_append}
-use Rattle.mk_edit.specs.declared.field_edits.FieldEdit.{FieldEdit}
-use Rattle.mk_edit.specs.declared.field_edits.FieldEdit.TheVariants.{Add, Remove, Rename, Set}
-use Rattle.mk_edit.specs.Edits.{path_of}
-use Rattle.mk_edit.specs.Reasons.{is_open_early}
-use Rattle.mk_edit.specs.Plans.{plan_at, place_of, with_place, plan_of, planned}
-use Rattle.mk_edit.specs.Outcomes.{hit, or_own, hit_level, judged_by, edited}
-use Rattle.mk_edit.specs.FieldPuts.{LinePut, puts, plain_of}
-use Rattle.mk_edit.specs.LocalAnswers.{opens_at}
-use Rattle.mk_edit.proofs.PutPlans.{lines_put, put_plan, plan_of_put, plan_is}
-use Rattle.mk_edit.proofs.PutTexts.{opens_same, put_printed}
-use Rattle.mk_edit.proofs.AroundFrames.{hit_is}
-use Rattle.mk_edit.specs.Around.{hit_below}
-use Rattle.mk_edit.proofs.FieldPutFacts.{IsLinePut}
-use Rattle.mk_edit.proofs.SectionSites.{IsSite, front_lines, rest_lines, site_lines, head_cut}
+use Rattle.mk_decide.specs.declared.field_edits.FieldEdit.{FieldEdit}
+use Rattle.mk_decide.specs.declared.field_edits.FieldEdit.TheVariants.{Add, Remove, Rename, Set}
+use Rattle.mk_decide.specs.Edits.{path_of}
+use Rattle.mk_decide.specs.Reasons.{is_open_early}
+use Rattle.mk_decide.specs.Plans.{plan_at, place_of, with_place, plan_of, planned}
+use Rattle.mk_decide.specs.Outcomes.{hit, or_own, hit_level, judged_by, edited}
+use Rattle.mk_decide.specs.FieldPuts.{LinePut, puts, plain_of}
+use Rattle.mk_decide.specs.LocalAnswers.{opens_at}
+use Rattle.mk_decide.proofs.PutPlans.{lines_put, put_plan, plan_of_put, plan_is}
+use Rattle.mk_decide.proofs.PutTexts.{opens_same, put_printed}
+use Rattle.mk_decide.proofs.AroundFrames.{hit_is}
+use Rattle.mk_decide.specs.Around.{hit_below}
+use Rattle.mk_decide.proofs.FieldPutFacts.{IsLinePut}
+use Rattle.mk_decide.proofs.SectionSites.{IsSite, front_lines, rest_lines, site_lines, head_cut}
 
 pub path_same : (path : List ℕ) (edit : FieldEdit) → path_of (plain_of path edit) ≡ path
 path_same path (Add top text) = refl

@@ -11,20 +11,21 @@ use Rattle.mk_tree.specs.Spans.{size}
 use Rattle.mk_tree.specs.Sections.{Placed, head_text}
 use Rattle.mk_tree.specs.Places.{Frame, placed}
 use Rattle.mk_tree.proofs.Descent.{size_append}
-use Rattle.mk_edit.specs.declared.field_edits.FieldEdit.{FieldEdit}
-use Rattle.mk_edit.specs.declared.field_edits.FieldEdit.TheVariants.{Add, Remove, Rename, Set}
-use Rattle.mk_edit.specs.Edits.{Refusal, BadField, BadName}
-use Rattle.mk_edit.specs.FieldEdits.{Found, field_at, behind_name, renamed, is_name}
-use Rattle.mk_edit.specs.Plans.{place_of}
-use Rattle.mk_edit.specs.Splices.{Splice}
-use Rattle.mk_edit.specs.EditSplices.{one_splice, for_found, splices_in, splices_at, splices_of}
-use Rattle.mk_edit.specs.FieldPuts.{LinePut, add_put, set_put, name_put, put_unless, put_found, puts, plain_of}
-use Rattle.mk_edit.proofs.Counting.{name_before}
-use Rattle.mk_edit.proofs.FieldPutFacts.{IsLinePut}
-use Rattle.mk_edit.proofs.PutNew.{OfPut, unless_put}
-use Rattle.mk_edit.proofs.PutTexts.{apart}
-use Rattle.mk_edit.proofs.PutSites.{path_same, place_found, before_put, after_put, old_lines, place_is}
-use Rattle.mk_edit.proofs.SectionSites.{IsSite}
+use Rattle.mk_decide.specs.declared.field_edits.FieldEdit.{FieldEdit}
+use Rattle.mk_decide.specs.declared.field_edits.FieldEdit.TheVariants.{Add, Remove, Rename, Set}
+use Rattle.mk_decide.specs.Edits.{Refusal, BadField, BadName}
+use Rattle.mk_line.specs.Kinds.{is_name}
+use Rattle.mk_decide.specs.FieldEdits.{Found, field_at, behind_name, renamed}
+use Rattle.mk_decide.specs.Plans.{place_of}
+use Rattle.mk_splice.specs.Splices.{Splice}
+use Rattle.mk_decide.specs.EditSplices.{one_splice, for_found, splices_in, splices_at, splices_of}
+use Rattle.mk_decide.specs.FieldPuts.{LinePut, add_put, set_put, name_put, put_unless, put_found, puts, plain_of}
+use Rattle.mk_decide.proofs.Counting.{name_before}
+use Rattle.mk_decide.proofs.FieldPutFacts.{IsLinePut}
+use Rattle.mk_decide.proofs.PutNew.{OfPut, unless_put}
+use Rattle.mk_decide.proofs.PutTexts.{apart}
+use Rattle.mk_decide.proofs.PutSites.{path_same, place_found, before_put, after_put, old_lines, place_is}
+use Rattle.mk_decide.proofs.SectionSites.{IsSite}
 
 -- what stands before the bytes that stay
 front_taken : (xs ys zs : List ℕ) → zs ≡ xs ++ ys → take (length zs - length ys) zs ≡ xs

@@ -1,17 +1,17 @@
 -- The text of a document with lines put among those of a section, and whether an open line would stand early in it.
-use Rattle.std.proofs.Common.{◌≡◌, ◌==◌, ◌&&◌, ◌||◌, ◌+◌, ◌-◌, ◌<◌, ◌++◌, ℕ, Bool, true, false, List, [], ◌∷◌, refl, ap, sym, ◌∙◌, subst, length, take, drop, nat_lt, arith, inl, inr, append_assoc, length-append}
+use Rattle.std.proofs.Common.{◌≡◌, ◌==◌, ◌&&◌, ◌||◌, ◌+◌, ◌-◌, ◌<◌, ◌++◌, ℕ, Bool, true, false, List, [], ◌∷◌, refl, ap, sym, ◌∙◌, subst, length, take, nat_lt, arith, inl, inr, append_assoc, length-append}
 use Rattle.std.proofs.lemmas.Bool.{cases_Bool, or_parts, eqb-true}
-use Rattle.std.proofs.Math.Seq.{take-length, take-append_seam, drop-append_seam}
-use Rattle.mk_line.specs.Lines.{TextLine, cut, text_of, is_nil, AreLines}
+use Rattle.std.proofs.Math.Seq.{take-length, take-append_seam}
+use Rattle.mk_line.specs.Lines.{TextLine, cut, text_of, is_nil, AreLines, ends_open}
 use Rattle.mk_line.proofs.Cuts.{text_cut, lines_cut, text_append}
 use Rattle.mk_tree.specs.Spans.{size}
-use Rattle.mk_tree.specs.Splicing.{spliced}
+use Rattle.mk_splice.specs.Splices.{spliced}
+use Rattle.mk_splice.proofs.Bytes.{spliced_there}
 use Rattle.mk_tree.proofs.Descent.{size_append}
-use Rattle.mk_edit.specs.Reasons.{is_open_early}
-use Rattle.mk_edit.specs.Seams.{ends_open}
-use Rattle.mk_edit.specs.LocalAnswers.{opens_at}
-use Rattle.mk_edit.proofs.Openings.{last_open, has_line, early_join, early_none, open_text, some_text}
-use Rattle.mk_edit.proofs.OpenPlaces.{front_open, more_lines, behind_lines}
+use Rattle.mk_decide.specs.Reasons.{is_open_early}
+use Rattle.mk_decide.specs.LocalAnswers.{opens_at}
+use Rattle.mk_decide.proofs.Openings.{last_open, has_line, early_join, early_none, open_text, some_text}
+use Rattle.mk_decide.proofs.OpenPlaces.{front_open, more_lines, behind_lines}
 
 -- lines of a text, in two lists
 pub record AreClosed (xs ys : List TextLine) : Type 0 where
@@ -110,7 +110,7 @@ opens_same text xs old (g ∷ gs) ys e k =
           let none : ys ≡ [] = none_left old ys (none_behind text xs (old ++ ys) e h) in
           let all : take (size xs) text ≡ text = ap (λ n. take n text) (eqb-true (size xs) (length text) h) ∙ take-length text in
           rw h
-          (ap (λ x. nat_lt 0 (size xs) && ends_open x) (sym all) ∙ (front_open text xs (old ++ ys) e
+          (ap ends_open (sym all) ∙ (front_open text xs (old ++ ys) e
           ∙ (sym (or_none (last_open xs)) ∙ (ap (λ t. last_open xs || t) (sym (and_none (last_open (g ∷ gs)))) ∙ (ap (λ zs. last_open xs || (last_open (g ∷ gs) && has_line zs)) (sym none) ∙ sym goal)))))
       | inr h ↦
           let closed : last_open xs ≡ false = one_true (last_open xs) (has_line (old ++ ys)) (are_closed xs (old ++ ys) whole).seam (some_behind text xs (old ++ ys) e h) in
@@ -124,11 +124,6 @@ opens_same text xs old (g ∷ gs) ys e k =
 -- the text with lines in the place of others
 pub apart : (xs ys zs : List TextLine) → text_of (xs ++ (ys ++ zs)) ≡ text_of xs ++ (text_of ys ++ text_of zs)
 apart xs ys zs = text_append xs (ys ++ zs) ∙ ap (λ t. text_of xs ++ t) (text_append ys zs)
-
-pub spliced_there : (a old b new : List ℕ) → spliced (length a) (length old) new (a ++ (old ++ b)) ≡ a ++ (new ++ b)
-spliced_there a old b new =
-    ap (λ t. t ++ (new ++ drop (length a + length old) (a ++ (old ++ b)))) (take-append_seam a (old ++ b))
-    ∙ ap (λ t. a ++ (new ++ t)) (ap (λ n. drop n (a ++ (old ++ b))) (sym (length-append a old)) ∙ (ap (drop (length (a ++ old))) (sym (append_assoc a old b)) ∙ drop-append_seam (a ++ old) b))
 
 -- of which the last bytes stay
 pub put_printed : (text : List ℕ) (xs old given ys : List TextLine) (gone new kept : List ℕ) → cut text ≡ xs ++ (old ++ ys) → text_of old ≡ gone ++ kept → text_of given ≡ new ++ kept

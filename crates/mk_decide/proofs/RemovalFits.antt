@@ -11,20 +11,20 @@ use Rattle.mk_tree.specs.Places.{Frame, in_message, in_multi, append_parts, part
 use Rattle.mk_tree.specs.Splicing.{part_count}
 use Rattle.mk_tree.proofs.Descent.{size_append}
 use Rattle.mk_tree.proofs.Stability.{read_stable}
-use Rattle.mk_edit.specs.Edits.{RemovePart, NotPart}
-use Rattle.mk_edit.specs.EditSplices.{one_splice, front_lines, own_delimiter}
-use Rattle.mk_edit.specs.Plans.{plain_plan, parts_at, without, last_without, remove, plan_of, planned}
-use Rattle.mk_edit.specs.Outcomes.{edited}
-use Rattle.mk_edit.specs.SectionAnswers.{outer_path, last_number, end_of, gap_at, removal, removal_from, removal_answer}
-use Rattle.mk_edit.proofs.Decisions.{AnswersAs, accepted_answers, unplanned}
-use Rattle.mk_edit.proofs.Gaps.{at_parts, gap_told}
-use Rattle.mk_edit.proofs.Parents.{IsAround, AroundIs, around_told}
-use Rattle.mk_edit.proofs.PartChanges.{Sides, sides, counted_at}
-use Rattle.mk_edit.proofs.PartsLead.{front_of, before_join, last_delimiter}
-use Rattle.mk_edit.proofs.Removing.{IsRemoved, removed_is}
-use Rattle.mk_edit.proofs.SectionFits.{one_frame}
-use Rattle.mk_edit.proofs.SiteLines.{plan_here, splices_here}
-use Rattle.mk_edit.proofs.SectionSites.{IsSite, site}
+use Rattle.mk_decide.specs.Edits.{RemovePart, NotPart}
+use Rattle.mk_decide.specs.EditSplices.{one_splice, front_lines, own_delimiter}
+use Rattle.mk_decide.specs.Plans.{plain_plan, parts_at, without, last_without, remove, plan_of, planned}
+use Rattle.mk_decide.specs.Outcomes.{edited}
+use Rattle.mk_decide.specs.SectionAnswers.{outer_path, last_number, end_of, gap_at, removal, removal_from, removal_answer}
+use Rattle.mk_decide.proofs.Decisions.{AnswersAs, accepted_answers, unplanned}
+use Rattle.mk_decide.proofs.Gaps.{at_parts, gap_told}
+use Rattle.mk_decide.proofs.Parents.{IsAround, AroundIs, around_told}
+use Rattle.mk_decide.proofs.PartChanges.{Sides, sides, counted_at}
+use Rattle.mk_decide.proofs.PartsLead.{front_of, before_join, last_delimiter}
+use Rattle.mk_decide.proofs.Removing.{IsRemoved, removed_is}
+use Rattle.mk_decide.proofs.SectionFits.{one_frame}
+use Rattle.mk_decide.proofs.SiteLines.{plan_here, splices_here}
+use Rattle.mk_decide.proofs.SectionSites.{IsSite, site}
 
 no_step : {A : Type 0} (q : Frame × Entity) → ◌≡◌ {A = Option (Frame × Entity)} None (Some q) → A
 no_step q h = cc

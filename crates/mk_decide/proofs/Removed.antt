@@ -17,8 +17,8 @@ use Rattle.mk_tree.specs.Reading.{IsWellRead, AreWellRead}
 use Rattle.mk_tree.proofs.WellRead.{well_read, well_of}
 use Rattle.mk_tree.proofs.Plugs.{unmarked_left, unmarked_right, unmarked_join, print_append, print_plug, untyped, multi_leaf}
 use Rattle.mk_tree.proofs.Stability.{replaced, fields_plain}
-use Rattle.mk_edit.proofs.MarkLines.{part_mark, close_mark, marks_stop}
-use Rattle.mk_edit.proofs.Marked.{unmarked_given}
+use Rattle.mk_decide.proofs.MarkLines.{part_mark, close_mark, marks_stop}
+use Rattle.mk_decide.proofs.Marked.{unmarked_given}
 
 -- lines between others may go
 some_nil : {A : Type 0} (xs : List TextLine) (y : TextLine) (ys : List TextLine) → xs ++ (y ∷ ys) ≡ [] → A

@@ -6,9 +6,9 @@ use Rattle.mk_line.specs.declared.cutting.Ending.{Ending}
 use Rattle.mk_line.specs.declared.cutting.Ending.TheVariants.{Crlf, Lf, Missing}
 use Rattle.mk_line.specs.Ascii.{is_blank, is_name_byte}
 use Rattle.mk_line.specs.Lines.{TextLine, is_nil, has_line_feed, ends_in_return, EndsWell, IsLine}
-use Rattle.mk_line.specs.Kinds.{is_past_blanks_colon, is_after_name, is_field_start}
+use Rattle.mk_line.specs.Kinds.{is_past_blanks_colon, is_after_name, is_field_start, is_name}
 use Rattle.mk_head.specs.Split.{is_start}
-use Rattle.mk_edit.specs.FieldEdits.{behind_name, renamed, is_name}
+use Rattle.mk_decide.specs.FieldEdits.{behind_name, renamed}
 
 pub both : (a b : Bool) → (a && b) ≡ true → (a ≡ true) × (b ≡ true)
 both true b h = (refl, h)

@@ -7,13 +7,13 @@ use Rattle.mk_tree.specs.Documents.{Document, IsStable}
 use Rattle.mk_tree.specs.Places.{Frame, in_message, in_multi, put}
 use Rattle.mk_tree.specs.Locality.{Replaces}
 use Rattle.mk_tree.proofs.Stability.{replaced}
-use Rattle.mk_edit.specs.Edits.{PlainEdit, AddField, RemoveField, RenameField, SetField, SetBody, SetSection, InsertPart, RemovePart, Wrap, path_of}
-use Rattle.mk_edit.specs.Plans.{Plan, without, last_without, remove, place_of, plan_of, planned}
-use Rattle.mk_edit.specs.Local.{LocalConditions}
-use Rattle.mk_edit.specs.EditLaws.{IsWithoutPart, EditsAreReplacements}
-use Rattle.mk_edit.proofs.Answered.{Holds}
-use Rattle.mk_edit.proofs.Removing.{IsRemoved, removed_is, stable_there}
-use Rattle.mk_edit.proofs.EveryEdit.{plan_there, shown_there, locality_lem}
+use Rattle.mk_decide.specs.Edits.{PlainEdit, AddField, RemoveField, RenameField, SetField, SetBody, SetSection, InsertPart, RemovePart, Wrap, path_of}
+use Rattle.mk_decide.specs.Plans.{Plan, without, last_without, remove, place_of, plan_of, planned}
+use Rattle.mk_decide.specs.Local.{LocalConditions}
+use Rattle.mk_decide.specs.EditLaws.{IsWithoutPart, EditsAreReplacements}
+use Rattle.mk_decide.proofs.Answered.{Holds}
+use Rattle.mk_decide.proofs.Removing.{IsRemoved, removed_is, stable_there}
+use Rattle.mk_decide.proofs.EveryEdit.{plan_there, shown_there, locality_lem}
 
 -- the removal of a part
 abbrev pub LastWithout : List Frame → Option (List Frame × Entity) → Type 0

@@ -6,8 +6,8 @@ use Rattle.mk_line.specs.Lines.{TextLine}
 use Rattle.mk_head.specs.Split.{is_start, is_more, belongs}
 use Rattle.mk_head.specs.Splits.{IsRun}
 use Rattle.mk_head.specs.Fields.{continuations, is_one_field}
-use Rattle.mk_edit.specs.Reasons.{added}
-use Rattle.mk_edit.specs.FieldEdits.{starts_named, behind_continuations, Found, found_behind, find, field_at}
+use Rattle.mk_decide.specs.Reasons.{added}
+use Rattle.mk_decide.specs.FieldEdits.{starts_named, behind_continuations, Found, found_behind, find, field_at}
 
 or_false : (a : Bool) → (a || false) ≡ a
 or_false true = refl

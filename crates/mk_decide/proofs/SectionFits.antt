@@ -19,25 +19,25 @@ use Rattle.mk_tree.proofs.Kept.{print_read}
 use Rattle.mk_tree.proofs.Plugs.{lines_end, continues_of, of_ends, first_stops}
 use Rattle.mk_tree.proofs.Stability.{read_stable}
 use Rattle.mk_tree.proofs.WellRead.{well_of}
-use Rattle.mk_edit.specs.Edits.{SetSection}
-use Rattle.mk_edit.specs.Plans.{read_plan, planned}
-use Rattle.mk_edit.specs.Outcomes.{hit, or_own, edited}
-use Rattle.mk_edit.specs.Local.{IsLocal}
-use Rattle.mk_edit.specs.Around.{hit_below}
-use Rattle.mk_edit.specs.Looks.{has_separator}
-use Rattle.mk_edit.specs.LocalAnswers.{behind_first, opens_at}
-use Rattle.mk_edit.specs.SectionAnswers.{outer_path, last_number, runs_on, stays_behind, begins_well, stays, section_answer}
-use Rattle.mk_edit.proofs.EveryEdit.{locality_lem}
-use Rattle.mk_edit.proofs.Decisions.{AnswersAs, planned_answers, fits_is}
-use Rattle.mk_edit.proofs.FieldFits.{entity_are, nil_told, before_each}
-use Rattle.mk_edit.proofs.HeadFits.{begins_root, root_told, first_is}
-use Rattle.mk_edit.proofs.LocalLooks.{separator_there, from_none, none_from}
-use Rattle.mk_edit.proofs.Openings.{Each, each_line, each_front, each_back}
-use Rattle.mk_edit.proofs.SiteFacts.{entity_fields}
-use Rattle.mk_edit.proofs.Parents.{AroundIs, around_told}
-use Rattle.mk_edit.proofs.SiteLines.{plan_here, splices_here, opens_here, hit_here}
-use Rattle.mk_edit.proofs.PutSites.{place_found}
-use Rattle.mk_edit.proofs.SectionSites.{IsSite, site}
+use Rattle.mk_decide.specs.Edits.{SetSection}
+use Rattle.mk_decide.specs.Plans.{read_plan, planned}
+use Rattle.mk_decide.specs.Outcomes.{hit, or_own, edited}
+use Rattle.mk_decide.specs.Local.{IsLocal}
+use Rattle.mk_decide.specs.Around.{hit_below}
+use Rattle.mk_decide.specs.Looks.{has_separator}
+use Rattle.mk_decide.specs.LocalAnswers.{behind_first, opens_at}
+use Rattle.mk_decide.specs.SectionAnswers.{outer_path, last_number, runs_on, stays_behind, begins_well, stays, section_answer}
+use Rattle.mk_decide.proofs.EveryEdit.{locality_lem}
+use Rattle.mk_decide.proofs.Decisions.{AnswersAs, planned_answers, fits_is}
+use Rattle.mk_decide.proofs.FieldFits.{entity_are, nil_told, before_each}
+use Rattle.mk_decide.proofs.HeadFits.{begins_root, root_told, first_is}
+use Rattle.mk_decide.proofs.LocalLooks.{separator_there, from_none, none_from}
+use Rattle.mk_decide.proofs.Openings.{Each, each_line, each_front, each_back}
+use Rattle.mk_decide.proofs.SiteFacts.{entity_fields}
+use Rattle.mk_decide.proofs.Parents.{AroundIs, around_told}
+use Rattle.mk_decide.proofs.SiteLines.{plan_here, splices_here, opens_here, hit_here}
+use Rattle.mk_decide.proofs.PutSites.{place_found}
+use Rattle.mk_decide.proofs.SectionSites.{IsSite, site}
 
 true_false : {A : Type 0} → true ≡ false → A
 true_false e = cc

@@ -19,8 +19,8 @@ use Rattle.mk_tree.proofs.Descent.{size_append}
 use Rattle.mk_tree.proofs.Plugs.{own_of}
 use Rattle.mk_tree.proofs.Stability.{read_stable}
 use Rattle.mk_tree.proofs.FieldsChanged.{stable_well}
-use Rattle.mk_edit.proofs.FieldChanges.{run_read}
-use Rattle.mk_edit.proofs.Openings.{lines_front}
+use Rattle.mk_decide.proofs.FieldChanges.{run_read}
+use Rattle.mk_decide.proofs.Openings.{lines_front}
 
 -- a section by the numbers that lead to it
 pub record IsSite (text : List ℕ) (path : List ℕ) (p : Placed) : Type 0 where

@@ -13,12 +13,12 @@ use Rattle.mk_tree.specs.Reading.{IsWellRead, AreWellRead}
 use Rattle.mk_tree.specs.Spans.{digest_below}
 use Rattle.mk_tree.specs.Places.{Frame, step_to, place_at, below, left_at}
 use Rattle.mk_tree.proofs.HeadChanged.{behind_fields, entity_lines}
-use Rattle.mk_edit.specs.Local.{parts_of}
-use Rattle.mk_edit.specs.KindsKept.{fields_in}
-use Rattle.mk_edit.proofs.Openings.{lines_front}
-use Rattle.mk_edit.proofs.FieldChanges.{run_read}
-use Rattle.mk_edit.proofs.FieldPlaces.{run_all}
-use Rattle.mk_edit.proofs.KindsTold.{FieldsRead, IsLevel}
+use Rattle.mk_decide.specs.Local.{parts_of}
+use Rattle.mk_decide.specs.KindsKept.{fields_in}
+use Rattle.mk_decide.proofs.Openings.{lines_front}
+use Rattle.mk_decide.proofs.FieldChanges.{run_read}
+use Rattle.mk_decide.proofs.FieldPlaces.{run_all}
+use Rattle.mk_decide.proofs.KindsTold.{FieldsRead, IsLevel}
 
 -- as many frames as numbers
 abbrev LongAs : List ℕ → Option (List Frame × Entity) → Type 0

@@ -12,17 +12,17 @@ use Rattle.mk_tree.specs.Places.{placed, put, lines_before, lines_after}
 use Rattle.mk_tree.proofs.Descent.{size_append}
 use Rattle.mk_tree.proofs.Plugs.{print_plug}
 use Rattle.mk_tree.proofs.Kept.{lines_kept}
-use Rattle.mk_edit.specs.Edits.{PlainEdit, path_of}
-use Rattle.mk_edit.specs.Reasons.{is_open_early}
-use Rattle.mk_edit.specs.Plans.{place_of, with_place, plan_at, plan_of}
-use Rattle.mk_edit.specs.Outcomes.{hit}
-use Rattle.mk_edit.specs.EditSplices.{splices_in, splices_at, splices_of}
-use Rattle.mk_edit.specs.Around.{hit_below}
-use Rattle.mk_edit.specs.LocalAnswers.{opens_at}
-use Rattle.mk_edit.proofs.AroundFrames.{hit_is}
-use Rattle.mk_edit.proofs.PutSites.{place_found}
-use Rattle.mk_edit.proofs.PutTexts.{opens_same}
-use Rattle.mk_edit.proofs.SectionSites.{IsSite, site, front_lines}
+use Rattle.mk_decide.specs.Edits.{PlainEdit, path_of}
+use Rattle.mk_decide.specs.Reasons.{is_open_early}
+use Rattle.mk_decide.specs.Plans.{place_of, with_place, plan_at, plan_of}
+use Rattle.mk_decide.specs.Outcomes.{hit}
+use Rattle.mk_decide.specs.EditSplices.{splices_in, splices_at, splices_of}
+use Rattle.mk_decide.specs.Around.{hit_below}
+use Rattle.mk_decide.specs.LocalAnswers.{opens_at}
+use Rattle.mk_decide.proofs.AroundFrames.{hit_is}
+use Rattle.mk_decide.proofs.PutSites.{place_found}
+use Rattle.mk_decide.proofs.PutTexts.{opens_same}
+use Rattle.mk_decide.proofs.SectionSites.{IsSite, site, front_lines}
 
 -- the plan of an edit, and its splices, at the section
 pub plan_here : (e : PlainEdit) (text path : List ℕ) (p : Placed) (s : IsSite text path p) → path_of e ≡ path → plan_of e (tree text) ≡ plan_at e (eol_of (cut text)) s.around p.entity

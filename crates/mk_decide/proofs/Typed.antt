@@ -8,12 +8,13 @@ use Rattle.mk_line.specs.Marks.{trimmed_before, trimmed}
 use Rattle.mk_line.proofs.Blanks.{trimmed_kept}
 use Rattle.mk_line.proofs.Cuts.{append_nil}
 use Rattle.mk_head.specs.Boundaries.{is_boundary_byte, ends_in_space, is_boundary}
-use Rattle.mk_head.specs.Values.{Plain, Quoted, uncommented, push_first, pieces, before, behind, stripped, unquoted, parameter_value, lowered, parameters, is_token_byte, is_token, MediaType, media_type, typed_as, type_of_pieces, content_type_of}
+use Rattle.mk_line.specs.Parting.{before, behind}
+use Rattle.mk_head.specs.Values.{Plain, Quoted, uncommented, push_first, pieces, stripped, unquoted, parameter_value, lowered, parameters, is_token_byte, is_token, MediaType, media_type, typed_as, type_of_pieces, content_type_of}
 use Rattle.mk_head.specs.declared.encodings.Encoding.{Encoding}
 use Rattle.mk_head.specs.Types.{type_by}
 use Rattle.mk_tree.specs.Kinds.{Multi, has_return, kind_of}
-use Rattle.mk_edit.proofs.Renaming.{both, differs, feed_tested}
-use Rattle.mk_edit.proofs.Bounds.{IsBound}
+use Rattle.mk_decide.proofs.Renaming.{both, differs, feed_tested}
+use Rattle.mk_decide.proofs.Bounds.{IsBound}
 
 -- outside quotes such a byte neither opens nor ends anything, and is no blank
 abbrev Simple : List ℕ → Type 0

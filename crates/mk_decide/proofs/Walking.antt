@@ -4,7 +4,7 @@ use Rattle.std.proofs.lemmas.List.{get_or-drop}
 use Rattle.mk_line.specs.Lines.{TextLine, cut, text_of, printed_line, AreLines}
 use Rattle.mk_line.specs.Views.{BeginsLine}
 use Rattle.mk_line.proofs.Cuts.{lines_cut, cut_rest, begins_line, append_nil}
-use Rattle.mk_edit.proofs.Openings.{some_text}
+use Rattle.mk_decide.proofs.Openings.{some_text}
 
 -- lines whose first is known
 pub record First (ls : List TextLine) (l : TextLine) : Type 0 where

@@ -6,15 +6,15 @@ use Rattle.mk_head.specs.Boundaries.{is_boundary}
 use Rattle.mk_head.specs.Values.{is_token}
 use Rattle.mk_tree.specs.Documents.{tree}
 use Rattle.mk_tree.specs.Sections.{Placed, root_of, raw_of, head_text, body_text}
-use Rattle.mk_edit.specs.declared.splicing.Replacement.{Replacement}
-use Rattle.mk_edit.specs.declared.errors.EditError.{EditError}
-use Rattle.mk_edit.specs.Answers.{refusal_of, IsRefusedBy}
-use Rattle.mk_edit.specs.Around.{hit_below}
-use Rattle.mk_edit.specs.LocalAnswers.{PlainSplice, behind_first, answer_by, plain_splice}
-use Rattle.mk_edit.specs.Outcomes.{has_mark, or_own}
-use Rattle.mk_edit.specs.WrapAnswers.{content_part, other_part, version_bytes, type_bytes, delimiter_bytes, close_bytes, made_bytes, separator_text, separator_part, end_part, wrap_bytes, wrap_opens, wrap_fits, wrap_in, wrap_answer}
-use Rattle.mk_edit.proofs.WrapFits.{told_in}
-use Rattle.mk_edit.proofs.WrapPieces.{not_zero}
+use Rattle.mk_decide.specs.declared.deciding.Replacement.{Replacement}
+use Rattle.mk_decide.specs.declared.errors.EditError.{EditError}
+use Rattle.mk_decide.specs.Answers.{refusal_of, IsRefusedBy}
+use Rattle.mk_decide.specs.Around.{hit_below}
+use Rattle.mk_decide.specs.LocalAnswers.{PlainSplice, behind_first, answer_by, plain_splice}
+use Rattle.mk_decide.specs.Outcomes.{has_mark, or_own}
+use Rattle.mk_decide.specs.WrapAnswers.{content_part, other_part, version_bytes, type_bytes, delimiter_bytes, close_bytes, made_bytes, separator_text, separator_part, end_part, wrap_bytes, wrap_opens, wrap_fits, wrap_in, wrap_answer}
+use Rattle.mk_decide.proofs.WrapFits.{told_in}
+use Rattle.mk_decide.proofs.WrapPieces.{not_zero}
 
 -- the bytes of the steps
 pub record AreSteps (text numbers subtype b : List ℕ) (p : Placed) (eol : Ending) (first : Bool) (head separator body others content given version kind delimiter close : List ℕ) : Type 0 where

@@ -12,15 +12,16 @@ use Rattle.mk_tree.specs.Tree.{Entity, leaf, message, multi, no_parts}
 use Rattle.mk_tree.specs.Documents.{Document, document_lines}
 use Rattle.mk_tree.specs.Sections.{Placed, section_at, unended, content_text}
 use Rattle.mk_tree.specs.Places.{Frame, in_message, in_multi, plug, place_at, lines_after, put, placed}
-use Rattle.mk_edit.specs.Edits.{PlainEdit, Wrap, Refusal, BadBoundary, BadSubtype}
-use Rattle.mk_edit.specs.Wrapping.{ended_lines, delimiter_line, close_line, inner_part, outer_head, wrapped}
-use Rattle.mk_edit.specs.Plans.{Plan, unless, wrap, plan_at, place_of, plan_of, planned}
-use Rattle.mk_edit.specs.Outcomes.{judged_by}
-use Rattle.mk_edit.specs.EditLaws.{IsJudged, IsLeaf, WrappingKeepsContent}
-use Rattle.mk_edit.proofs.Answered.{Holds, unless_holds}
-use Rattle.mk_edit.proofs.Late.{IsFair, fair, told}
-use Rattle.mk_edit.proofs.EveryEdit.{plan_there}
-use Rattle.mk_edit.proofs.PlacesAgain.{below_place, PathAgain, path_again, section_there}
+use Rattle.mk_decide.specs.Edits.{PlainEdit, Wrap, Refusal, BadBoundary, BadSubtype}
+use Rattle.mk_line.specs.Marks.{delimiter_line, close_line}
+use Rattle.mk_decide.specs.Wrapping.{ended_lines, inner_part, outer_head, wrapped}
+use Rattle.mk_decide.specs.Plans.{Plan, unless, wrap, plan_at, place_of, plan_of, planned}
+use Rattle.mk_decide.specs.Outcomes.{judged_by}
+use Rattle.mk_decide.specs.EditLaws.{IsJudged, IsLeaf, WrappingKeepsContent}
+use Rattle.mk_decide.proofs.Answered.{Holds, unless_holds}
+use Rattle.mk_decide.proofs.Late.{IsFair, fair, told}
+use Rattle.mk_decide.proofs.EveryEdit.{plan_there}
+use Rattle.mk_decide.proofs.PlacesAgain.{below_place, PathAgain, path_again, section_there}
 
 -- an ending put behind lines and taken away again
 open_kept : (e : Ending) (content : List ℕ) → is_open e ≡ true → text_of (text_line content Missing ∷ []) ≡ text_of (text_line content e ∷ [])

@@ -8,14 +8,14 @@ use Rattle.mk_tree.specs.Tree.{print, field_lines}
 use Rattle.mk_tree.specs.Documents.{tree, document_lines}
 use Rattle.mk_tree.specs.Sections.{Placed, section_at, raw_of}
 use Rattle.mk_tree.specs.Places.{default_at}
-use Rattle.mk_edit.specs.Edits.{Wrap, BadBoundary, BadSubtype}
-use Rattle.mk_edit.specs.Wrapping.{other_fields, made_lines}
-use Rattle.mk_edit.specs.Plans.{unless, wrap}
-use Rattle.mk_edit.specs.Counts.{planned_lines, place_lines, edit_lines}
-use Rattle.mk_edit.specs.WrapAnswers.{wrap_looked}
-use Rattle.mk_edit.proofs.FieldFits.{entity_are}
-use Rattle.mk_edit.proofs.PutSites.{place_found}
-use Rattle.mk_edit.proofs.SectionSites.{IsSite, site}
+use Rattle.mk_decide.specs.Edits.{Wrap, BadBoundary, BadSubtype}
+use Rattle.mk_decide.specs.Wrapping.{other_fields, made_lines}
+use Rattle.mk_decide.specs.Plans.{unless, wrap}
+use Rattle.mk_decide.specs.Counts.{planned_lines, place_lines, edit_lines}
+use Rattle.mk_decide.specs.WrapAnswers.{wrap_looked}
+use Rattle.mk_decide.proofs.FieldFits.{entity_are}
+use Rattle.mk_decide.proofs.PutSites.{place_found}
+use Rattle.mk_decide.proofs.SectionSites.{IsSite, site}
 
 wrap_counted : (text path subtype b : List ℕ) (p : Placed) (s : IsSite text path p) → is_boundary b ≡ true → is_token subtype ≡ true
     → edit_lines (Wrap path subtype b) (tree text) ≡ length (made_lines (eol_of (document_lines (tree text))) s.around (other_fields false (field_lines p.entity)) subtype b) + length (print p.entity)

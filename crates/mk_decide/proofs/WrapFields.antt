@@ -16,10 +16,10 @@ use Rattle.mk_head.specs.Types.{field_value, header_type, header_encoding, type_
 use Rattle.mk_head.proofs.FieldRuns.{more_start}
 use Rattle.mk_tree.specs.Cutting.{Unmarked}
 use Rattle.mk_tree.specs.Kinds.{kind_of, kind, kind_at}
-use Rattle.mk_edit.specs.Wrapping.{describes_content, is_content_line, content_fields, other_fields}
-use Rattle.mk_edit.proofs.Openings.{Each}
-use Rattle.mk_edit.proofs.Runs.{run_anywhere, start_belongs}
-use Rattle.mk_edit.proofs.MarkLines.{more_dashed, first_dashed}
+use Rattle.mk_decide.specs.Wrapping.{describes_content, is_content_line, content_fields, other_fields}
+use Rattle.mk_decide.proofs.Openings.{Each}
+use Rattle.mk_decide.proofs.Runs.{run_anywhere, start_belongs}
+use Rattle.mk_decide.proofs.MarkLines.{more_dashed, first_dashed}
 
 -- whatever holds of each line of fields holds of each of both
 pub content_each : (inside : Bool) (ls : List TextLine) → Each ls → Each (content_fields inside ls)

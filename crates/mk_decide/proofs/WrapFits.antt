@@ -16,33 +16,34 @@ use Rattle.mk_tree.specs.Places.{below, left_at, default_at, lines_after}
 use Rattle.mk_tree.specs.Locality.{BeginsPlain, FitsIn, RootFits}
 use Rattle.mk_tree.proofs.Kept.{lines_kept}
 use Rattle.mk_tree.proofs.Stability.{read_stable}
-use Rattle.mk_edit.specs.Edits.{Wrap, BadBoundary, BadSubtype}
-use Rattle.mk_edit.specs.EditSplices.{one_splice}
-use Rattle.mk_edit.specs.Wrapping.{other_fields, delimiter_line, close_line, inner_part, outer_fields, made_lines, wrapped}
-use Rattle.mk_edit.specs.Plans.{unless, wrap, planned, plan_of}
-use Rattle.mk_edit.specs.Outcomes.{has_mark, hit, or_own, hit_level, edited}
-use Rattle.mk_edit.specs.Local.{WrapsWell, IsLocal}
-use Rattle.mk_edit.specs.Around.{hit_below, glued_below}
-use Rattle.mk_edit.specs.LocalAnswers.{behind_first}
-use Rattle.mk_edit.specs.WrapAnswers.{made_bytes, other_part, wrap_bytes, wrap_opens, may_end, makes_digest, fits_below, wrap_fits, wrap_in, wrap_answer}
-use Rattle.mk_edit.proofs.EveryEdit.{locality_lem, eol_closed}
-use Rattle.mk_edit.proofs.Decisions.{AnswersAs, planned_answers, fits_is, unplanned}
-use Rattle.mk_edit.proofs.AroundFrames.{frames_glued}
-use Rattle.mk_edit.proofs.BodyFits.{some_open}
-use Rattle.mk_edit.proofs.FieldChanges.{run_read}
-use Rattle.mk_edit.proofs.FieldFits.{entity_are, before_each, behind_are, body_cut, glued_told, fits_parts, parts_fit}
-use Rattle.mk_edit.proofs.HeadFits.{root_told, plain_some}
-use Rattle.mk_edit.proofs.LocalLooks.{fits_unglued, glued_head}
-use Rattle.mk_edit.proofs.PutSites.{place_found}
-use Rattle.mk_edit.proofs.SectionSites.{IsSite, site}
-use Rattle.mk_edit.proofs.SiteFacts.{as_long, left_is, level_is, own_fields, entity_fields}
-use Rattle.mk_edit.proofs.SiteLines.{plan_here, splices_here, hit_here}
-use Rattle.mk_edit.proofs.Typed.{MayBound, may_bound}
-use Rattle.mk_edit.proofs.WrapFields.{content_kind}
-use Rattle.mk_edit.proofs.WrapLooks.{StaysBelow, below_told, end_told}
-use Rattle.mk_edit.proofs.WrapOpens.{opens_told}
-use Rattle.mk_edit.proofs.WrapTexts.{bytes_told, made_told}
-use Rattle.mk_edit.proofs.Wraps.{outer_run}
+use Rattle.mk_decide.specs.Edits.{Wrap, BadBoundary, BadSubtype}
+use Rattle.mk_decide.specs.EditSplices.{one_splice}
+use Rattle.mk_line.specs.Marks.{delimiter_line, close_line}
+use Rattle.mk_decide.specs.Wrapping.{other_fields, inner_part, outer_fields, made_lines, wrapped}
+use Rattle.mk_decide.specs.Plans.{unless, wrap, planned, plan_of}
+use Rattle.mk_decide.specs.Outcomes.{has_mark, hit, or_own, hit_level, edited}
+use Rattle.mk_decide.specs.Local.{WrapsWell, IsLocal}
+use Rattle.mk_decide.specs.Around.{hit_below, glued_below}
+use Rattle.mk_decide.specs.LocalAnswers.{behind_first}
+use Rattle.mk_decide.specs.WrapAnswers.{made_bytes, other_part, wrap_bytes, wrap_opens, may_end, makes_digest, fits_below, wrap_fits, wrap_in, wrap_answer}
+use Rattle.mk_decide.proofs.EveryEdit.{locality_lem, eol_closed}
+use Rattle.mk_decide.proofs.Decisions.{AnswersAs, planned_answers, fits_is, unplanned}
+use Rattle.mk_decide.proofs.AroundFrames.{frames_glued}
+use Rattle.mk_decide.proofs.BodyFits.{some_open}
+use Rattle.mk_decide.proofs.FieldChanges.{run_read}
+use Rattle.mk_decide.proofs.FieldFits.{entity_are, before_each, behind_are, body_cut, glued_told, fits_parts, parts_fit}
+use Rattle.mk_decide.proofs.HeadFits.{root_told, plain_some}
+use Rattle.mk_decide.proofs.LocalLooks.{fits_unglued, glued_head}
+use Rattle.mk_decide.proofs.PutSites.{place_found}
+use Rattle.mk_decide.proofs.SectionSites.{IsSite, site}
+use Rattle.mk_decide.proofs.SiteFacts.{as_long, left_is, level_is, own_fields, entity_fields}
+use Rattle.mk_decide.proofs.SiteLines.{plan_here, splices_here, hit_here}
+use Rattle.mk_decide.proofs.Typed.{MayBound, may_bound}
+use Rattle.mk_decide.proofs.WrapFields.{content_kind}
+use Rattle.mk_decide.proofs.WrapLooks.{StaysBelow, below_told, end_told}
+use Rattle.mk_decide.proofs.WrapOpens.{opens_told}
+use Rattle.mk_decide.proofs.WrapTexts.{bytes_told, made_told}
+use Rattle.mk_decide.proofs.Wraps.{outer_run}
 
 -- the multipart may stand where no message without a separator is around: it has a separator, and begins with a field or
 -- with the separator

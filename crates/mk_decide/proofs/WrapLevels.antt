@@ -6,7 +6,7 @@ use Rattle.mk_tree.specs.Tree.{Entity, leaf, message, multi, Parts, no_parts, pa
 use Rattle.mk_tree.specs.Spans.{digest_below}
 use Rattle.mk_tree.specs.Places.{below}
 use Rattle.mk_tree.specs.Reading.{IsWellRead, AreWellRead}
-use Rattle.mk_edit.specs.Local.{HasLevel, FitsLevels, FitLevels}
+use Rattle.mk_decide.specs.Local.{HasLevel, FitsLevels, FitLevels}
 
 leaf_message : {A : Type 0} → Leaf ≡ Message → A
 leaf_message e = cc

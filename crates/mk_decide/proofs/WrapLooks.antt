@@ -11,14 +11,14 @@ use Rattle.mk_tree.specs.Documents.{levels}
 use Rattle.mk_tree.specs.Reading.{IsWellRead}
 use Rattle.mk_tree.specs.Sections.{Placed, body_lines}
 use Rattle.mk_tree.specs.Places.{Frame, below, lines_after}
-use Rattle.mk_edit.specs.Local.{HasLevel, FitsLevels, FitLevels, MayEnd, BodyMayEnd}
-use Rattle.mk_edit.specs.KindsKept.{fields_in}
-use Rattle.mk_edit.specs.WrapAnswers.{is_leaf, fits_levels, fit_levels, ends_in_cr, fits_below}
-use Rattle.mk_edit.proofs.Openings.{some_text}
-use Rattle.mk_edit.proofs.FieldFits.{no_text}
-use Rattle.mk_edit.proofs.KindsTold.{IsLevel, if_then, default_told}
-use Rattle.mk_edit.proofs.WrapPieces.{not_zero}
-use Rattle.mk_edit.proofs.Wraps.{ends_front}
+use Rattle.mk_decide.specs.Local.{HasLevel, FitsLevels, FitLevels, MayEnd, BodyMayEnd}
+use Rattle.mk_decide.specs.KindsKept.{fields_in}
+use Rattle.mk_decide.specs.WrapAnswers.{is_leaf, fits_levels, fit_levels, ends_in_cr, fits_below}
+use Rattle.mk_decide.proofs.Openings.{some_text}
+use Rattle.mk_decide.proofs.FieldFits.{no_text}
+use Rattle.mk_decide.proofs.KindsTold.{IsLevel, if_then, default_told}
+use Rattle.mk_decide.proofs.WrapPieces.{not_zero}
+use Rattle.mk_decide.proofs.Wraps.{ends_front}
 
 -- levels
 some_level : (k : ℕ) → (suc k == 0) ≡ false

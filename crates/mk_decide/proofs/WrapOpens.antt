@@ -3,7 +3,7 @@ use Rattle.std.proofs.Common.{◌≡◌, ◌&&◌, ◌||◌, ◌++◌, if◌then
 use Rattle.std.proofs.lemmas.Bool.{cases_Bool, or_parts}
 use Rattle.mk_line.specs.declared.cutting.Ending.{Ending}
 use Rattle.mk_line.specs.declared.cutting.Ending.TheVariants.{Crlf, Lf, Missing}
-use Rattle.mk_line.specs.Lines.{TextLine, text_line, cut, text_of, is_nil, is_open, IsLine, AreLines}
+use Rattle.mk_line.specs.Lines.{TextLine, text_line, cut, text_of, is_nil, is_open, IsLine, AreLines, ends_open}
 use Rattle.mk_line.proofs.Cuts.{text_cut, lines_cut, lines_behind}
 use Rattle.mk_head.specs.Split.{Head, head_lines, option_line}
 use Rattle.mk_head.specs.Splits.{has_line, Follows}
@@ -13,14 +13,15 @@ use Rattle.mk_tree.specs.Sections.{Placed, body_text, body_lines}
 use Rattle.mk_tree.specs.Places.{Frame, lines_after, left_at, default_at, put}
 use Rattle.mk_tree.proofs.HeadChanged.{entity_lines}
 use Rattle.mk_tree.proofs.Plugs.{lines_end}
-use Rattle.mk_edit.specs.Reasons.{is_open_early}
-use Rattle.mk_edit.specs.Seams.{ends_open}
-use Rattle.mk_edit.specs.Wrapping.{is_content_line, content_fields, other_fields, names_field, version_lines, type_line, delimiter_line, close_line, separator_or, ended_lines, inner_part, outer_fields, wrapped}
-use Rattle.mk_edit.specs.WrapAnswers.{is_leaf, wrap_opens}
-use Rattle.mk_edit.proofs.Openings.{Each, each_line, each_front, last_open, or_none, or_assoc, early_none, open_text, some_text}
-use Rattle.mk_edit.proofs.FieldFits.{split_of, no_text, behind_are}
-use Rattle.mk_edit.proofs.SectionSites.{IsSite, front_lines}
-use Rattle.mk_edit.proofs.SiteLines.{lines_there, text_lines}
+use Rattle.mk_decide.specs.Reasons.{is_open_early}
+use Rattle.mk_line.specs.Marks.{delimiter_line, close_line}
+use Rattle.mk_head.specs.Types.{type_line}
+use Rattle.mk_decide.specs.Wrapping.{is_content_line, content_fields, other_fields, names_field, version_lines, separator_or, ended_lines, inner_part, outer_fields, wrapped}
+use Rattle.mk_decide.specs.WrapAnswers.{is_leaf, wrap_opens}
+use Rattle.mk_decide.proofs.Openings.{Each, each_line, each_front, last_open, or_none, or_assoc, early_none, open_text, some_text}
+use Rattle.mk_decide.proofs.FieldFits.{split_of, no_text, behind_are}
+use Rattle.mk_decide.proofs.SectionSites.{IsSite, front_lines}
+use Rattle.mk_decide.proofs.SiteLines.{lines_there, text_lines}
 
 -- some line is open
 abbrev pub any_open : List TextLine → Bool
@@ -46,14 +47,13 @@ any_last [] h = refl
 any_last (l ∷ []) h = or_none (is_open l.ending)
 any_last (l ∷ m ∷ ls) h = let p = or_parts (is_open l.ending) (is_open_early (m ∷ ls)) h in rw p.0 (any_last (m ∷ ls) p.1)
 
-lines_open : (ls : List TextLine) → AreLines ls → any_open ls ≡ (not (is_nil (text_of ls)) && ends_open (text_of ls))
+lines_open : (ls : List TextLine) → AreLines ls → any_open ls ≡ ends_open (text_of ls)
 lines_open [] a = refl
 lines_open (l ∷ ls) a =
-    any_last (l ∷ ls) (early_none (l ∷ ls) a)
-    ∙ (sym (open_text l ls a) ∙ ap (λ t. not t && ends_open (text_of (l ∷ ls))) (sym (no_text (text_of (l ∷ ls)) (some_text l ls a.0))))
+    any_last (l ∷ ls) (early_none (l ∷ ls) a) ∙ sym (open_text l ls a)
 
-text_open : (text : List ℕ) → any_open (cut text) ≡ (not (is_nil text) && ends_open text)
-text_open text = lines_open (cut text) (lines_cut text) ∙ ap (λ t. not (is_nil t) && ends_open t) (text_cut text)
+text_open : (text : List ℕ) → any_open (cut text) ≡ ends_open text
+text_open text = lines_open (cut text) (lines_cut text) ∙ ap ends_open (text_cut text)
 
 -- fields, divided
 swap : (o x c : Bool) → (o || (x || c)) ≡ (x || (o || c))
@@ -201,7 +201,7 @@ all_open front e s =
 
 abbrev OpensBy : (text : List ℕ) (eol : Ending) (front : List TextLine) (e : Entity) (followed : Bool) → Type 0
 OpensBy text eol front e followed =
-    (not followed && (not (is_leaf e && not (is_nil (text_of (body_lines e)))) && (not (is_nil text) && ends_open text)))
+    (not followed && (not (is_leaf e && not (is_nil (text_of (body_lines e)))) && ends_open text))
     ≡ (any_open front || (any_open (field_lines e) || any_open (ended_body eol followed e)))
 
 followed_by : (text : List ℕ) (eol : Ending) (front rest : List TextLine) (r : TextLine) (e : Entity) → AreLines (front ++ (print e ++ (r ∷ rest))) → OpensBy text eol front e true
@@ -219,7 +219,7 @@ leaf_full text eol front h l ls c a =
     let fields = or_parts (any_open h.fields) (any_open (option_line h.separator)) (sym (any_join h.fields (option_line h.separator)) ∙ before.1) in
     let body : AreLines (l ∷ ls) = lines_behind (front ++ head_lines h) (l ∷ ls) whole in
     let some : is_nil (text_of (l ∷ ls)) ≡ false = no_text (text_of (l ∷ ls)) (some_text l ls body.0) in
-    ap (λ t. not (not t) && (not (is_nil text) && ends_open text)) some
+    ap (λ t. not (not t) && ends_open text) some
     ∙ sym (or_both (any_open front) (any_open h.fields || any_open (ended_lines eol (l ∷ ls))) before.0 (or_both (any_open h.fields) (any_open (ended_lines eol (l ∷ ls))) fields.0 (ended_closed eol (l ∷ ls) c (early_none (l ∷ ls) body))))
 
 last_by : (text : List ℕ) (eol : Ending) (front : List TextLine) (e : Entity) → is_open eol ≡ false → any_open (option_line (entity_head e).separator) ≡ false → cut text ≡ front ++ (print e ++ []) → OpensBy text eol front e false
@@ -244,7 +244,7 @@ opens_told text path p s eol subtype b c =
     let each = each_front (option_line o) (body_lines p.entity) (each_line (option_line o ++ body_lines p.entity) (behind_are text path p s)) in
     let whole : AreLines (front_lines text path p s ++ (print p.entity ++ lines_after s.around)) = subst AreLines (text_lines text path p s) (lines_cut text) in
     let same : p.followed ≡ has_line (lines_after s.around) = ap (λ (x : Placed). x.followed) s.placed_is in
-    ap (λ t. not t && (not (is_leaf p.entity && not (is_nil (body_text p))) && (not (is_nil text) && ends_open text))) same
+    ap (λ t. not t && (not (is_leaf p.entity && not (is_nil (body_text p))) && ends_open text)) same
     ∙ (opens_by text eol front rest p.entity c (separator_none (has_line (field_lines p.entity)) o (body_lines p.entity) next each) (text_lines text path p s)
     ∙ (sym (new_open eol front rest s.around p.entity subtype b c (made_none eol (has_line (field_lines p.entity)) o (body_lines p.entity) c next each) (early_none rest (lines_behind (print p.entity) rest (lines_behind front (print p.entity ++ rest) whole))))
     ∙ ap is_open_early (sym (lines_there text path p s (wrapped eol s.around p.entity subtype b)))))

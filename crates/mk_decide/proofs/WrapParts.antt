@@ -14,14 +14,14 @@ use Rattle.mk_tree.specs.Sections.{body_lines}
 use Rattle.mk_tree.specs.Places.{Frame, below, lines_after}
 use Rattle.mk_tree.specs.Reading.{IsWellRead, AreWellRead}
 use Rattle.mk_tree.proofs.Plugs.{unmarked_left, unmarked_right, unmarked_join}
-use Rattle.mk_edit.specs.Wrapping.{content_fields, separator_or, ended_lines, inner_head, inner_part}
-use Rattle.mk_edit.specs.Local.{FitsLevels, MayEnd, BodyMayEnd}
-use Rattle.mk_edit.proofs.Openings.{Each, each_join, each_front, each_back}
-use Rattle.mk_edit.proofs.Bounds.{made_line}
-use Rattle.mk_edit.proofs.NewFields.{digest_kind, kind_at_other}
-use Rattle.mk_edit.proofs.PartChanges.{separator_line, separator_mark, separator_empty}
-use Rattle.mk_edit.proofs.WrapFields.{content_each, content_marks, are_runs, are_unmarked, content_kind}
-use Rattle.mk_edit.proofs.WrapLevels.{level_multi, kind_down, level_down, levels_down, level_fits}
+use Rattle.mk_decide.specs.Wrapping.{content_fields, separator_or, ended_lines, inner_head, inner_part}
+use Rattle.mk_decide.specs.Local.{FitsLevels, MayEnd, BodyMayEnd}
+use Rattle.mk_decide.proofs.Openings.{Each, each_join, each_front, each_back}
+use Rattle.mk_decide.proofs.Bounds.{made_line}
+use Rattle.mk_decide.proofs.NewFields.{digest_kind, kind_at_other}
+use Rattle.mk_decide.proofs.PartChanges.{separator_line, separator_mark, separator_empty}
+use Rattle.mk_decide.proofs.WrapFields.{content_each, content_marks, are_runs, are_unmarked, content_kind}
+use Rattle.mk_decide.proofs.WrapLevels.{level_multi, kind_down, level_down, levels_down, level_fits}
 
 -- an ending put behind lines
 ended_by : (eol : Ending) (t : Bool) (l : TextLine) → is_open eol ≡ false → IsLine l → (t ≡ true → EndsWell eol l.content) → Each (if t then text_line l.content eol ∷ [] else l ∷ text_line [] eol ∷ [])

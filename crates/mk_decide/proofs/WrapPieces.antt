@@ -9,7 +9,7 @@ use Rattle.mk_tree.specs.Tree.{Entity, leaf, message, multi, Parts, no_parts, pa
 use Rattle.mk_tree.specs.Sections.{Placed, parts_placed, has_tail, children_of, raw_of, head_text, body_text, body_lines}
 use Rattle.mk_tree.specs.Spans.{size, digest_below}
 use Rattle.mk_tree.proofs.HeadChanged.{behind_fields, entity_lines}
-use Rattle.mk_edit.specs.WrapAnswers.{is_leaf, separator_text, fits_levels, fit_levels, all_fit}
+use Rattle.mk_decide.specs.WrapAnswers.{is_leaf, separator_text, fits_levels, fit_levels, all_fit}
 
 -- head, separator, body
 pub raw_apart : (p : Placed) → raw_of p ≡ head_text p ++ (separator_text p ++ body_text p)

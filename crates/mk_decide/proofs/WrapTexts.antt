@@ -13,16 +13,18 @@ use Rattle.mk_tree.specs.Documents.{tree}
 use Rattle.mk_tree.specs.Sections.{Placed, head_text, body_text, body_lines}
 use Rattle.mk_tree.specs.Places.{Frame, lines_after}
 use Rattle.mk_tree.proofs.Plugs.{lines_end}
-use Rattle.mk_edit.specs.Wrapping.{is_content_line, content_fields, other_fields, names_field, version_lines, type_line, delimiter_line, close_line, made_lines, separator_or, ended_lines, inner_part, wrapped}
-use Rattle.mk_edit.specs.WrapAnswers.{content_part, other_part, version_bytes, type_bytes, delimiter_bytes, close_bytes, made_bytes, separator_text, separator_part, is_leaf, end_part, part_bytes, wrap_bytes}
-use Rattle.mk_edit.proofs.Openings.{Each, each_line, each_front, each_join, some_text}
-use Rattle.mk_edit.proofs.FieldFits.{no_text, entity_are, behind_are}
-use Rattle.mk_edit.proofs.SectionSites.{IsSite, head_cut}
-use Rattle.mk_edit.proofs.SiteFacts.{as_long, entity_fields}
-use Rattle.mk_edit.proofs.Typed.{MayBound, made_bound}
-use Rattle.mk_edit.proofs.Bounds.{delimiter_is}
-use Rattle.mk_edit.proofs.Wraps.{type_is, close_is, version_each}
-use Rattle.mk_edit.proofs.WrapOpens.{any_open, any_join, version_closed, ended_body, print_inner}
+use Rattle.mk_line.specs.Marks.{delimiter_line, close_line}
+use Rattle.mk_head.specs.Types.{type_line}
+use Rattle.mk_decide.specs.Wrapping.{is_content_line, content_fields, other_fields, names_field, version_lines, made_lines, separator_or, ended_lines, inner_part, wrapped}
+use Rattle.mk_decide.specs.WrapAnswers.{content_part, other_part, version_bytes, type_bytes, delimiter_bytes, close_bytes, made_bytes, separator_text, separator_part, is_leaf, end_part, part_bytes, wrap_bytes}
+use Rattle.mk_decide.proofs.Openings.{Each, each_line, each_front, each_join, some_text}
+use Rattle.mk_decide.proofs.FieldFits.{no_text, entity_are, behind_are}
+use Rattle.mk_decide.proofs.SectionSites.{IsSite, head_cut}
+use Rattle.mk_decide.proofs.SiteFacts.{as_long, entity_fields}
+use Rattle.mk_decide.proofs.Typed.{MayBound, made_bound}
+use Rattle.mk_decide.proofs.Bounds.{delimiter_is}
+use Rattle.mk_decide.proofs.Wraps.{type_is, close_is, version_each}
+use Rattle.mk_decide.proofs.WrapOpens.{any_open, any_join, version_closed, ended_body, print_inner}
 
 -- the other fields are lines
 no_others : (l : TextLine) (ls : List TextLine) → ls ≡ [] → other_fields false ls ≡ []
@@ -49,15 +51,6 @@ version_told eol [] [] others h a = ap (λ ls. if true && not (names_field (code
 version_told eol [] (f ∷ fs) others h a = none_suc (length fs) (sym h)
 version_told eol (k ∷ ks) [] others h a = none_suc (length ks) h
 version_told eol (k ∷ ks) (f ∷ fs) others h a = refl
-
-regroup : (a b c d e : List ℕ) → (((a ++ b) ++ c) ++ d) ++ e ≡ a ++ (b ++ (c ++ (d ++ e)))
-regroup a b c d e = simp append_assoc refl
-
-type_apart : (subtype b : List ℕ) → (((codes "Content-Type: multipart/" ++ subtype) ++ codes "; boundary=\"") ++ b) ++ codes "\"" ≡ codes "Content-Type: multipart/" ++ (subtype ++ (codes "; boundary=\"" ++ (b ++ codes "\"")))
-type_apart subtype b = regroup (codes "Content-Type: multipart/") subtype (codes "; boundary=\"") b (codes "\"")
-
-type_told : (eol : Ending) (subtype b : List ℕ) → type_bytes eol subtype b ≡ printed_line (type_line eol subtype b)
-type_told eol subtype b = ap (λ t. t ++ ending_bytes eol) (type_apart subtype b)
 
 -- the separator
 separator_told : (eol : Ending) (o : Option TextLine) → Each (option_line o) → separator_part eol (text_of (option_line o)) ≡ printed_line (separator_or eol o)
@@ -122,10 +115,9 @@ bytes_told text path p s eol subtype b =
     let part = part_bytes eol p (content_part (head_text p)) in
     ap (λ x. (((((x ++ version_bytes eol (is_nil s.numbers) x) ++ type_bytes eol subtype b) ++ ending_bytes eol) ++ delimiter_bytes eol b) ++ part) ++ close_bytes eol b) other
     ∙ (ap (λ x. (((((text_of others ++ x) ++ type_bytes eol subtype b) ++ ending_bytes eol) ++ delimiter_bytes eol b) ++ part) ++ close_bytes eol b) (version_told eol s.numbers fs others long are)
-    ∙ (ap (λ x. (((((text_of others ++ text_of version) ++ x) ++ ending_bytes eol) ++ delimiter_bytes eol b) ++ part) ++ close_bytes eol b) (type_told eol subtype b)
     ∙ (ap (λ x. (((((text_of others ++ text_of version) ++ printed_line (type_line eol subtype b)) ++ ending_bytes eol) ++ delimiter_bytes eol b) ++ x) ++ close_bytes eol b)
     (part_told eol fs p (content_part (head_text p)) (ap (λ (x : Placed). x.followed) s.placed_is) each own)
-    ∙ sym (wrapped_apart others version (print (inner_part eol fs p.entity)) (type_line eol subtype b) (text_line [] eol) (delimiter_line eol b) (close_line eol b)))))
+    ∙ sym (wrapped_apart others version (print (inner_part eol fs p.entity)) (type_line eol subtype b) (text_line [] eol) (delimiter_line eol b) (close_line eol b))))
 
 -- the made lines
 made_apart : (version : List TextLine) (t d c : TextLine) → text_of (version ++ (t ∷ d ∷ c ∷ [])) ≡ ((text_of version ++ printed_line t) ++ printed_line d) ++ printed_line c
@@ -160,8 +152,7 @@ made_told text path p s eol subtype b c h k =
     let same : made_bytes eol (is_nil s.numbers) (other_part (head_text p)) subtype b ≡ text_of (made_lines eol s.around (other_fields false (field_lines p.entity)) subtype b) =
     ap (λ x. ((version_bytes eol (is_nil s.numbers) x ++ type_bytes eol subtype b) ++ delimiter_bytes eol b) ++ close_bytes eol b) other
     ∙ (ap (λ x. ((x ++ type_bytes eol subtype b) ++ delimiter_bytes eol b) ++ close_bytes eol b) (version_told eol s.numbers fs others long are)
-    ∙ (ap (λ x. ((text_of version ++ x) ++ delimiter_bytes eol b) ++ close_bytes eol b) (type_told eol subtype b)
-    ∙ sym (made_apart version (type_line eol subtype b) (delimiter_line eol b) (close_line eol b)))) in
+    ∙ sym (made_apart version (type_line eol subtype b) (delimiter_line eol b) (close_line eol b))) in
     let each : Each (made_lines eol s.around (other_fields false (field_lines p.entity)) subtype b) =
     each_join version (type_line eol subtype b ∷ delimiter_line eol b ∷ close_line eol b ∷ []) (version_each eol fs others c) (type_is eol subtype b c h k, (delimiter_is eol b c bound, (close_is eol b c bound, tt))) in
     ap cut same ∙ cut_text (made_lines eol fs others subtype b) (closed_are (made_lines eol fs others subtype b) each (made_closed eol fs others subtype b c))

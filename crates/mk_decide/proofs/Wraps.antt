@@ -4,14 +4,15 @@ use Rattle.std.specs.List.{list_all}
 use Rattle.std.specs.Str.{bytes_eq}
 use Rattle.mk_line.specs.declared.cutting.Ending.{Ending}
 use Rattle.mk_line.specs.Lines.{TextLine, text_line, is_nil, is_open, ends_in_return, IsLine}
-use Rattle.mk_line.specs.Marks.{dashed}
+use Rattle.mk_line.specs.Marks.{dashed, delimiter_line, close_line}
 use Rattle.mk_line.proofs.Cuts.{append_nil}
 use Rattle.mk_head.specs.Split.{head_lines}
 use Rattle.mk_head.specs.Splits.{IsRun}
 use Rattle.mk_head.specs.Unfolding.{or_nothing}
-use Rattle.mk_head.specs.Values.{behind, lowered, is_token_byte, is_token}
+use Rattle.mk_line.specs.Parting.{behind}
+use Rattle.mk_head.specs.Values.{lowered, is_token_byte, is_token}
 use Rattle.mk_head.specs.Boundaries.{is_boundary_byte}
-use Rattle.mk_head.specs.Types.{field_value, header_encoding, type_by}
+use Rattle.mk_head.specs.Types.{field_value, header_encoding, type_by, type_line}
 use Rattle.mk_tree.specs.Cutting.{Unmarked}
 use Rattle.mk_tree.specs.Kinds.{Kind, Multi, kind_of, kind, kind_at, is_digest}
 use Rattle.mk_tree.specs.Tree.{Entity, print, field_lines}
@@ -20,20 +21,20 @@ use Rattle.mk_tree.specs.Spans.{digest_below}
 use Rattle.mk_tree.specs.Places.{Frame, below, left_at, default_at}
 use Rattle.mk_tree.specs.Reading.{IsWellRead}
 use Rattle.mk_tree.proofs.Plugs.{unmarked_left, unmarked_right, unmarked_join}
-use Rattle.mk_edit.specs.Wrapping.{other_fields, names_field, version_lines, type_line, delimiter_line, close_line, made_lines, inner_part, outer_fields, outer_head}
-use Rattle.mk_edit.specs.Plans.{wrap}
-use Rattle.mk_edit.specs.Local.{HasLevel, WrapsWell}
-use Rattle.mk_edit.proofs.Openings.{Each, each_join, each_front, each_back}
-use Rattle.mk_edit.proofs.Late.{wrap_fair}
-use Rattle.mk_edit.proofs.Locals.{IsEdit}
-use Rattle.mk_edit.proofs.Renaming.{both, feed_join, feed_tested, ends_after}
-use Rattle.mk_edit.proofs.Runs.{run_join}
-use Rattle.mk_edit.proofs.FieldChanges.{fields_each, fields_marks, run_read}
-use Rattle.mk_edit.proofs.Bounds.{IsBound, made_line, delimiter_is, delimiter_mark, close_mark_is}
-use Rattle.mk_edit.proofs.Typed.{made_value, MayBound, made_bound, made_kind}
-use Rattle.mk_edit.proofs.WrapFields.{other_each, other_marks, are_runs, skip_others}
-use Rattle.mk_edit.proofs.WrapLevels.{level_multi}
-use Rattle.mk_edit.proofs.WrapParts.{inner_each, inner_may, inner_marks, inner_free, inner_read, inner_fits, inner_kind}
+use Rattle.mk_decide.specs.Wrapping.{other_fields, names_field, version_lines, made_lines, inner_part, outer_fields, outer_head}
+use Rattle.mk_decide.specs.Plans.{wrap}
+use Rattle.mk_decide.specs.Local.{HasLevel, WrapsWell}
+use Rattle.mk_decide.proofs.Openings.{Each, each_join, each_front, each_back}
+use Rattle.mk_decide.proofs.Late.{wrap_fair}
+use Rattle.mk_decide.proofs.Locals.{IsEdit}
+use Rattle.mk_decide.proofs.Renaming.{both, feed_join, feed_tested, ends_after}
+use Rattle.mk_decide.proofs.Runs.{run_join}
+use Rattle.mk_decide.proofs.FieldChanges.{fields_each, fields_marks, run_read}
+use Rattle.mk_decide.proofs.Bounds.{IsBound, made_line, delimiter_is, delimiter_mark, close_mark_is}
+use Rattle.mk_decide.proofs.Typed.{made_value, MayBound, made_bound, made_kind}
+use Rattle.mk_decide.proofs.WrapFields.{other_each, other_marks, are_runs, skip_others}
+use Rattle.mk_decide.proofs.WrapLevels.{level_multi}
+use Rattle.mk_decide.proofs.WrapParts.{inner_each, inner_may, inner_marks, inner_free, inner_read, inner_fits, inner_kind}
 
 -- the made lines are lines
 pub ends_front : (xs ys : List ℕ) → is_nil ys ≡ false → ends_in_return (xs ++ ys) ≡ ends_in_return ys

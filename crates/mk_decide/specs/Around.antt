@@ -4,8 +4,8 @@ use Rattle.mk_line.specs.Lines.{TextLine}
 use Rattle.mk_head.specs.Fields.{counted}
 use Rattle.mk_tree.specs.Tree.{Entity, leaf, message, multi}
 use Rattle.mk_tree.specs.Sections.{Placed, boundary_in, children}
-use Rattle.mk_edit.specs.Outcomes.{has_mark}
-use Rattle.mk_edit.specs.Looks.{has_separator}
+use Rattle.mk_decide.specs.Outcomes.{has_mark}
+use Rattle.mk_decide.specs.Looks.{has_separator}
 
 -- some line is a mark of a boundary, where there is one
 abbrev pub marks_any : List TextLine → Option (List ℕ) → Bool

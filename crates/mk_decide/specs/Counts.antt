@@ -6,10 +6,10 @@ use Rattle.mk_tree.specs.Kinds.{kind, is_digest}
 use Rattle.mk_tree.specs.Tree.{Entity, Parts, no_parts, part, print, field_lines}
 use Rattle.mk_tree.specs.Documents.{Document, document_lines}
 use Rattle.mk_tree.specs.Places.{Frame, default_at}
-use Rattle.mk_edit.specs.Edits.{PlainEdit, AddField, RemoveField, RenameField, SetField, SetBody, SetSection, InsertPart, RemovePart, Wrap, path_of, Refusal}
-use Rattle.mk_edit.specs.Plans.{Plan, plan_at, place_of}
-use Rattle.mk_edit.specs.Local.{parts_of}
-use Rattle.mk_edit.specs.KindsKept.{is_other}
+use Rattle.mk_decide.specs.Edits.{PlainEdit, AddField, RemoveField, RenameField, SetField, SetBody, SetSection, InsertPart, RemovePart, Wrap, path_of, Refusal}
+use Rattle.mk_decide.specs.Plans.{Plan, plan_at, place_of}
+use Rattle.mk_decide.specs.Local.{parts_of}
+use Rattle.mk_decide.specs.KindsKept.{is_other}
 
 -- the lines of a given text
 abbrev pub given_lines : PlainEdit → ℕ

@@ -1,11 +1,12 @@
 -- What is known of an accepted edit: the bytes that it puts in the place of others.
 use Rattle.std.specs.Prelude.{◌≡◌, ◌≤◌, ◌+◌, ℕ, Ok, List, [], ◌∷◌, length, take, drop}
 use Rattle.mk_tree.specs.Documents.{Document, tree, printed}
-use Rattle.mk_tree.specs.Splicing.{spliced, ChangesFields, SectionBecomes, HasBody, HasText, HasPart, PartGoes}
-use Rattle.mk_edit.specs.Edits.{PlainEdit, AddField, RemoveField, RenameField, SetField, SetBody, SetSection, InsertPart, RemovePart, Wrap}
-use Rattle.mk_edit.specs.Outcomes.{edited}
-use Rattle.mk_edit.specs.EditSplices.{splices_of}
-use Rattle.mk_edit.specs.LocalAnswers.{PlainSplice}
+use Rattle.mk_splice.specs.Splices.{spliced}
+use Rattle.mk_tree.specs.Splicing.{ChangesFields, SectionBecomes, HasBody, HasText, HasPart, PartGoes}
+use Rattle.mk_decide.specs.Edits.{PlainEdit, AddField, RemoveField, RenameField, SetField, SetBody, SetSection, InsertPart, RemovePart, Wrap}
+use Rattle.mk_decide.specs.Outcomes.{edited}
+use Rattle.mk_decide.specs.EditSplices.{splices_of}
+use Rattle.mk_decide.specs.LocalAnswers.{PlainSplice}
 
 -- the bytes change the section that the edit names, and the document that comes of it is stable
 abbrev pub ChangesBy : PlainEdit → PlainSplice → Document → Document → Type 0

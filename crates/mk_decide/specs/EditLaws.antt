@@ -3,17 +3,20 @@ use Rattle.std.specs.Prelude.{◌≡◌, ◌↔◌, ◌⊎◌, ◌++◌, ℕ, Bo
 use Rattle.std.specs.Option.{option_map}
 use Rattle.mk_tree.specs.Tree.{Entity, leaf, message, multi}
 use Rattle.mk_tree.specs.Sections.{Placed, section_at, content_text}
-use Rattle.mk_tree.specs.Documents.{Document, IsStable}
+use Rattle.mk_tree.specs.Documents.{Document, IsStable, tree, printed}
 use Rattle.mk_tree.specs.Places.{Frame, placed}
 use Rattle.mk_tree.specs.Locality.{Replaces}
 use Rattle.mk_line.specs.Lines.{TextLine}
 use Rattle.mk_head.specs.Split.{is_start}
 use Rattle.mk_head.specs.Fields.{name_of, field_text, fields_of, find_field}
-use Rattle.mk_edit.specs.FieldEdits.{Found, field_at, behind_name, renamed, is_name}
-use Rattle.mk_edit.specs.Edits.{PlainEdit, RemovePart, Wrap, path_of, Refusal, NoSuchSection, NotPart, OpenLine, HoldsBoundary, Recut}
-use Rattle.mk_edit.specs.Plans.{Plan, without, place_of, plan_of, planned}
-use Rattle.mk_edit.specs.Outcomes.{edited}
-use Rattle.mk_edit.specs.Local.{LocalConditions}
+use Rattle.mk_line.specs.Kinds.{is_name}
+use Rattle.mk_decide.specs.FieldEdits.{Found, field_at, behind_name, renamed}
+use Rattle.mk_decide.specs.Edits.{PlainEdit, RemovePart, Wrap, path_of, Refusal, NoSuchSection, NotPart, OpenLine, HoldsBoundary, Recut}
+use Rattle.mk_decide.specs.Plans.{Plan, without, place_of, plan_of, planned}
+use Rattle.mk_decide.specs.Outcomes.{edited}
+use Rattle.mk_decide.specs.EditSplices.{splices_of}
+use Rattle.mk_splice.specs.Splices.{LeadsTo}
+use Rattle.mk_decide.specs.Local.{LocalConditions}
 
 -- the reasons that look at the edited document
 abbrev pub is_late : Refusal → Bool
@@ -87,3 +90,11 @@ NamesAreReplaced = (to : List ℕ) (l : TextLine) → is_name to ≡ true → is
 -- what a path leads to is the section of that path
 abbrev pub PathsLeadToSections : Type 0
 PathsLeadToSections = (path : List ℕ) (t : Document) → section_at path t ≡ option_map (λ q. placed t.envelope q.0 q.1) (place_of path t.root)
+
+-- the splices of an accepted edit lead from the text before to the text after, and back
+abbrev pub SplicesLead : Type 0
+SplicesLead = (e : PlainEdit) (text : List ℕ) (t : Document) → edited e (tree text) ≡ Ok t → LeadsTo (splices_of e (tree text)) text (printed t)
+
+-- an accepted edit gives a document that is read as itself
+abbrev pub EditsReadBack : Type 0
+EditsReadBack = (e : PlainEdit) (text : List ℕ) (t : Document) → edited e (tree text) ≡ Ok t → tree (printed t) ≡ t

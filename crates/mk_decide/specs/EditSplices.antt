@@ -9,11 +9,12 @@ use Rattle.mk_tree.specs.Documents.{Document, document_lines}
 use Rattle.mk_tree.specs.Sections.{body_lines}
 use Rattle.mk_tree.specs.Spans.{size}
 use Rattle.mk_tree.specs.Places.{Frame, in_message, in_multi, placed}
-use Rattle.mk_edit.specs.Edits.{PlainEdit, AddField, RemoveField, RenameField, SetField, SetBody, SetSection, InsertPart, RemovePart, Wrap, path_of}
-use Rattle.mk_edit.specs.FieldEdits.{Found, field_at}
-use Rattle.mk_edit.specs.Wrapping.{delimiter_line, wrapped}
-use Rattle.mk_edit.specs.Plans.{place_of}
-use Rattle.mk_edit.specs.Splices.{Splice}
+use Rattle.mk_decide.specs.Edits.{PlainEdit, AddField, RemoveField, RenameField, SetField, SetBody, SetSection, InsertPart, RemovePart, Wrap, path_of}
+use Rattle.mk_decide.specs.FieldEdits.{Found, field_at}
+use Rattle.mk_line.specs.Marks.{delimiter_line}
+use Rattle.mk_decide.specs.Wrapping.{wrapped}
+use Rattle.mk_decide.specs.Plans.{place_of}
+use Rattle.mk_splice.specs.Splices.{Splice}
 
 -- one splice
 abbrev pub one_splice : ℕ → List ℕ → List ℕ → List Splice

@@ -1,9 +1,8 @@
 -- A field among the lines of fields, by its name, and what edits make of it.
-use Rattle.std.specs.Prelude.{◌&&◌, ◌++◌, if◌then◌else◌, ℕ, Bool, not, Option, None, Some, List, [], ◌∷◌, suc, zero}
+use Rattle.std.specs.Prelude.{◌&&◌, ◌++◌, if◌then◌else◌, ℕ, Bool, Option, None, Some, List, [], ◌∷◌, suc, zero}
 use Rattle.std.specs.Option.{option_map}
-use Rattle.std.specs.List.{list_all}
 use Rattle.mk_line.specs.Ascii.{is_name_byte}
-use Rattle.mk_line.specs.Lines.{TextLine, text_line, is_nil}
+use Rattle.mk_line.specs.Lines.{TextLine, text_line}
 use Rattle.mk_head.specs.Split.{is_start, is_more}
 use Rattle.mk_head.specs.Fields.{continuations, field_text, is_named}
 
@@ -48,7 +47,3 @@ behind_name (byte ∷ bytes) = if is_name_byte byte then behind_name bytes else 
 -- a field start with another name
 abbrev pub renamed : List ℕ → TextLine → TextLine
 renamed to l = text_line (to ++ behind_name l.content) l.ending
-
--- a name has one byte or more, each a byte of a name (RFC 5322, 2.2)
-abbrev pub is_name : List ℕ → Bool
-is_name bytes = not (is_nil bytes) && list_all is_name_byte bytes

@@ -3,11 +3,12 @@ use Rattle.std.specs.Prelude.{◌≡◌, ◌==◌, ◌+◌, ◌-◌, ◌++◌, i
 use Rattle.mk_line.specs.Lines.{TextLine, cut, text_of, printed_line, ending_bytes}
 use Rattle.mk_head.specs.Fields.{FieldText, name_of, is_named, is_one_field}
 use Rattle.mk_tree.specs.Spans.{size}
-use Rattle.mk_edit.specs.declared.field_edits.FieldEdit.{FieldEdit}
-use Rattle.mk_edit.specs.declared.field_edits.FieldEdit.TheVariants.{Add, Remove, Rename, Set}
-use Rattle.mk_edit.specs.declared.field_edits.Put.{Put}
-use Rattle.mk_edit.specs.Edits.{PlainEdit, AddField, RemoveField, RenameField, SetField, Refusal, NoSuchField, BadField, BadName}
-use Rattle.mk_edit.specs.FieldEdits.{Found, field_at, behind_name, renamed, is_name}
+use Rattle.mk_decide.specs.declared.field_edits.FieldEdit.{FieldEdit}
+use Rattle.mk_decide.specs.declared.field_edits.FieldEdit.TheVariants.{Add, Remove, Rename, Set}
+use Rattle.mk_decide.specs.declared.field_edits.Put.{Put}
+use Rattle.mk_decide.specs.Edits.{PlainEdit, AddField, RemoveField, RenameField, SetField, Refusal, NoSuchField, BadField, BadName}
+use Rattle.mk_line.specs.Kinds.{is_name}
+use Rattle.mk_decide.specs.FieldEdits.{Found, field_at, behind_name, renamed}
 
 -- an edit in memory as plain data
 abbrev pub plain_of : List ℕ → FieldEdit → PlainEdit

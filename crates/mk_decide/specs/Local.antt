@@ -11,11 +11,11 @@ use Rattle.mk_tree.specs.Documents.{Document, levels, document_lines}
 use Rattle.mk_tree.specs.Sections.{body_lines}
 use Rattle.mk_tree.specs.Places.{Frame, below, left_at, default_at, lines_after}
 use Rattle.mk_tree.specs.Locality.{first_line, Ends, FitsIn, RootFits}
-use Rattle.mk_edit.specs.Reasons.{is_open_early}
-use Rattle.mk_edit.specs.Edits.{PlainEdit, AddField, RemoveField, RenameField, SetField, SetBody, SetSection, InsertPart, RemovePart, Wrap}
-use Rattle.mk_edit.specs.Wrapping.{content_fields}
-use Rattle.mk_edit.specs.Plans.{Plan, planned}
-use Rattle.mk_edit.specs.Outcomes.{hit_level}
+use Rattle.mk_decide.specs.Reasons.{is_open_early}
+use Rattle.mk_decide.specs.Edits.{PlainEdit, AddField, RemoveField, RenameField, SetField, SetBody, SetSection, InsertPart, RemovePart, Wrap}
+use Rattle.mk_decide.specs.Wrapping.{content_fields}
+use Rattle.mk_decide.specs.Plans.{Plan, planned}
+use Rattle.mk_decide.specs.Outcomes.{hit_level}
 
 -- kinds are alike: leaves, messages, or multiparts of one boundary
 abbrev pub IsAlike : Kind → Kind → Type 0

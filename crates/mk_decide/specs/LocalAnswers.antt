@@ -1,19 +1,18 @@
 -- What the four edits of fields are answered, by looks at the section and at what stands around it.
 use Rattle.std.specs.Prelude.{◌==◌, ◌&&◌, ◌+◌, ◌-◌, if◌then◌else◌, ℕ, Bool, true, false, Option, None, Some, Result, Ok, Err, List, [], ◌∷◌, nat_lt, length, take}
-use Rattle.mk_line.specs.Lines.{cut, text_of, is_nil}
+use Rattle.mk_line.specs.Lines.{cut, text_of, is_nil, ends_open}
 use Rattle.mk_tree.specs.Tree.{entity_head}
 use Rattle.mk_tree.specs.Documents.{Document, tree}
 use Rattle.mk_tree.specs.Spans.{size}
-use Rattle.mk_tree.specs.Splicing.{spliced}
+use Rattle.mk_splice.specs.Splices.{spliced}
 use Rattle.mk_tree.specs.Sections.{Placed, root_of, section_at, head_text, body_text}
-use Rattle.mk_edit.specs.declared.field_edits.FieldEdit.{FieldEdit}
-use Rattle.mk_edit.specs.declared.splicing.Replacement.{Replacement}
-use Rattle.mk_edit.specs.Edits.{Refusal, NoSuchSection, OpenLine, HoldsBoundary, Recut}
-use Rattle.mk_edit.specs.Seams.{ends_open}
-use Rattle.mk_edit.specs.FieldPuts.{LinePut, puts}
-use Rattle.mk_edit.specs.Looks.{ends_there}
-use Rattle.mk_edit.specs.KindsKept.{keeps_kinds, looked_below}
-use Rattle.mk_edit.specs.Around.{hit_below, glued_below}
+use Rattle.mk_decide.specs.declared.field_edits.FieldEdit.{FieldEdit}
+use Rattle.mk_decide.specs.declared.deciding.Replacement.{Replacement}
+use Rattle.mk_decide.specs.Edits.{Refusal, NoSuchSection, OpenLine, HoldsBoundary, Recut}
+use Rattle.mk_decide.specs.FieldPuts.{LinePut, puts}
+use Rattle.mk_decide.specs.Looks.{ends_there}
+use Rattle.mk_decide.specs.KindsKept.{keeps_kinds, looked_below}
+use Rattle.mk_decide.specs.Around.{hit_below, glued_below}
 
 -- bytes in the place of others
 pub record PlainSplice : Type 0 where
@@ -25,7 +24,7 @@ pub record PlainSplice : Type 0 where
 abbrev pub opens_at : List ℕ → ℕ → ℕ → List ℕ → Bool
 opens_at text place count lines =
     if is_nil lines then false
-    else (if place == length text then nat_lt 0 place && ends_open text else ends_open lines && nat_lt (place + count) (length text))
+    else (if place == length text then ends_open text else ends_open lines && nat_lt (place + count) (length text))
 
 -- a document without an envelope begins with the section
 abbrev pub is_first : List ℕ → ℕ → Bool

@@ -6,9 +6,9 @@ use Rattle.mk_tree.specs.Documents.{Document, document_lines}
 use Rattle.mk_tree.specs.Upto.{is_mark}
 use Rattle.mk_tree.specs.Equal.{is_stable}
 use Rattle.mk_tree.specs.Places.{Frame, in_message, in_multi}
-use Rattle.mk_edit.specs.Reasons.{is_open_early}
-use Rattle.mk_edit.specs.Edits.{PlainEdit, Refusal, OpenLine, HoldsBoundary, Recut}
-use Rattle.mk_edit.specs.Plans.{Plan, plan_of, planned}
+use Rattle.mk_decide.specs.Reasons.{is_open_early}
+use Rattle.mk_decide.specs.Edits.{PlainEdit, Refusal, OpenLine, HoldsBoundary, Recut}
+use Rattle.mk_decide.specs.Plans.{Plan, plan_of, planned}
 
 -- some line is a delimiter or close line of a boundary (RFC 2046, 5.1.1)
 abbrev pub has_mark : List ℕ → List TextLine → Bool

@@ -12,10 +12,12 @@ use Rattle.mk_tree.specs.Documents.{Document, levels, document_lines}
 use Rattle.mk_tree.specs.Sections.{body_lines}
 use Rattle.mk_tree.specs.Spans.{digest_below}
 use Rattle.mk_tree.specs.Places.{Frame, in_message, in_multi, append_parts, place_at, below, left_at, default_at, put}
-use Rattle.mk_edit.specs.Reasons.{added}
-use Rattle.mk_edit.specs.Edits.{PlainEdit, AddField, RemoveField, RenameField, SetField, SetBody, SetSection, InsertPart, RemovePart, Wrap, path_of, Refusal, NoSuchSection, NotMultipart, NotLeaf, NotPart, NoSuchField, BadPlace, BadField, BadName, BadBoundary, BadSubtype}
-use Rattle.mk_edit.specs.FieldEdits.{Found, field_at, renamed, is_name}
-use Rattle.mk_edit.specs.Wrapping.{other_fields, separator_or, delimiter_line, made_lines, wrapped}
+use Rattle.mk_decide.specs.Reasons.{added}
+use Rattle.mk_decide.specs.Edits.{PlainEdit, AddField, RemoveField, RenameField, SetField, SetBody, SetSection, InsertPart, RemovePart, Wrap, path_of, Refusal, NoSuchSection, NotMultipart, NotLeaf, NotPart, NoSuchField, BadPlace, BadField, BadName, BadBoundary, BadSubtype}
+use Rattle.mk_line.specs.Kinds.{is_name}
+use Rattle.mk_decide.specs.FieldEdits.{Found, field_at, renamed}
+use Rattle.mk_line.specs.Marks.{delimiter_line}
+use Rattle.mk_decide.specs.Wrapping.{other_fields, separator_or, made_lines, wrapped}
 
 -- a new entity and what stands around it; `given`: its given and made lines, which no enclosing multipart may have as
 -- marks; `inside`: lines that a boundary at the place itself may not have as marks

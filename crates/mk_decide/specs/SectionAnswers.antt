@@ -9,12 +9,12 @@ use Rattle.mk_tree.specs.Tree.{Entity, leaf, message, multi, entity_head}
 use Rattle.mk_tree.specs.Documents.{tree}
 use Rattle.mk_tree.specs.Spans.{size}
 use Rattle.mk_tree.specs.Sections.{Placed, root_of, children, raw_of, body_text, preamble_lines}
-use Rattle.mk_edit.specs.Edits.{Refusal, NotMultipart, NotLeaf, NotPart, BadPlace}
-use Rattle.mk_edit.specs.Wrapping.{delimiter_line}
-use Rattle.mk_edit.specs.Outcomes.{has_mark, or_own}
-use Rattle.mk_edit.specs.Looks.{has_separator}
-use Rattle.mk_edit.specs.Around.{hit_below, glues, glued_below}
-use Rattle.mk_edit.specs.LocalAnswers.{PlainSplice, opens_at, answer_by}
+use Rattle.mk_decide.specs.Edits.{Refusal, NotMultipart, NotLeaf, NotPart, BadPlace}
+use Rattle.mk_line.specs.Marks.{delimiter_line}
+use Rattle.mk_decide.specs.Outcomes.{has_mark, or_own}
+use Rattle.mk_decide.specs.Looks.{has_separator}
+use Rattle.mk_decide.specs.Around.{hit_below, glues, glued_below}
+use Rattle.mk_decide.specs.LocalAnswers.{PlainSplice, opens_at, answer_by}
 
 -- the path of the section around, and the number of a section in it
 abbrev pub outer_path : List ℕ → List ℕ

@@ -3,20 +3,21 @@ use Rattle.std.specs.Prelude.{◌==◌, ◌&&◌, ◌+◌, ◌-◌, ◌++◌, if
 use Rattle.std.specs.Str.{bytes_eq}
 use Rattle.mk_line.specs.declared.cutting.Ending.{Ending}
 use Rattle.mk_line.specs.Ascii.{carriage_return}
-use Rattle.mk_line.specs.Lines.{cut, text_of, is_nil, is_lf, ending_bytes, eol_of}
+use Rattle.mk_line.specs.Lines.{cut, text_of, is_nil, is_lf, ending_bytes, eol_of, ends_open, printed_line}
+use Rattle.mk_line.specs.Marks.{close_line, delimiter_line}
 use Rattle.mk_head.specs.Split.{option_line}
 use Rattle.mk_head.specs.Boundaries.{is_boundary}
+use Rattle.mk_head.specs.Types.{type_line}
 use Rattle.mk_head.specs.Values.{lowered, is_token}
 use Rattle.mk_tree.specs.Tree.{Entity, leaf, message, multi, Parts, no_parts, part, entity_head}
 use Rattle.mk_tree.specs.Documents.{Document, levels, tree}
 use Rattle.mk_tree.specs.Sections.{Placed, root_of, raw_of, head_text, body_text}
-use Rattle.mk_edit.specs.Edits.{Refusal, BadBoundary, BadSubtype}
-use Rattle.mk_edit.specs.Wrapping.{content_fields, other_fields, names_field}
-use Rattle.mk_edit.specs.Outcomes.{has_mark, or_own}
-use Rattle.mk_edit.specs.Seams.{ends_open}
-use Rattle.mk_edit.specs.KindsKept.{keeps_default}
-use Rattle.mk_edit.specs.Around.{hit_below, glued_below}
-use Rattle.mk_edit.specs.LocalAnswers.{PlainSplice, answer_by}
+use Rattle.mk_decide.specs.Edits.{Refusal, BadBoundary, BadSubtype}
+use Rattle.mk_decide.specs.Wrapping.{content_fields, other_fields, names_field}
+use Rattle.mk_decide.specs.Outcomes.{has_mark, or_own}
+use Rattle.mk_decide.specs.KindsKept.{keeps_default}
+use Rattle.mk_decide.specs.Around.{hit_below, glued_below}
+use Rattle.mk_decide.specs.LocalAnswers.{PlainSplice, answer_by}
 
 -- the fields in front of a text that describe the content, and the others
 abbrev pub content_part : List ℕ → List ℕ
@@ -32,15 +33,15 @@ version_bytes eol first others = if first && not (names_field (codes "MIME-Versi
 
 -- the field that says the type and the boundary
 abbrev pub type_bytes : Ending → (subtype boundary : List ℕ) → List ℕ
-type_bytes eol subtype boundary = ((((codes "Content-Type: multipart/" ++ subtype) ++ codes "; boundary=\"") ++ boundary) ++ codes "\"") ++ ending_bytes eol
+type_bytes eol subtype boundary = printed_line (type_line eol subtype boundary)
 
 -- the delimiter
 abbrev pub delimiter_bytes : Ending → List ℕ → List ℕ
-delimiter_bytes eol boundary = (codes "--" ++ boundary) ++ ending_bytes eol
+delimiter_bytes eol boundary = printed_line (delimiter_line eol boundary)
 
 -- the close line
 abbrev pub close_bytes : Ending → List ℕ → List ℕ
-close_bytes eol boundary = ((codes "--" ++ boundary) ++ codes "--") ++ ending_bytes eol
+close_bytes eol boundary = printed_line (close_line eol boundary)
 
 -- the made lines that aren't empty
 abbrev pub made_bytes : Ending → Bool → (others subtype boundary : List ℕ) → List ℕ
@@ -82,7 +83,7 @@ wrap_bytes eol first p subtype boundary = (front_bytes eol first (other_part (he
 
 -- a line without an ending would stand before another: the last of the text, where it isn't that of a body that gets one
 abbrev pub wrap_opens : List ℕ → Placed → Bool
-wrap_opens text p = not p.followed && (not (is_leaf p.entity && not (is_nil (body_text p))) && (not (is_nil text) && ends_open text))
+wrap_opens text p = not p.followed && (not (is_leaf p.entity && not (is_nil (body_text p))) && ends_open text)
 
 -- no multipart and no message stands where no level is left below
 abbrev mutual

@@ -3,14 +3,15 @@ use Rattle.std.specs.Prelude.{◌||◌, ◌++◌, if◌then◌else◌, ℕ, Bool
 use Rattle.std.specs.List.{starts_with}
 use Rattle.mk_line.specs.declared.cutting.Ending.{Ending}
 use Rattle.mk_line.specs.Lines.{TextLine, text_line, is_open}
-use Rattle.mk_line.specs.Marks.{dashed}
+use Rattle.mk_line.specs.Marks.{close_line, delimiter_line}
 use Rattle.mk_head.specs.Split.{Head, is_start}
 use Rattle.mk_head.specs.Splits.{has_line}
 use Rattle.mk_head.specs.Fields.{name_of}
+use Rattle.mk_head.specs.Types.{type_line}
 use Rattle.mk_head.specs.Values.{lowered}
 use Rattle.mk_tree.specs.Tree.{Entity, leaf, message, multi, no_parts, part, field_lines}
 use Rattle.mk_tree.specs.Places.{Frame, lines_after}
-use Rattle.mk_edit.specs.FieldEdits.{starts_named}
+use Rattle.mk_decide.specs.FieldEdits.{starts_named}
 
 -- a field start whose name begins with Content-, without regard to ASCII case (RFC 2045, 9: such fields describe the content)
 abbrev pub describes_content : TextLine → Bool
@@ -39,18 +40,6 @@ names_field name (l ∷ ls) = starts_named name l || names_field name ls
 abbrev pub version_lines : Ending → List Frame → List TextLine → List TextLine
 version_lines eol [] others = if names_field (codes "MIME-Version") others then [] else text_line (codes "MIME-Version: 1.0") eol ∷ []
 version_lines eol (f ∷ fs) others = []
-
--- the field that says the boundary (RFC 2046, 5.1.1)
-abbrev pub type_line : Ending → List ℕ → List ℕ → TextLine
-type_line eol subtype boundary = text_line (codes "Content-Type: multipart/" ++ (subtype ++ (codes "; boundary=\"" ++ (boundary ++ codes "\"")))) eol
-
--- the delimiter of a part (RFC 2046, 5.1.1)
-abbrev pub delimiter_line : Ending → List ℕ → TextLine
-delimiter_line eol boundary = text_line (dashed boundary) eol
-
--- the close line behind the last part (RFC 2046, 5.1.1)
-abbrev pub close_line : Ending → List ℕ → TextLine
-close_line eol boundary = text_line (dashed boundary ++ codes "--") eol
 
 -- the made lines that aren't empty; an empty line is never a mark
 abbrev pub made_lines : Ending → List Frame → List TextLine → List ℕ → List ℕ → List TextLine

@@ -3,9 +3,9 @@ ghost use Rattle.std.specs.Prelude.{◌≡◌, false};
 ghost use Rattle.mk_line.specs.Lines.{cut as lines_of};
 ghost use Rattle.mk_tree.specs.Documents.{tree};
 ghost use Rattle.mk_tree.specs.Sections.{boundary_in, root_of};
-ghost use Rattle.mk_edit.specs.Outcomes.{has_mark as have_mark};
+ghost use Rattle.mk_decide.specs.Outcomes.{has_mark as have_mark};
 ghost use Rattle.mk_tree.specs.Upto.{is_mark as are_mark};
-ghost use Rattle.mk_edit.specs.Around.{glued_below, glues as glues_below, hit_below, marks_any};
+ghost use Rattle.mk_decide.specs.Around.{glued_below, glues as glues_below, hit_below, marks_any};
 
 use crate::looking::has_separator;
 use mk_line::{Mark, cut, is_delimiter};

@@ -1,13 +1,13 @@
 //! Whether an edit is accepted, and the bytes that it puts in the place of others.
 ghost use Rattle.std.specs.Prelude.{◌≤◌, ◌+◌, ◌*◌, IfOk, IfErr};
 ghost use Rattle.mk_tree.specs.Documents.{tree};
-ghost use Rattle.mk_edit.specs.Answers.{refusal_of, IsRefusedBy};
-ghost use Rattle.mk_edit.specs.Counts.{edit_lines};
-ghost use Rattle.mk_edit.specs.Decided.{IsDecided};
-ghost use Rattle.mk_edit.specs.FieldPuts.{plain_of};
-ghost use Rattle.mk_edit.specs.LocalAnswers.{plain_splice};
-ghost use Rattle.mk_edit.specs.Outcomes.{edited};
-ghost use Rattle.mk_edit.specs.Views.{edit_of};
+ghost use Rattle.mk_decide.specs.Answers.{refusal_of, IsRefusedBy};
+ghost use Rattle.mk_decide.specs.Counts.{edit_lines};
+ghost use Rattle.mk_decide.specs.Decided.{IsDecided};
+ghost use Rattle.mk_decide.specs.FieldPuts.{plain_of};
+ghost use Rattle.mk_decide.specs.LocalAnswers.{plain_splice};
+ghost use Rattle.mk_decide.specs.Outcomes.{edited};
+ghost use Rattle.mk_decide.specs.Views.{edit_of};
 
 use crate::edits::Edit;
 use crate::errors::EditError;
@@ -15,14 +15,22 @@ use crate::field_answers::decide_fields;
 use crate::field_edits::FieldEdit;
 use crate::part_edits::{decide_insertion, decide_removal};
 use crate::section_edits::{decide_body, decide_section};
-use crate::splicing::Replacement;
 use crate::wrap_edits::decide_wrap;
 use mk_line::Meter;
 use mk_tree::Doc;
 use std::alloc::Global;
 
+/// Bytes in the place of others.
+#[derive(Debug, Drop)]
+pub struct Replacement {
+    /// Where they stand in the document, in bytes from 0.
+    pub place: usize,
+    pub count: usize,
+    pub new: Vec<u8>,
+}
+
 /// The bytes that an edit puts in the place of others, or the first reason against it.
-pub(crate) fn decide(
+pub fn decide(
     alloc: Global,
     doc: &Doc,
     edit: &Edit,

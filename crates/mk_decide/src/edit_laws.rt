@@ -1,5 +1,5 @@
 //! Laws of the nine edits, over the definitions alone: each a function with an empty body whose clause is the law.
-ghost use Rattle.mk_edit.specs.EditLaws.{EditsAreReplacements, FieldsAreApart, FieldsAreCounted, LocalityOfEdits, NamesAreReplaced, PathsLeadToSections, RemovalReasons, StabilityReasons, WrappingKeepsContent};
+ghost use Rattle.mk_decide.specs.EditLaws.{EditsAreReplacements, FieldsAreApart, FieldsAreCounted, LocalityOfEdits, NamesAreReplaced, PathsLeadToSections, RemovalReasons, StabilityReasons, WrappingKeepsContent};
 
 /// An edit that no earlier reason holds against gives the edited document where this is stable, and a reason from
 /// OpenLine to Recut exactly where it isn't.

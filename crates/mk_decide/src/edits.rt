@@ -1,4 +1,4 @@
-//! Edits and commands.
+//! Edits.
 
 /// A change of a message. Paths are the numbers of a section, each counted from 1: the root is 1. A field is named by
 /// its name, without regard to ASCII case, and by its number `k` among the fields of that name, counted from 1.
@@ -63,8 +63,8 @@ pub enum Edit {
 
 impl Edit {
     ghost use Rattle.std.specs.Prelude.{◌≡◌};
-    ghost use Rattle.mk_edit.specs.Edits.{path_of};
-    ghost use Rattle.mk_edit.specs.Views.{edit_of};
+    ghost use Rattle.mk_decide.specs.Edits.{path_of};
+    ghost use Rattle.mk_decide.specs.Views.{edit_of};
 
     /// The path of the section that is edited.
     pub fn path(&self) -> &[u32]
@@ -82,17 +82,4 @@ impl Edit {
             Edit::Wrap { path, .. } => path,
         }
     }
-}
-
-/// What may be asked of a session.
-#[derive(Debug, Drop)]
-pub enum Command {
-    /// Makes an edit.
-    Do(Edit),
-    /// Makes edits one after another, as one step.
-    Group(Vec<Edit>),
-    /// Takes the last step back.
-    Undo,
-    /// Makes the step that was taken back last again.
-    Redo,
 }

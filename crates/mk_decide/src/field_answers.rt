@@ -4,27 +4,25 @@ ghost use Rattle.mk_line.specs.Lines.{cut as lines_of};
 ghost use Rattle.mk_head.specs.Splits.{IsRun};
 ghost use Rattle.mk_tree.specs.Documents.{tree};
 ghost use Rattle.mk_tree.specs.Sections.{section_at, head_text};
-ghost use Rattle.mk_tree.specs.Splicing.{spliced};
-ghost use Rattle.mk_edit.specs.Seams.{ends_open};
-ghost use Rattle.mk_edit.specs.FieldPuts.{plain_of};
-ghost use Rattle.mk_edit.specs.Answers.{refusal_of, IsRefusedBy};
-ghost use Rattle.mk_edit.specs.Decided.{IsDecided};
-ghost use Rattle.mk_edit.specs.Counts.{edit_lines};
-ghost use Rattle.mk_edit.specs.Outcomes.{edited};
-ghost use Rattle.mk_edit.specs.KindsKept.{looked_below};
-ghost use Rattle.mk_edit.specs.LocalAnswers.{answer_at, answer_bytes, looked_at, looked_bytes, fits_at, is_first as begins_document, opens_at, plain_splice};
+ghost use Rattle.mk_splice.specs.Splices.{spliced};
+ghost use Rattle.mk_decide.specs.FieldPuts.{plain_of};
+ghost use Rattle.mk_decide.specs.Answers.{refusal_of, IsRefusedBy};
+ghost use Rattle.mk_decide.specs.Decided.{IsDecided};
+ghost use Rattle.mk_decide.specs.Counts.{edit_lines};
+ghost use Rattle.mk_decide.specs.Outcomes.{edited};
+ghost use Rattle.mk_decide.specs.KindsKept.{looked_below};
+ghost use Rattle.mk_decide.specs.LocalAnswers.{answer_at, answer_bytes, looked_at, looked_bytes, fits_at, is_first as begins_document, opens_at, plain_splice};
 
 use crate::around::{hit_level, is_glued};
+use crate::deciding::Replacement;
 use crate::errors::EditError;
 use crate::field_edits::{FieldEdit, Put, put_of};
 use crate::kinds_kept::keeps_kinds;
 use crate::looking::{copied_lines, ends_there};
-use crate::splicing::Replacement;
-use mk_line::Meter;
-use mk_tree::{Doc, Section, replace};
+use mk_line::{Meter, ends_open};
+use mk_splice::replace;
+use mk_tree::{Doc, Section};
 use std::alloc::{AllocError, Global};
-
-const LINE_FEED: u8 = b'\n';
 
 /// The bytes that an edit of the fields of the section at a path replaces, or the first reason against it.
 pub(crate) fn decide_fields(
@@ -100,24 +98,17 @@ fn decide_put(
 }
 
 /// Whether a line without an ending would stand before another, with whole lines in the place of `count` bytes.
-pub(crate) fn opens_early(text: &[u8], place: usize, count: usize, lines: &[u8]) -> bool
+pub fn opens_early(text: &[u8], place: usize, count: usize, lines: &[u8]) -> bool
     requires { place + count ≤ length text.now }
     ensures { result ≡ opens_at text.now place count lines.now }
 {
     if lines.is_empty() {
         false
     } else if place == text.len() {
-        place > 0 && is_open(text)
+        ends_open(text)
     } else {
-        is_open(lines) && place + count < text.len()
+        ends_open(lines) && place + count < text.len()
     }
-}
-
-// Whether the last byte isn't an LF.
-pub(crate) fn is_open(text: &[u8]) -> bool
-    ensures { result ≡ ends_open text.now }
-{
-    text.last() != Some(&LINE_FEED)
 }
 
 // Whether the section at numbers below the root is read back as itself under the fields of a head.
@@ -149,7 +140,7 @@ fn is_first(numbers: &[u32], section: &Section<'_>) -> bool
 }
 
 /// What whole lines at a place replace, without the bytes that stay.
-pub(crate) fn splice_of(place: usize, put: Put) -> Replacement
+pub fn splice_of(place: usize, put: Put) -> Replacement
     requires stays { put.kept ≤ put.count }
     requires within { put.kept ≤ length put.lines.items }
     ensures place { result.place ≡ place }

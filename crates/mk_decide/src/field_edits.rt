@@ -1,26 +1,24 @@
 //! The four edits of fields, and what each puts among the lines of a head.
 ghost use Rattle.std.specs.Prelude.{◌≡◌, ◌≤◌, if◌then◌else◌, false, length, None, IfOk, IfErr, IfNone, IfSome};
-ghost use Rattle.std.specs.List.{list_all};
 ghost use Rattle.std.specs.Option.{option_map};
-ghost use Rattle.mk_line.specs.Ascii.{is_name_byte as name_byte};
 ghost use Rattle.mk_line.specs.Lines.{cut as lines_of};
 ghost use Rattle.mk_head.specs.Split.{fields_from};
 ghost use Rattle.mk_head.specs.Splits.{IsRun};
 ghost use Rattle.mk_head.specs.Fields.{fields_of};
 ghost use Rattle.mk_head.specs.Views.{field_view};
-ghost use Rattle.mk_edit.specs.FieldEdits.{field_at as found_in, is_name as are_name};
-ghost use Rattle.mk_edit.specs.FieldPuts.{adds, behind_field_name, first_line_size, placed_field, puts, removes, renames, sets, IsFieldAt, IsPut};
-ghost use Rattle.mk_edit.specs.Answers.{refusal_of, IsRefusedBy};
+ghost use Rattle.mk_decide.specs.FieldEdits.{field_at as found_in};
+ghost use Rattle.mk_decide.specs.FieldPuts.{adds, behind_field_name, first_line_size, placed_field, puts, removes, renames, sets, IsFieldAt, IsPut};
+ghost use Rattle.mk_decide.specs.Answers.{refusal_of, IsRefusedBy};
 
 use crate::errors::EditError;
 use mk_head::{Field, each_field, one_field};
-use mk_line::first_line;
+use mk_line::{first_line, is_name};
 use std::alloc::{AllocError, Global};
 
 /// A change of the fields of a section. A field is named by its name, without regard to ASCII case, and by its number
 /// among the fields of that name, counted from 1.
 #[derive(Clone, Copy, Debug)]
-pub(crate) enum FieldEdit<'a> {
+pub enum FieldEdit<'a> {
     /// Puts `text`, exactly one field with its line endings, behind the last field, or before the first where `top`
     /// holds.
     Add {
@@ -48,7 +46,7 @@ pub(crate) enum FieldEdit<'a> {
 
 /// Whole lines in the place of others, among those of a head.
 #[derive(Debug, Drop)]
-pub(crate) struct Put {
+pub struct Put {
     /// How many bytes of the head stand before them.
     pub from: usize,
     /// How many bytes they take the place of.
@@ -59,7 +57,7 @@ pub(crate) struct Put {
 }
 
 /// What an edit puts among the lines of a head.
-pub(crate) fn put_of(alloc: Global, head: &[u8], edit: &FieldEdit<'_>) -> Result<Put, EditError>
+pub fn put_of(alloc: Global, head: &[u8], edit: &FieldEdit<'_>) -> Result<Put, EditError>
     requires { IsRun false (lines_of head.now) }
     ensures ok { IfOk result (λ r. IsPut r (puts edit.now (lines_of head.now))) }
     ensures err { IfErr result (λ e. IsRefusedBy (refusal_of e) (puts edit.now (lines_of head.now))) }
@@ -206,28 +204,4 @@ fn first_size(text: &[u8]) -> usize
         Some((line, _)) => line.size(),
         None => 0,
     }
-}
-
-// Whether these bytes are a field's name.
-fn is_name(bytes: &[u8]) -> bool
-    ensures { result ≡ are_name bytes.now }
-{
-    !bytes.is_empty() && are_name_bytes(bytes)
-}
-
-fn are_name_bytes(bytes: &[u8]) -> bool
-    ensures { result ≡ list_all name_byte bytes.now }
-{
-    for byte in bytes {
-        if !is_name_byte(*byte) {
-            return false;
-        }
-    }
-    true
-}
-
-fn is_name_byte(byte: u8) -> bool
-    ensures { result ≡ name_byte byte }
-{
-    byte >= b'!' && byte <= b'~' && byte != b':'
 }

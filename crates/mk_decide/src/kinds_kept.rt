@@ -3,7 +3,7 @@ ghost use Rattle.std.specs.Prelude.{◌≡◌, ◌≤◌, ◌<◌, ◌+◌, ◌^
 ghost use Rattle.mk_line.specs.Lines.{cut as lines_of};
 ghost use Rattle.mk_tree.specs.Sections.{children as sections_below, head_text};
 ghost use Rattle.mk_tree.specs.Steps.{kind_described};
-ghost use Rattle.mk_edit.specs.KindsKept.{is_alike as are_alike, is_other as are_other, keeps_default as keeps_under, keeps_kind as keeps_its_kind, keeps_kinds as keeps_their_kinds, lines_of_others, looked_below, looked_for, parts_keep};
+ghost use Rattle.mk_decide.specs.KindsKept.{is_alike as are_alike, is_other as are_other, keeps_default as keeps_under, keeps_kind as keeps_its_kind, keeps_kinds as keeps_their_kinds, lines_of_others, looked_below, looked_for, parts_keep};
 
 use crate::looking::copied_lines;
 use mk_line::Meter;

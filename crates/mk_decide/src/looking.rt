@@ -1,12 +1,12 @@
 //! Looks at the lines of a message, each of them counted.
 ghost use Rattle.std.specs.Prelude.{◌≡◌, ◌≤◌, ◌+◌, length, IfOk, IfNone, IfSome};
-ghost use Rattle.mk_line.specs.Lines.{cut as lines_of, ending_bytes};
+ghost use Rattle.mk_line.specs.Lines.{cut as lines_of};
 ghost use Rattle.mk_line.specs.Views.{line_of, BeginsLine};
 ghost use Rattle.mk_tree.specs.Sections.{body_text};
 ghost use Rattle.mk_tree.specs.Tree.{entity_head};
-ghost use Rattle.mk_edit.specs.Looks.{ends_before as ends_before_lines, ends_there as ends_at, has_separator as holds_separator, IsEnd, IsNext};
+ghost use Rattle.mk_decide.specs.Looks.{ends_before as ends_before_lines, ends_there as ends_at, has_separator as holds_separator, IsEnd, IsNext};
 
-use mk_line::{Ending, Line, Meter, is_continuation, is_from_line, line_at};
+use mk_line::{Line, Meter, is_continuation, is_from_line, line_at};
 use mk_tree::Section;
 use std::alloc::{AllocError, Global};
 
@@ -25,7 +25,7 @@ pub(crate) fn copied_lines(
         match look(text, place, meter) {
             Some((line, size)) => {
                 copy.extend_from_slice(line.content)?;
-                copy.extend_from_slice(ending_text(line.ending))?;
+                copy.extend_from_slice(line.ending.bytes())?;
                 place += size;
             }
             None => return Ok(copy),
@@ -47,17 +47,6 @@ fn look<'a>(text: &'a [u8], place: usize, meter: &mut Meter) -> Option<(Line<'a>
             Some((line, size))
         }
         None => None,
-    }
-}
-
-// The bytes of an ending.
-pub(crate) fn ending_text(ending: Ending) -> &'static [u8]
-    ensures { result.now ≡ ending_bytes ending }
-{
-    match ending {
-        Ending::Crlf => b"\r\n",
-        Ending::Lf => b"\n",
-        Ending::Missing => b"",
     }
 }
 
@@ -88,7 +77,7 @@ fn ends_before(body: &[u8], none: bool, first: bool, meter: &mut Meter) -> bool
 }
 
 /// Whether a separator stands behind the fields of a section.
-pub(crate) fn has_separator(section: &Section<'_>) -> bool
+pub fn has_separator(section: &Section<'_>) -> bool
     ensures { result ≡ holds_separator (entity_head section.now.entity).separator }
 {
     section.raw().len() - section.head().len() > section.body().len()

@@ -3,20 +3,20 @@ ghost use Rattle.std.specs.Prelude.{◌≡◌, ◌+◌, Ok, Some, IfOk, IfErr, l
 ghost use Rattle.mk_line.specs.Lines.{cut as lines_of};
 ghost use Rattle.mk_tree.specs.Documents.{tree};
 ghost use Rattle.mk_tree.specs.Sections.{root_of, section_at};
-ghost use Rattle.mk_edit.specs.Answers.{refusal_of, IsRefusedBy};
-ghost use Rattle.mk_edit.specs.Around.{hit_below};
-ghost use Rattle.mk_edit.specs.Decided.{IsDecided};
-ghost use Rattle.mk_edit.specs.Edits.{InsertPart, RemovePart};
-ghost use Rattle.mk_edit.specs.LocalAnswers.{behind_first, plain_splice};
-ghost use Rattle.mk_edit.specs.Outcomes.{edited, has_mark as have_mark, or_own};
-ghost use Rattle.mk_edit.specs.SectionAnswers.{ends_at_delimiter as ends_at, gap_at, insertion_answer, insertion_at, last_number, outer_path, part_bytes, removal, removal_answer, removal_from};
+ghost use Rattle.mk_decide.specs.Answers.{refusal_of, IsRefusedBy};
+ghost use Rattle.mk_decide.specs.Around.{hit_below};
+ghost use Rattle.mk_decide.specs.Decided.{IsDecided};
+ghost use Rattle.mk_decide.specs.Edits.{InsertPart, RemovePart};
+ghost use Rattle.mk_decide.specs.LocalAnswers.{behind_first, plain_splice};
+ghost use Rattle.mk_decide.specs.Outcomes.{edited, has_mark as have_mark, or_own};
+ghost use Rattle.mk_decide.specs.SectionAnswers.{ends_at_delimiter as ends_at, gap_at, insertion_answer, insertion_at, last_number, outer_path, part_bytes, removal, removal_answer, removal_from};
 
 use crate::around::{has_mark, hit_level};
+use crate::deciding::Replacement;
 use crate::errors::EditError;
 use crate::field_answers::opens_early;
-use crate::looking::{ending_text, has_separator};
-use crate::splicing::Replacement;
-use mk_line::{eol_of, name_len};
+use crate::looking::has_separator;
+use mk_line::{eol_of, name_len, push_delimiter};
 use mk_tree::{Doc, Kind, Section};
 use std::alloc::{AllocError, Global};
 
@@ -167,9 +167,8 @@ fn with_delimiter(
 ) -> Result<Vec<u8>, AllocError>
     ensures { IfOk result (λ v. v.items ≡ part_bytes doc.now boundary.now text.now) }
 {
-    let mut new = Vec::from_slice(alloc, HYPHENS)?;
-    new.extend_from_slice(boundary)?;
-    new.extend_from_slice(ending_text(eol_of(doc.text())))?;
+    let mut new = Vec::new(alloc);
+    push_delimiter(&mut new, boundary, eol_of(doc.text()))?;
     new.extend_from_slice(text)?;
     Ok(new)
 }

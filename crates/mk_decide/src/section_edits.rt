@@ -4,18 +4,18 @@ ghost use Rattle.mk_line.specs.Lines.{cut as lines_of};
 ghost use Rattle.mk_line.specs.Views.{line_of};
 ghost use Rattle.mk_tree.specs.Documents.{tree};
 ghost use Rattle.mk_tree.specs.Sections.{section_at, raw_of, body_text};
-ghost use Rattle.mk_edit.specs.Answers.{refusal_of, IsRefusedBy};
-ghost use Rattle.mk_edit.specs.Decided.{IsDecided};
-ghost use Rattle.mk_edit.specs.Edits.{SetBody, SetSection};
-ghost use Rattle.mk_edit.specs.LocalAnswers.{behind_first, plain_splice};
-ghost use Rattle.mk_edit.specs.Outcomes.{edited};
-ghost use Rattle.mk_edit.specs.SectionAnswers.{begins_well, body_answer, body_bytes, body_place, leaf_answer, outer_path, runs_on as may_run_on, section_answer, separator_bytes, stays as may_stay, stays_behind as may_stay_behind};
+ghost use Rattle.mk_decide.specs.Answers.{refusal_of, IsRefusedBy};
+ghost use Rattle.mk_decide.specs.Decided.{IsDecided};
+ghost use Rattle.mk_decide.specs.Edits.{SetBody, SetSection};
+ghost use Rattle.mk_decide.specs.LocalAnswers.{behind_first, plain_splice};
+ghost use Rattle.mk_decide.specs.Outcomes.{edited};
+ghost use Rattle.mk_decide.specs.SectionAnswers.{begins_well, body_answer, body_bytes, body_place, leaf_answer, outer_path, runs_on as may_run_on, section_answer, separator_bytes, stays as may_stay, stays_behind as may_stay_behind};
 
 use crate::around::{glues, hit_level, is_glued};
+use crate::deciding::Replacement;
 use crate::errors::EditError;
 use crate::field_answers::opens_early;
-use crate::looking::{ending_text, has_separator};
-use crate::splicing::Replacement;
+use crate::looking::has_separator;
 use mk_line::{Line, eol_of, first_line, is_continuation, is_from_line, name_len};
 use mk_tree::{Doc, Kind, Section};
 use std::alloc::{AllocError, Global};
@@ -171,6 +171,6 @@ fn made_separator(doc: &Doc, section: &Section<'_>) -> &'static [u8]
     if has_separator(section) {
         b""
     } else {
-        ending_text(eol_of(doc.text()))
+        eol_of(doc.text()).bytes()
     }
 }

@@ -3,24 +3,23 @@ ghost use Rattle.std.specs.Prelude.{◌≡◌, ◌≤◌, ◌+◌, length, Ok, S
 ghost use Rattle.mk_line.specs.Lines.{cut as lines_of, is_lf as is_plain_lf};
 ghost use Rattle.mk_tree.specs.Documents.{tree};
 ghost use Rattle.mk_tree.specs.Sections.{body_text, head_text, raw_of, section_at};
-ghost use Rattle.mk_edit.specs.Answers.{refusal_of, IsRefusedBy};
-ghost use Rattle.mk_edit.specs.Counts.{edit_lines};
-ghost use Rattle.mk_edit.specs.Decided.{IsDecided};
-ghost use Rattle.mk_edit.specs.Edits.{Wrap};
-ghost use Rattle.mk_edit.specs.LocalAnswers.{behind_first, plain_splice};
-ghost use Rattle.mk_edit.specs.Outcomes.{edited};
-ghost use Rattle.mk_edit.specs.WrapAnswers.{ends_in_cr as ends_in_return, fits_below as fit_below, fits_levels as fit_in_levels, keeps_wrapped as keeps_when_wrapped, makes_digest as make_digest, may_end as may_get_end, wrap_answer, wrap_fits, wrap_in, wrap_looked, wrap_opens};
+ghost use Rattle.mk_decide.specs.Answers.{refusal_of, IsRefusedBy};
+ghost use Rattle.mk_decide.specs.Counts.{edit_lines};
+ghost use Rattle.mk_decide.specs.Decided.{IsDecided};
+ghost use Rattle.mk_decide.specs.Edits.{Wrap};
+ghost use Rattle.mk_decide.specs.LocalAnswers.{behind_first, plain_splice};
+ghost use Rattle.mk_decide.specs.Outcomes.{edited};
+ghost use Rattle.mk_decide.specs.WrapAnswers.{ends_in_cr as ends_in_return, fits_below as fit_below, fits_levels as fit_in_levels, keeps_wrapped as keeps_when_wrapped, makes_digest as make_digest, may_end as may_get_end, wrap_answer, wrap_fits, wrap_in, wrap_looked, wrap_opens};
 
 use crate::around::is_glued;
+use crate::deciding::Replacement;
 use crate::errors::EditError;
-use crate::field_answers::is_open;
 use crate::kinds_kept::{is_alike, is_other};
 use crate::looking::copied_lines;
 use crate::part_edits::part_hits;
-use crate::splicing::Replacement;
 use crate::wrapped_text::{Apart, all_made, divide, gains_end, is_leaf, make, take_apart, wrapped};
 use mk_head::{is_boundary, is_token};
-use mk_line::{Ending, Meter, eol_of};
+use mk_line::{Ending, Meter, ends_open, eol_of};
 use mk_tree::{Doc, LEVELS, Section, describe};
 use std::alloc::{AllocError, Global};
 
@@ -121,7 +120,7 @@ fn opens(text: &[u8], section: &Section<'_>) -> bool
     if section.followed() || is_leaf(section) && !section.body().is_empty() {
         return false;
     }
-    !text.is_empty() && is_open(text)
+    ends_open(text)
 }
 
 // Whether what is made of a section is read back.

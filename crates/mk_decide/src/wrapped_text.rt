@@ -5,20 +5,18 @@ ghost use Rattle.mk_line.specs.Lines.{cut as lines_of, ending_bytes, printed_lin
 ghost use Rattle.mk_line.specs.Views.{line_of};
 ghost use Rattle.mk_head.specs.Values.{lowered};
 ghost use Rattle.mk_tree.specs.Sections.{body_text, head_text, raw_of};
-ghost use Rattle.mk_edit.specs.FieldEdits.{starts_named};
-ghost use Rattle.mk_edit.specs.WrapAnswers.{close_bytes, content_part, delimiter_bytes, end_part, gains_end as may_gain_end, is_leaf as is_leaf_entity, other_part, separator_part, separator_text, type_bytes, version_bytes};
-ghost use Rattle.mk_edit.specs.Wrapping.{is_content_line as is_line_of_content, names_field};
+ghost use Rattle.mk_decide.specs.FieldEdits.{starts_named};
+ghost use Rattle.mk_decide.specs.WrapAnswers.{close_bytes, content_part, delimiter_bytes, end_part, gains_end as may_gain_end, is_leaf as is_leaf_entity, other_part, separator_part, separator_text, type_bytes, version_bytes};
+ghost use Rattle.mk_decide.specs.Wrapping.{is_content_line as is_line_of_content, names_field};
 
-use crate::looking::ending_text;
-use mk_line::{Ending, Line, cut, name_len};
+use mk_head::push_multipart_type;
+use mk_line::{Ending, Line, cut, name_len, push_close, push_delimiter};
 use mk_tree::{Kind, Section};
 use std::alloc::{AllocError, Global};
 
 const CONTENT: &[u8; 8] = b"content-";
 
 const VERSION: &[u8; 12] = b"MIME-Version";
-
-const HYPHENS: &[u8; 2] = b"--";
 
 /// The fields of a section that describe its content, and the others.
 #[derive(Debug, Drop)]
@@ -50,7 +48,7 @@ fn push_line(fields: &mut Vec<u8>, line: &Line<'_>) -> Result<(), AllocError>
     ensures { OnOk result (fields.new.items ≡ fields.old.items ++ printed_line (line_of line.now)) }
 {
     fields.extend_from_slice(line.content)?;
-    fields.extend_from_slice(ending_text(line.ending))
+    fields.extend_from_slice(line.ending.bytes())
 }
 
 // Whether a line belongs to a field that describes the content; inside: one stands before it.
@@ -118,11 +116,18 @@ pub(crate) fn make(
     ensures delimiter { IfOk result (λ m. m.delimiter.items ≡ delimiter_bytes eol boundary.now) }
     ensures close { IfOk result (λ m. m.close.items ≡ close_bytes eol boundary.now) }
 {
+    let version = version_line(alloc, eol, root, others)?;
+    let mut kind = Vec::new(alloc);
+    push_multipart_type(&mut kind, subtype, boundary, eol)?;
+    let mut delimiter = Vec::new(alloc);
+    push_delimiter(&mut delimiter, boundary, eol)?;
+    let mut close = Vec::new(alloc);
+    push_close(&mut close, boundary, eol)?;
     Ok(Made {
-        version: version_line(alloc, eol, root, others)?,
-        kind: type_line(alloc, eol, subtype, boundary)?,
-        delimiter: delimiter_line(alloc, eol, boundary)?,
-        close: close_line(alloc, eol, boundary)?,
+        version,
+        kind,
+        delimiter,
+        close,
     })
 }
 
@@ -137,44 +142,8 @@ fn version_line(
     let mut line = Vec::new(alloc);
     if root && !names_version(others) {
         line.extend_from_slice(b"MIME-Version: 1.0")?;
-        line.extend_from_slice(ending_text(eol))?;
+        line.extend_from_slice(eol.bytes())?;
     }
-    Ok(line)
-}
-
-fn type_line(
-    alloc: Global,
-    eol: Ending,
-    subtype: &[u8],
-    boundary: &[u8],
-) -> Result<Vec<u8>, AllocError>
-    ensures { IfOk result (λ v. v.items ≡ type_bytes eol subtype.now boundary.now) }
-{
-    let mut line = Vec::from_slice(alloc, b"Content-Type: multipart/")?;
-    line.extend_from_slice(subtype)?;
-    line.extend_from_slice(b"; boundary=\"")?;
-    line.extend_from_slice(boundary)?;
-    line.extend_from_slice(b"\"")?;
-    line.extend_from_slice(ending_text(eol))?;
-    Ok(line)
-}
-
-fn delimiter_line(alloc: Global, eol: Ending, boundary: &[u8]) -> Result<Vec<u8>, AllocError>
-    ensures { IfOk result (λ v. v.items ≡ delimiter_bytes eol boundary.now) }
-{
-    let mut line = Vec::from_slice(alloc, HYPHENS)?;
-    line.extend_from_slice(boundary)?;
-    line.extend_from_slice(ending_text(eol))?;
-    Ok(line)
-}
-
-fn close_line(alloc: Global, eol: Ending, boundary: &[u8]) -> Result<Vec<u8>, AllocError>
-    ensures { IfOk result (λ v. v.items ≡ close_bytes eol boundary.now) }
-{
-    let mut line = Vec::from_slice(alloc, HYPHENS)?;
-    line.extend_from_slice(boundary)?;
-    line.extend_from_slice(HYPHENS)?;
-    line.extend_from_slice(ending_text(eol))?;
     Ok(line)
 }
 
@@ -241,7 +210,7 @@ pub(crate) fn wrapped(
     let mut new = Vec::from_slice(alloc, &divided.others)?;
     new.extend_from_slice(&made.version)?;
     new.extend_from_slice(&made.kind)?;
-    new.extend_from_slice(ending_text(eol))?;
+    new.extend_from_slice(eol.bytes())?;
     new.extend_from_slice(&made.delimiter)?;
     new.extend_from_slice(&part)?;
     new.extend_from_slice(&made.close)?;
@@ -270,7 +239,7 @@ fn separator_or<'a>(eol: Ending, separator: &'a [u8]) -> &'a [u8]
     ensures { result.now ≡ separator_part eol separator.now }
 {
     if separator.is_empty() {
-        ending_text(eol)
+        eol.bytes()
     } else {
         separator
     }
@@ -280,9 +249,5 @@ fn separator_or<'a>(eol: Ending, separator: &'a [u8]) -> &'a [u8]
 fn end_text(eol: Ending, section: &Section<'_>) -> &'static [u8]
     ensures { result.now ≡ end_part eol section.now }
 {
-    if gains_end(section) {
-        ending_text(eol)
-    } else {
-        b""
-    }
+    if gains_end(section) { eol.bytes() } else { b"" }
 }

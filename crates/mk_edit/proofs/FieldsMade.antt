@@ -1,11 +1,12 @@
 -- An accepted edit of fields changes the fields of its section.
 use Rattle.std.proofs.Common.{◌≡◌, ℕ, List, ap, sym, ◌∙◌}
 use Rattle.mk_tree.specs.Documents.{tree, printed}
-use Rattle.mk_tree.specs.Splicing.{spliced, ChangesFields}
+use Rattle.mk_splice.specs.Splices.{spliced}
+use Rattle.mk_tree.specs.Splicing.{ChangesFields}
 use Rattle.mk_tree.proofs.Kept.{text_kept}
-use Rattle.mk_edit.specs.Edits.{PlainEdit, AddField, RemoveField, RenameField, SetField, SetBody, SetSection, InsertPart, RemovePart, Wrap, path_of}
-use Rattle.mk_edit.specs.LocalAnswers.{PlainSplice}
-use Rattle.mk_edit.specs.Decided.{IsDecided}
+use Rattle.mk_decide.specs.Edits.{PlainEdit, AddField, RemoveField, RenameField, SetField, SetBody, SetSection, InsertPart, RemovePart, Wrap, path_of}
+use Rattle.mk_decide.specs.LocalAnswers.{PlainSplice}
+use Rattle.mk_decide.specs.Decided.{IsDecided}
 
 abbrev pub IsOfFields : PlainEdit → Type 0
 IsOfFields (AddField path top text) = Unit {0}

@@ -4,16 +4,16 @@ use Rattle.std.specs.Global.{Vec}
 use Rattle.mk_tree.specs.Documents.{tree}
 use Rattle.mk_tree.proofs.Kept.{text_kept}
 use Rattle.mk_edit.specs.declared.errors.GroupError.{GroupError}
-use Rattle.mk_edit.specs.declared.splicing.Splice.{Splice as SpliceIn}
+use Rattle.mk_splice.specs.declared.splicing.Splice.{Splice as SpliceIn}
 use Rattle.mk_edit.specs.Answers.{IsGroupRefusedBy}
-use Rattle.mk_edit.specs.Edits.{PlainEdit, Group}
-use Rattle.mk_edit.specs.Fits.{Fit, history_of}
+use Rattle.mk_decide.specs.Edits.{PlainEdit, Group}
+use Rattle.mk_splice.specs.Fits.{Fit}
+use Rattle.mk_edit.specs.History.{history_of, History}
 use Rattle.mk_edit.specs.Groups.{together}
-use Rattle.mk_edit.specs.History.{History}
 use Rattle.mk_edit.specs.Histories.{grouped_by, step, text_now, with_step}
 use Rattle.mk_edit.specs.Made.{AreMade}
-use Rattle.mk_edit.specs.Splices.{Splice}
-use Rattle.mk_edit.specs.Views.{splice_of, steps_of}
+use Rattle.mk_splice.specs.Splices.{Splice}
+use Rattle.mk_splice.specs.Views.{splice_of, steps_of}
 use Rattle.mk_edit.proofs.Moves.{more_steps, put_text}
 use Rattle.mk_edit.proofs.Steps.{Stepped, edit_is}
 

@@ -1,45 +1,45 @@
 -- The splices of an accepted edit lead from text to text, so histories stay histories.
-use Rattle.std.proofs.Common.{◌≡◌, ◌+◌, ◌-◌, ◌≤◌, ◌++◌, ℕ, suc, zero, Bool, true, false, nat_lt, if◌then◌else◌, Result, Ok, Err, List, [], ◌∷◌, refl, ap, sym, ◌∙◌, length, take, get_or, arith, length-append}
+use Rattle.std.proofs.Common.{◌≡◌, ◌+◌, ◌-◌, ◌≤◌, ◌++◌, ℕ, suc, zero, Bool, true, false, nat_lt, if◌then◌else◌, Result, Ok, Err, List, [], ◌∷◌, refl, ap, subst, ◌∙◌, length, take, get_or, arith, length-append}
 use Rattle.std.proofs.lemmas.Bool.{ltb-true}
 use Rattle.std.proofs.lemmas.List.{length-take-le}
 use Rattle.mk_tree.specs.Documents.{Document, tree, printed}
-use Rattle.mk_edit.specs.Edits.{PlainEdit, Order, Do, Group, Undo, Redo, Refusal, NothingToUndo, NothingToRedo}
-use Rattle.mk_edit.specs.Outcomes.{edited}
-use Rattle.mk_edit.specs.EditSplices.{splices_of}
-use Rattle.mk_edit.specs.Splices.{Splice, forth_step, back_step}
+use Rattle.mk_decide.specs.Edits.{PlainEdit, Order, Do, Group, Undo, Redo, Refusal, NothingToUndo, NothingToRedo}
+use Rattle.mk_decide.specs.Outcomes.{edited}
+use Rattle.mk_decide.specs.EditSplices.{splices_of}
+use Rattle.mk_splice.specs.Splices.{Splice, LeadsTo}
 use Rattle.mk_edit.specs.Groups.{Together, together}
 use Rattle.mk_edit.specs.History.{History}
-use Rattle.mk_edit.specs.Histories.{AreLinked, IsHistory, text_now, started, with_step, edited_by, grouped_by, left_by, after, after_all}
-use Rattle.mk_edit.specs.Laws.{HistoriesStay}
-use Rattle.mk_edit.proofs.EditsLead.{splices_lead_lem}
+use Rattle.mk_edit.specs.Histories.{AreLinked, IsHistory, text_now, with_step, edited_by, grouped_by, left_by, after, after_all}
+use Rattle.mk_edit.specs.Laws.{HistoriesStay, TextsStart}
+use Rattle.mk_decide.proofs.EditsLead.{splices_lead_lem}
 use Rattle.mk_edit.proofs.GroupFacts.{LeadsFrom, together_leads}
 
 -- a step that leads from the text at a place to a new one
-linked_more : (first : List ℕ) (others : List (List ℕ)) (steps : List (List Splice)) (n : ℕ) (y : List ℕ) (s : List Splice) → AreLinked first others steps → n ≤ length steps → y ≡ forth_step s (get_or (first ∷ others) n []) → get_or (first ∷ others) n [] ≡ back_step s y → AreLinked first (take n others ++ y ∷ []) (take n steps ++ s ∷ [])
-linked_more first others steps zero y s h l f b = (f, b, tt)
-linked_more first [] [] (suc n) y s h l f b = absurd (omega (arith, l))
-linked_more first [] (r ∷ rs) (suc n) y s h l f b = absurd h
-linked_more first (z ∷ zs) [] (suc n) y s h l f b = absurd h
-linked_more first (z ∷ zs) (r ∷ rs) (suc n) y s h l f b = (h.0, h.1, linked_more z zs rs n y s h.2 (omega (arith, l)) f b)
+linked_more : (first : List ℕ) (others : List (List ℕ)) (steps : List (List Splice)) (n : ℕ) (y : List ℕ) (s : List Splice) → AreLinked first others steps → n ≤ length steps → LeadsTo s (get_or (first ∷ others) n []) y → AreLinked first (take n others ++ y ∷ []) (take n steps ++ s ∷ [])
+linked_more first others steps zero y s h l p = (p, tt)
+linked_more first [] [] (suc n) y s h l p = absurd (omega (arith, l))
+linked_more first [] (r ∷ rs) (suc n) y s h l p = absurd h
+linked_more first (z ∷ zs) [] (suc n) y s h l p = absurd h
+linked_more first (z ∷ zs) (r ∷ rs) (suc n) y s h l p = (h.0, linked_more z zs rs n y s h.1 (omega (arith, l)) p)
 
 more_place : (n : ℕ) → n + 1 ≡ suc n
 more_place n = omega arith
 
-stays_step : (h : History) (y : List ℕ) (s : List Splice) → IsHistory h → y ≡ forth_step s (text_now h) → text_now h ≡ back_step s y → IsHistory (with_step h y s)
-stays_step h y s b f g = record {
+stays_step : (h : History) (y : List ℕ) (s : List Splice) → IsHistory h → LeadsTo s (text_now h) y → IsHistory (with_step h y s)
+stays_step h y s b p = record {
   first = b.first;
   others = take h.place b.others ++ y ∷ [];
   texts = ap (λ ts. take (h.place + 1) ts ++ y ∷ []) b.texts ∙ ap (λ n. take n (b.first ∷ b.others) ++ y ∷ []) (more_place h.place);
-  linked = linked_more b.first b.others h.steps h.place y s b.linked b.within (f ∙ ap (λ ts. forth_step s (get_or ts h.place [])) b.texts) (sym (ap (λ ts. get_or ts h.place []) b.texts) ∙ g);
+  linked = linked_more b.first b.others h.steps h.place y s b.linked b.within (subst (λ ts. LeadsTo s (get_or ts h.place []) y) b.texts p);
   within = omega (arith, length-append (take h.place h.steps) (s ∷ []), length-take-le h.place h.steps b.within);
 }
 
 stays_edit : (h : History) (e : PlainEdit) (r : Result Document Refusal) → edited e (tree (text_now h)) ≡ r → IsHistory h → IsHistory (left_by h (edited_by h (splices_of e (tree (text_now h))) r))
-stays_edit h e (Ok t) o b = let p = splices_lead_lem e (text_now h) t o in stays_step h (printed t) (splices_of e (tree (text_now h))) b (sym p.0) (sym p.1)
+stays_edit h e (Ok t) o b = stays_step h (printed t) (splices_of e (tree (text_now h))) b (splices_lead_lem e (text_now h) t o)
 stays_edit h e (Err f) o b = b
 
 stays_group : (h : History) (r : Together) → LeadsFrom (text_now h) r → IsHistory h → IsHistory (left_by h (grouped_by h r))
-stays_group h (Ok p) l b = stays_step h (printed p.0) p.1 b (sym l.0.forth) (sym l.0.back)
+stays_group h (Ok p) l b = stays_step h (printed p.0) p.1 b l.0
 stays_group h (Err q) l b = b
 
 stays_undo : (h : History) (t : Bool) → IsHistory h → IsHistory (left_by h (if t then Ok (record h { place = h.place - 1 }) else Err NothingToUndo))
@@ -61,4 +61,7 @@ stays_all [] h b = b
 stays_all (o ∷ orders) h b = stays_all orders (after o h) (stays_after o h b)
 
 pub histories_stay_lem : HistoriesStay
-histories_stay_lem text orders = stays_all orders (started text) (record { first = text; others = []; texts = refl; linked = tt; within = omega arith })
+histories_stay_lem h orders b = stays_all orders h b
+
+pub texts_start_lem : TextsStart
+texts_start_lem text = (record { first = text; others = []; texts = refl; linked = tt; within = omega arith }, refl)

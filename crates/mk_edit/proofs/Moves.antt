@@ -1,68 +1,24 @@
 -- Steps in memory: what a session's fields are when it goes back, forth, or takes one more.
 use Rattle.std.proofs.Common.{◌≡◌, ◌+◌, ◌-◌, ◌≤◌, ◌<◌, ◌++◌, ℕ, suc, zero, Option, None, Some, Result, Ok, Err, List, [], ◌∷◌, refl, ap, sym, ◌∙◌, subst, length, take, drop, map, get_or, arith}
-use Rattle.std.proofs.lemmas.List.{length-map, take_more, map-append, length-take-le, length-drop, drop-drop, take-append-drop}
+use Rattle.std.proofs.lemmas.List.{length-map, map-append}
 use Rattle.std.proofs.lemmas.Bool.{lt-ltb}
 use Rattle.std.specs.Global.{Vec}
-use Rattle.mk_edit.specs.declared.splicing.Splice.{Splice as SpliceIn}
+use Rattle.mk_splice.specs.declared.splicing.Splice.{Splice as SpliceIn}
 use Rattle.mk_tree.specs.Documents.{Document, tree, printed}
-use Rattle.mk_edit.specs.Answers.{IsAccepted, IsRefusedBy}
-use Rattle.mk_edit.specs.Counts.{edit_lines}
-use Rattle.mk_edit.specs.Decided.{IsDecided}
-use Rattle.mk_edit.specs.Edits.{PlainEdit, Refusal, Do, Undo, Redo}
-use Rattle.mk_edit.specs.EditSplices.{splices_of}
-use Rattle.mk_edit.specs.LocalAnswers.{PlainSplice}
-use Rattle.mk_edit.specs.Outcomes.{edited}
-use Rattle.mk_edit.specs.Splices.{Splice, Stands, back_one, back_step, forth_step, GoesBack, GoesForth}
-use Rattle.mk_tree.specs.Splicing.{spliced}
-use Rattle.mk_edit.specs.Rooms.{olds}
-use Rattle.mk_edit.specs.History.{History}
+use Rattle.mk_decide.specs.Answers.{IsAccepted, IsRefusedBy}
+use Rattle.mk_decide.specs.Counts.{edit_lines}
+use Rattle.mk_decide.specs.Decided.{IsDecided}
+use Rattle.mk_decide.specs.Edits.{PlainEdit, Refusal, Do, Undo, Redo}
+use Rattle.mk_decide.specs.EditSplices.{splices_of}
+use Rattle.mk_decide.specs.LocalAnswers.{PlainSplice}
+use Rattle.mk_decide.specs.Outcomes.{edited}
+use Rattle.mk_splice.specs.Splices.{Splice, Stands, back_step, forth_step, GoesBack, GoesForth, spliced}
+use Rattle.mk_edit.specs.History.{History, history_of}
 use Rattle.mk_edit.specs.Histories.{step, edited_by, text_now, with_step}
-use Rattle.mk_edit.specs.Fits.{Fit, history_of}
-use Rattle.mk_edit.specs.Views.{splice_of, steps_of}
-use Rattle.mk_tree.proofs.FieldsChanged.{length-spliced}
+use Rattle.mk_splice.specs.Fits.{Fit}
+use Rattle.mk_splice.specs.Views.{splice_of, steps_of}
+use Rattle.mk_splice.proofs.Bytes.{copied_stands}
 use Rattle.mk_edit.proofs.Steps.{Moved, Stepped, undo_can, undo_is, redo_can, redo_is, edit_is, fit_text}
-
--- the last splice of a step, which is taken back first
-back_last : (ss : List Splice) (s : Splice) (x : List ℕ) → back_step (ss ++ s ∷ []) x ≡ back_step ss (back_one s x)
-back_last [] s x = refl
-back_last (r ∷ ss) s x = ap (back_one r) (back_last ss s x)
-
-goes_last : (ss : List Splice) (s : Splice) (x : List ℕ) → GoesBack (ss ++ s ∷ []) x → GoesBack ss (back_one s x) × Stands s.place s.new x
-goes_last [] s x h = (tt, h.1)
-goes_last (r ∷ ss) s x h =
-    let p = goes_last ss s x h.0 in
-    ((p.0, subst (λ y. Stands r.place r.new y) (back_last ss s x) h.1), p.1)
-
-olds_last : (ss : List Splice) (s : Splice) → olds (ss ++ s ∷ []) ≡ olds ss + length s.old
-olds_last [] s = omega arith
-olds_last (r ∷ ss) s = omega (arith, olds_last ss s)
-
-less_one : (n : ℕ) → 0 < n → n - 1 + 1 ≡ n
-less_one n h = omega arith
-
-taken_last : (ss : List SpliceIn) (left : ℕ) (s : SpliceIn) → 0 < left → left ≤ length ss → s ≡ get_or ss (left - 1) s → map splice_of (take left ss) ≡ map splice_of (take (left - 1) ss) ++ splice_of s ∷ []
-taken_last ss left s o l e =
-    ap (λ n. map splice_of (take n ss)) (sym (less_one left o))
-    ∙ (ap (map splice_of) (take_more ss (left - 1) s (omega arith) ∙ ap (λ r. take (left - 1) ss ++ r ∷ []) (sym e))
-    ∙ map-append splice_of (take (left - 1) ss) (s ∷ []))
-
--- one turn of taking a step back
-pub record LastBack (ss : List SpliceIn) (left : ℕ) (s : SpliceIn) (x : List ℕ) : Type 0 where
-  pub stands : Stands s.place s.new.items x
-  pub goes : GoesBack (map splice_of (take (left - 1) ss)) (back_one (splice_of s) x)
-  pub made : back_step (map splice_of (take left ss)) x ≡ back_step (map splice_of (take (left - 1) ss)) (back_one (splice_of s) x)
-  pub room : olds (map splice_of (take left ss)) ≡ olds (map splice_of (take (left - 1) ss)) + length s.old.items
-
-pub last_back : (ss : List SpliceIn) (left : ℕ) (s : SpliceIn) (x : List ℕ) → 0 < left → left ≤ length ss → s ≡ get_or ss (left - 1) s → GoesBack (map splice_of (take left ss)) x → LastBack ss left s x
-last_back ss left s x o l e g =
-    let whole = taken_last ss left s o l e in
-    let p = goes_last (map splice_of (take (left - 1) ss)) (splice_of s) x (subst (λ ss. GoesBack ss x) whole g) in
-    record {
-      stands = p.1;
-      goes = p.0;
-      made = ap (λ ss. back_step ss x) whole ∙ back_last (map splice_of (take (left - 1) ss)) (splice_of s) x;
-      room = ap olds whole ∙ olds_last (map splice_of (take (left - 1) ss)) (splice_of s);
-    }
 
 -- the step at a place
 at_place : (vs : List (Vec SpliceIn)) (n : ℕ) (v : Vec SpliceIn) → get_or (steps_of vs) n (map splice_of v.items) ≡ map splice_of (get_or vs n v).items
@@ -116,21 +72,6 @@ pub more_steps : (vs ws : List (Vec SpliceIn)) (v : Vec SpliceIn) (n : ℕ) → 
 more_steps vs ws v n e =
     ap steps_of e ∙ (map-append (λ w. map splice_of w.items) (take n vs) (v ∷ []) ∙ ap (λ ss. ss ++ map splice_of v.items ∷ []) (taken_steps vs n))
 
--- bytes copied at a place stand there
-pub copied_stands : (place count : ℕ) (x old : List ℕ) → place + count ≤ length x → old ≡ take count (drop place x) → Stands place old x × (length old ≡ count)
-copied_stands place count x old h e =
-    let size : length old ≡ count = ap length e ∙ length-take-le count (drop place x) (omega (arith, h, length-drop place x)) in (
-      record {
-        within = omega (arith, h, size);
-        same =
-            ap (λ k. take place x ++ (old ++ drop (place + k) x)) size
-            ∙ (ap (λ xs. take place x ++ (xs ++ drop (place + count) x)) e
-            ∙ (ap (λ xs. take place x ++ (take count (drop place x) ++ xs)) (sym (drop-drop count place x))
-            ∙ (ap (λ xs. take place x ++ xs) (take-append-drop count (drop place x)) ∙ take-append-drop place x)));
-      },
-      size,
-    )
-
 pub put_moves : (x : List ℕ) (vs ws : List (Vec SpliceIn)) (n place count : ℕ) (v : Vec SpliceIn) (s : SpliceIn) (y new : List ℕ) → Fit x (steps_of vs) n → place + count ≤ length x
     → ws ≡ take n vs ++ v ∷ [] → v.items ≡ s ∷ [] → s.place ≡ place → s.old.items ≡ take count (drop place x) → s.new.items ≡ new → y ≡ spliced place count new x
     → Stepped x (steps_of vs) n (record { place = place; old = take count (drop place x); new = new } ∷ []) y (steps_of ws)
@@ -141,14 +82,6 @@ put_moves x vs ws n place count v s y new f h w i p o e q =
     edit_is x (steps_of vs) n (record { place = place; old = old; new = new } ∷ []) y (steps_of ws) f (at.0, tt)
     (q ∙ ap (λ k. spliced place k new x) (sym at.1))
     (more_steps vs ws v n w ∙ ap (λ ss. take n (steps_of vs) ++ ss ∷ []) made)
-
--- the text after that turn, and the room that is left
-pub back_so : (s : SpliceIn) (x y old : List ℕ) (count : ℕ) → y ≡ spliced s.place count old x → count ≡ length s.new.items → old ≡ s.old.items → y ≡ back_one (splice_of s) x
-back_so s x y old count e n o = e ∙ (ap (λ k. spliced s.place k old x) n ∙ ap (λ b. spliced s.place (length s.new.items) b x) o)
-
-pub room_so : (ss : List SpliceIn) (left : ℕ) (s : SpliceIn) (x y : List ℕ) (size new cap more : ℕ) → LastBack ss left s x → y ≡ back_one (splice_of s) x → size ≡ length x → new ≡ length y → size + olds (map splice_of (take left ss)) ≤ cap → cap ≤ more → new + olds (map splice_of (take (left - 1) ss)) ≤ more
-room_so ss left s x y size new cap more b e n m r c =
-    omega (arith, b.room, r, c, n, m, ap length e, length-spliced s.place (length s.new.items) s.old.items x b.stands.within)
 
 -- what a session sees of the text, and of one step more
 pub put_text : (h : History) (x : List ℕ) (ss : List (List Splice)) (n : ℕ) → Fit x ss n → history_of x ss n ≡ h → x ≡ text_now h

@@ -3,7 +3,7 @@ use Rattle.std.proofs.Common.{◌≡◌, ◌+◌, ◌<◌, ◌++◌, ℕ, suc, z
 use Rattle.std.proofs.lemmas.List.{drop_more, take_more, length-map, map-append}
 use Rattle.mk_edit.specs.declared.replies.Reply.{Reply}
 use Rattle.mk_edit.specs.Answers.{reply_of}
-use Rattle.mk_edit.specs.Edits.{Order, Refusal}
+use Rattle.mk_decide.specs.Edits.{Order, Refusal}
 use Rattle.mk_edit.specs.History.{History}
 use Rattle.mk_edit.specs.Histories.{step, after, after_all, refusal, replies}
 

@@ -10,19 +10,20 @@ use Rattle.mk_head.specs.Fields.{continuations}
 use Rattle.mk_head.specs.Splits.{IsRun}
 use Rattle.mk_tree.specs.Spans.{size}
 use Rattle.mk_tree.proofs.Descent.{size_append}
-use Rattle.mk_edit.specs.declared.field_edits.FieldEdit.{FieldEdit}
-use Rattle.mk_edit.specs.declared.field_edits.FieldEdit.TheVariants.{Remove, Rename}
-use Rattle.mk_edit.specs.declared.field_edits.Put.{Put}
+use Rattle.mk_decide.specs.declared.field_edits.FieldEdit.{FieldEdit}
+use Rattle.mk_decide.specs.declared.field_edits.FieldEdit.TheVariants.{Remove, Rename}
+use Rattle.mk_decide.specs.declared.field_edits.Put.{Put}
 use Rattle.mk_edit.specs.declared.silent_edits.SilentEdit.{SilentEdit}
-use Rattle.mk_edit.specs.Answers.{IsRefusedBy}
-use Rattle.mk_edit.specs.Edits.{Refusal, BadName}
-use Rattle.mk_edit.specs.FieldEdits.{starts_named, behind_continuations, Found, found_behind, find, field_at, is_name, renamed}
-use Rattle.mk_edit.specs.FieldPuts.{LinePut, IsPut, name_put, put_unless, puts, removes, renames}
+use Rattle.mk_decide.specs.Answers.{IsRefusedBy}
+use Rattle.mk_decide.specs.Edits.{Refusal, BadName}
+use Rattle.mk_line.specs.Kinds.{is_name}
+use Rattle.mk_decide.specs.FieldEdits.{starts_named, behind_continuations, Found, found_behind, find, field_at, renamed}
+use Rattle.mk_decide.specs.FieldPuts.{LinePut, IsPut, name_put, put_unless, puts, removes, renames}
 use Rattle.mk_edit.specs.RootFields.{HasPassed, IsBehind}
 use Rattle.mk_edit.specs.SilentEdits.{by_option, numbered}
-use Rattle.mk_edit.proofs.FieldPutFacts.{puts_is, puts_fit}
-use Rattle.mk_edit.proofs.Renaming.{renamed_start}
-use Rattle.mk_edit.proofs.Runs.{IsFound, FoundIn, field_is, run_after, run_behind, run_start}
+use Rattle.mk_decide.proofs.FieldPutFacts.{puts_is, puts_fit}
+use Rattle.mk_decide.proofs.Renaming.{renamed_start}
+use Rattle.mk_decide.proofs.Runs.{IsFound, FoundIn, field_is, run_after, run_behind, run_start}
 use Rattle.mk_edit.proofs.SilentFields.{not_false}
 
 -- a field with more lines before it

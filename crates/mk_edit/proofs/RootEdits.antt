@@ -13,36 +13,36 @@ use Rattle.mk_tree.specs.Sections.{Placed, root_of, head_text, body_text}
 use Rattle.mk_tree.specs.Places.{below, placed}
 use Rattle.mk_tree.specs.Reading.{IsWellRead}
 use Rattle.mk_tree.specs.Spans.{size}
-use Rattle.mk_tree.specs.Splicing.{spliced}
+use Rattle.mk_splice.specs.Splices.{spliced}
 use Rattle.mk_tree.proofs.Descent.{size_append}
 use Rattle.mk_tree.proofs.FieldsChanged.{stable_well}
 use Rattle.mk_tree.proofs.Placed.{sections_placed}
 use Rattle.mk_tree.proofs.Plugs.{own_of}
 use Rattle.mk_tree.proofs.Stability.{read_stable}
-use Rattle.mk_edit.specs.declared.field_edits.FieldEdit.{FieldEdit}
-use Rattle.mk_edit.specs.declared.field_edits.Put.{Put}
-use Rattle.mk_edit.specs.declared.errors.EditError.{EditError}
-use Rattle.mk_edit.specs.Answers.{refusal_of, IsRefusedBy}
-use Rattle.mk_edit.specs.Decided.{IsDecided}
-use Rattle.mk_edit.specs.Edits.{Refusal, OpenLine}
-use Rattle.mk_edit.specs.FieldPuts.{LinePut, PutsLines, IsPut, puts, plain_of}
-use Rattle.mk_edit.specs.KindsKept.{keeps_kinds}
-use Rattle.mk_edit.specs.Local.{IsAlike, AreKept, parts_of}
-use Rattle.mk_edit.specs.LocalAnswers.{PlainSplice, opens_at, fits_at, unless_recut, unless_held, answer_puts, answer}
-use Rattle.mk_edit.specs.Looks.{has_separator, ends_there}
+use Rattle.mk_decide.specs.declared.field_edits.FieldEdit.{FieldEdit}
+use Rattle.mk_decide.specs.declared.field_edits.Put.{Put}
+use Rattle.mk_decide.specs.declared.errors.EditError.{EditError}
+use Rattle.mk_decide.specs.Answers.{refusal_of, IsRefusedBy}
+use Rattle.mk_decide.specs.Decided.{IsDecided}
+use Rattle.mk_decide.specs.Edits.{Refusal, OpenLine}
+use Rattle.mk_decide.specs.FieldPuts.{LinePut, PutsLines, IsPut, puts, plain_of}
+use Rattle.mk_decide.specs.KindsKept.{keeps_kinds}
+use Rattle.mk_decide.specs.Local.{IsAlike, AreKept, parts_of}
+use Rattle.mk_decide.specs.LocalAnswers.{PlainSplice, opens_at, fits_at, unless_recut, unless_held, answer_puts, answer}
+use Rattle.mk_decide.specs.Looks.{has_separator, ends_there}
 use Rattle.mk_edit.specs.Made.{IsMade}
-use Rattle.mk_edit.specs.Outcomes.{edited}
+use Rattle.mk_decide.specs.Outcomes.{edited}
 use Rattle.mk_edit.specs.declared.silent_edits.SilentEdit.{SilentEdit}
 use Rattle.mk_edit.specs.RootFields.{root_in, lines_in, HasFields, HasPassed, IsHeld, Replaces}
 use Rattle.mk_edit.specs.SilentEdits.{numbered, IsSilent}
-use Rattle.mk_edit.proofs.FieldAnswers.{put_document, put_law, put_splice, answered_ok, answered_err}
-use Rattle.mk_edit.proofs.FieldFits.{IsPutAt, IsClosed, KindsStay, kinds_stay, put_are, put_head, look_there, parts_fit, line_put, given_put, fits_told}
-use Rattle.mk_edit.proofs.FieldPutFacts.{puts_is, puts_fit}
+use Rattle.mk_decide.proofs.FieldAnswers.{put_document, put_law, put_splice, answered_ok, answered_err}
+use Rattle.mk_decide.proofs.FieldFits.{IsPutAt, IsClosed, KindsStay, kinds_stay, put_are, put_head, look_there, parts_fit, line_put, given_put, fits_told}
+use Rattle.mk_decide.proofs.FieldPutFacts.{puts_is, puts_fit}
 use Rattle.mk_edit.proofs.GroupsMade.{made_so}
-use Rattle.mk_edit.proofs.KindsTold.{kept_same}
-use Rattle.mk_edit.proofs.PutPlans.{lines_put}
-use Rattle.mk_edit.proofs.PutSites.{opens_told, hit_told, printed_told}
-use Rattle.mk_edit.proofs.SectionSites.{IsSite, site_lines, front_lines, rest_lines, head_cut, head_is_run, head_within}
+use Rattle.mk_decide.proofs.KindsTold.{kept_same}
+use Rattle.mk_decide.proofs.PutPlans.{lines_put}
+use Rattle.mk_decide.proofs.PutSites.{opens_told, hit_told, printed_told}
+use Rattle.mk_decide.proofs.SectionSites.{IsSite, site_lines, front_lines, rest_lines, head_cut, head_is_run, head_within}
 use Rattle.mk_edit.proofs.SilentFields.{NamesSilent, names_silent, kind_stays}
 use Rattle.mk_edit.proofs.PassedFields.{put_goes_on}
 

@@ -10,18 +10,19 @@ use Rattle.mk_head.specs.Types.{field_value, type_by, encoding_by}
 use Rattle.mk_head.specs.Unfolding.{value_in}
 use Rattle.mk_head.proofs.FieldRuns.{more_start}
 use Rattle.mk_tree.specs.Kinds.{kind, kind_of}
-use Rattle.mk_edit.specs.declared.field_edits.FieldEdit.{FieldEdit}
-use Rattle.mk_edit.specs.declared.field_edits.FieldEdit.TheVariants.{Add, Remove, Rename, Set}
-use Rattle.mk_edit.specs.Edits.{Refusal, BadName}
-use Rattle.mk_edit.specs.FieldEdits.{starts_named, behind_continuations, Found, found_behind, find, field_at, renamed, is_name}
-use Rattle.mk_edit.specs.FieldPuts.{LinePut, name_put, put_unless, puts, removes, renames}
+use Rattle.mk_decide.specs.declared.field_edits.FieldEdit.{FieldEdit}
+use Rattle.mk_decide.specs.declared.field_edits.FieldEdit.TheVariants.{Add, Remove, Rename, Set}
+use Rattle.mk_decide.specs.Edits.{Refusal, BadName}
+use Rattle.mk_line.specs.Kinds.{is_name}
+use Rattle.mk_decide.specs.FieldEdits.{starts_named, behind_continuations, Found, found_behind, find, field_at, renamed}
+use Rattle.mk_decide.specs.FieldPuts.{LinePut, name_put, put_unless, puts, removes, renames}
 use Rattle.mk_edit.specs.declared.silent_edits.SilentEdit.{SilentEdit}
 use Rattle.mk_edit.specs.SilentEdits.{are_same, is_silent, by_option, numbered, IsSilent}
-use Rattle.mk_edit.proofs.Counting.{names_lem}
-use Rattle.mk_edit.proofs.PutPlans.{lines_put}
-use Rattle.mk_edit.proofs.Renaming.{both, renamed_start}
-use Rattle.mk_edit.proofs.Runs.{more_behind}
-use Rattle.mk_edit.proofs.WrapFields.{start_more}
+use Rattle.mk_decide.proofs.Counting.{names_lem}
+use Rattle.mk_decide.proofs.PutPlans.{lines_put}
+use Rattle.mk_decide.proofs.Renaming.{both, renamed_start}
+use Rattle.mk_decide.proofs.Runs.{more_behind}
+use Rattle.mk_decide.proofs.WrapFields.{start_more}
 
 -- lines of which the first continues no field stand behind others
 continued : (xs ys zs : List TextLine) → continuations ys ≡ [] → continuations zs ≡ [] → continuations (xs ++ ys) ≡ continuations (xs ++ zs)

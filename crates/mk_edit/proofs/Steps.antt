@@ -1,10 +1,11 @@
 -- A text and its steps as a history.
 use Rattle.std.proofs.Common.{◌≡◌, ◌+◌, ◌≤◌, ◌<◌, ◌++◌, ℕ, suc, zero, List, [], ◌∷◌, refl, ap, sym, ◌∙◌, subst, length, take, drop, get_or, arith, length-append, add-one}
 use Rattle.std.proofs.lemmas.List.{take_at, drop_at, length-take-le, take-append-drop, drop_more, take_more}
-use Rattle.mk_edit.specs.Splices.{Splice, forth_step, back_step, GoesForth, GoesBack}
+use Rattle.mk_splice.specs.Splices.{Splice, forth_step, back_step, GoesForth, GoesBack}
 use Rattle.mk_edit.specs.Histories.{AreLinked, IsHistory, text_now, with_step}
-use Rattle.mk_edit.specs.Fits.{back_all, forth_all, texts_behind, texts_from, AllBack, AllForth, history_of, Fit}
-use Rattle.mk_edit.proofs.Bytes.{back_forth, forth_back}
+use Rattle.mk_splice.specs.Fits.{back_all, forth_all, AllBack, AllForth, Fit}
+use Rattle.mk_edit.specs.History.{texts_behind, texts_from, history_of}
+use Rattle.mk_splice.proofs.Bytes.{back_forth, forth_back, leads_to}
 
 -- one step more at the end
 pub back_append : (ss : List (List Splice)) (s : List Splice) (x : List ℕ) → back_all (ss ++ s ∷ []) x ≡ back_all ss (back_step s x)
@@ -47,7 +48,7 @@ texts_more (suc n) t (r ∷ ss) s h = ap (λ xs. t ∷ xs) (texts_more n (forth_
 
 pub linked : (t : List ℕ) (ss : List (List Splice)) → AllForth ss t → AreLinked t (texts_behind t ss) ss
 linked t [] h = tt
-linked t (s ∷ ss) h = (refl, sym (back_forth s t h.0).1, linked (forth_step s t) ss h.1)
+linked t (s ∷ ss) h = (leads_to s t (forth_step s t) h.0 refl, linked (forth_step s t) ss h.1)
 
 -- all steps can be made from the first text on
 all_steps : (x : List ℕ) (ss : List (List Splice)) (n : ℕ) → Fit x ss n → AllForth ss (back_all (take n ss) x)

@@ -1,15 +1,15 @@
 -- Undoing all that is done, and redoing all of it.
-use Rattle.std.proofs.Common.{◌≡◌, ◌+◌, ◌-◌, ◌≤◌, ◌<◌, ◌++◌, ℕ, suc, zero, Bool, true, false, nat_lt, if◌then◌else◌, Some, Result, Ok, Err, List, [], ◌∷◌, refl, ap, ◌∙◌, length, take, get_or, arith, length-append}
+use Rattle.std.proofs.Common.{◌≡◌, ◌+◌, ◌-◌, ◌≤◌, ◌<◌, ◌++◌, ℕ, suc, zero, Bool, true, false, nat_lt, if◌then◌else◌, Some, Result, Ok, Err, List, [], ◌∷◌, refl, ap, sym, ◌∙◌, length, take, get_or, arith, length-append}
 use Rattle.std.proofs.lemmas.Bool.{lt-ltb, ltb-true}
 use Rattle.std.proofs.lemmas.List.{length-take-le}
 use Rattle.mk_tree.specs.Documents.{Document, tree, printed}
-use Rattle.mk_edit.specs.Edits.{Order, Do, Group, Undo, Redo, Refusal, NothingToUndo, NothingToRedo}
-use Rattle.mk_edit.specs.Outcomes.{edited}
-use Rattle.mk_edit.specs.EditSplices.{splices_of}
+use Rattle.mk_decide.specs.Edits.{Order, Do, Group, Undo, Redo, Refusal, NothingToUndo, NothingToRedo}
+use Rattle.mk_decide.specs.Outcomes.{edited}
+use Rattle.mk_decide.specs.EditSplices.{splices_of}
 use Rattle.mk_edit.specs.Groups.{Together, together}
-use Rattle.mk_edit.specs.Splices.{Splice}
+use Rattle.mk_splice.specs.Splices.{Splice}
 use Rattle.mk_edit.specs.History.{History}
-use Rattle.mk_edit.specs.Histories.{text_now, started, with_step, edited_by, grouped_by, step, left_by, after, after_all, next_by, repeated}
+use Rattle.mk_edit.specs.Histories.{AreLinked, IsHistory, first_text, text_now, with_step, edited_by, grouped_by, step, left_by, after, after_all, next_by, repeated}
 use Rattle.mk_edit.specs.Laws.{Restores, UndoingRestores}
 
 -- a history at another place
@@ -88,5 +88,20 @@ begun_restores text h b = record {
   redone = redo_all h.texts h.steps h.place 0 h.place (omega arith) b.within;
 }
 
+-- as many steps lead on as there are other texts
+linked_size : (x : List ℕ) (ys : List (List ℕ)) (ss : List (List Splice)) → AreLinked x ys ss → length ys ≡ length ss
+linked_size x [] [] h = refl
+linked_size x [] (s ∷ ss) h = absurd h
+linked_size x (y ∷ ys) [] h = absurd h
+linked_size x (y ∷ ys) (s ∷ ss) h = ap (λ n. suc n) (linked_size y ys ss h.1)
+
+begun : (h : History) → IsHistory h → Begun (first_text h) h
+begun h b = record {
+  others = b.others;
+  texts = b.texts ∙ ap (λ ts. get_or ts 0 [] ∷ b.others) (sym b.texts);
+  size = linked_size b.first b.others h.steps b.linked;
+  within = b.within;
+}
+
 pub undoing_restores_lem : UndoingRestores
-undoing_restores_lem text orders = begun_restores text (after_all orders (started text)) (begun_all text orders (started text) (record { others = []; texts = refl; size = refl; within = omega arith }))
+undoing_restores_lem h orders b = begun_restores (first_text h) (after_all orders h) (begun_all (first_text h) orders h (begun h b))

@@ -1,10 +1,10 @@
 -- Groups: edits that are made one after another, all or none (own).
 use Rattle.std.specs.Prelude.{◌+◌, ◌++◌, ℕ, Result, Ok, Err, List, [], ◌∷◌}
 use Rattle.mk_tree.specs.Documents.{Document}
-use Rattle.mk_edit.specs.Edits.{PlainEdit, Refusal}
-use Rattle.mk_edit.specs.EditSplices.{splices_of}
-use Rattle.mk_edit.specs.Outcomes.{edited}
-use Rattle.mk_edit.specs.Splices.{Splice}
+use Rattle.mk_decide.specs.Edits.{PlainEdit, Refusal}
+use Rattle.mk_decide.specs.EditSplices.{splices_of}
+use Rattle.mk_decide.specs.Outcomes.{edited}
+use Rattle.mk_splice.specs.Splices.{Splice}
 
 -- a document and the splices that led to it, or the number of the first refused edit, from 0 on, and the reason
 abbrev pub Together : Type 0

@@ -1,19 +1,19 @@
 -- What edits, undoing and redoing make of a history (own).
 use Rattle.std.specs.Prelude.{◌≡◌, ◌+◌, ◌-◌, ◌≤◌, ◌++◌, if◌then◌else◌, ℕ, Option, None, Some, Result, Ok, Err, List, [], ◌∷◌, length, take, slice_index_or, nat_lt, suc, zero}
 use Rattle.mk_tree.specs.Documents.{Document, tree, printed}
-use Rattle.mk_edit.specs.Edits.{Order, Do, Group, Undo, Redo, Refusal, NothingToUndo, NothingToRedo, Member}
-use Rattle.mk_edit.specs.Outcomes.{edited}
-use Rattle.mk_edit.specs.EditSplices.{splices_of}
-use Rattle.mk_edit.specs.Splices.{Splice, forth_step, back_step}
+use Rattle.mk_decide.specs.Edits.{Order, Do, Group, Undo, Redo, Refusal, NothingToUndo, NothingToRedo, Member}
+use Rattle.mk_decide.specs.Outcomes.{edited}
+use Rattle.mk_decide.specs.EditSplices.{splices_of}
+use Rattle.mk_splice.specs.Splices.{Splice, LeadsTo}
 use Rattle.mk_edit.specs.Groups.{Together, together}
 use Rattle.mk_edit.specs.History.{History}
 
--- each text is the one before it with a step made, and that one is it with the step taken back
+-- each step leads from its text to the next, and back
 abbrev pub AreLinked : List ℕ → List (List ℕ) → List (List Splice) → Type 0
 AreLinked x [] [] = Unit {0}
 AreLinked x [] (s ∷ ss) = ⊥
 AreLinked x (y ∷ ys) [] = ⊥
-AreLinked x (y ∷ ys) (s ∷ ss) = (y ≡ forth_step s x) × (x ≡ back_step s y) × AreLinked y ys ss
+AreLinked x (y ∷ ys) (s ∷ ss) = LeadsTo s x y × AreLinked y ys ss
 
 -- texts that are linked by the steps, and a place among them
 pub record IsHistory (h : History) : Type 0 where
@@ -26,6 +26,10 @@ pub record IsHistory (h : History) : Type 0 where
 -- the text that stands now
 abbrev pub text_now : History → List ℕ
 text_now h = slice_index_or h.texts h.place []
+
+-- the first of its texts
+abbrev pub first_text : History → List ℕ
+first_text h = slice_index_or h.texts 0 []
 
 -- the history of a session just begun
 abbrev pub started : List ℕ → History

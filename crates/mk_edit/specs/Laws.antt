@@ -1,40 +1,35 @@
 -- The laws of histories, and of the splices of edits.
 use Rattle.std.specs.Prelude.{◌≡◌, ℕ, Some, Ok, List}
 use Rattle.mk_tree.specs.Documents.{Document, tree, printed}
-use Rattle.mk_edit.specs.Edits.{PlainEdit, Order, Undo, Redo}
-use Rattle.mk_edit.specs.Outcomes.{edited}
-use Rattle.mk_edit.specs.EditSplices.{splices_of}
+use Rattle.mk_decide.specs.Edits.{PlainEdit, Order, Undo, Redo}
 use Rattle.mk_edit.specs.Groups.{together}
-use Rattle.mk_edit.specs.Splices.{Splice, forth_step, back_step}
+use Rattle.mk_splice.specs.Splices.{Splice, LeadsTo}
 use Rattle.mk_edit.specs.History.{History}
-use Rattle.mk_edit.specs.Histories.{IsHistory, text_now, started, after_all, repeated}
+use Rattle.mk_edit.specs.Histories.{IsHistory, first_text, text_now, started, after_all, repeated}
 
--- undoing all that is done gives the first text, and redoing as often gives the history from which the undoing began
+-- undoing all that is done gives a text first, and redoing as often gives the history from which the undoing began
 pub record Restores (text : List ℕ) (h : History) : Type 0 where
   pub first : History
   pub undone : repeated h.place Undo h ≡ Some first
   pub is_first : text_now first ≡ text
   pub redone : repeated h.place Redo first ≡ Some h
 
--- this holds of every text and every list of orders
+-- whatever orders a history is given, undoing all that is done then gives its first text
 abbrev pub UndoingRestores : Type 0
-UndoingRestores = (text : List ℕ) (orders : List Order) → Restores text (after_all orders (started text))
+UndoingRestores = (h : History) (orders : List Order) → IsHistory h → Restores (first_text h) (after_all orders h)
 
--- the splices of an accepted edit lead from the text before to the text after, and back
-abbrev pub SplicesLead : Type 0
-SplicesLead = (e : PlainEdit) (text : List ℕ) (t : Document) → edited e (tree text) ≡ Ok t →
-    (forth_step (splices_of e (tree text)) text ≡ printed t) × (back_step (splices_of e (tree text)) (printed t) ≡ text)
-
--- an accepted edit gives a document that is read as itself
-abbrev pub EditsReadBack : Type 0
-EditsReadBack = (e : PlainEdit) (text : List ℕ) (t : Document) → edited e (tree text) ≡ Ok t → tree (printed t) ≡ t
-
--- the splices of a group that is accepted lead from the text before to the text after, and back; and its document is
--- read as itself
+-- the splices of a group that is accepted lead from the text before to the text after, and back
 abbrev pub GroupsLead : Type 0
-GroupsLead = (es : List PlainEdit) (text : List ℕ) (t : Document) (ss : List Splice) → together es (tree text) ≡ Ok (t, ss) →
-    (forth_step ss text ≡ printed t) × (back_step ss (printed t) ≡ text) × (tree (printed t) ≡ t)
+GroupsLead = (es : List PlainEdit) (text : List ℕ) (t : Document) (ss : List Splice) → together es (tree text) ≡ Ok (t, ss) → LeadsTo ss text (printed t)
 
--- what orders leave is a history
+-- the document of a group that is accepted is read as itself
+abbrev pub GroupsReadBack : Type 0
+GroupsReadBack = (es : List PlainEdit) (text : List ℕ) (t : Document) (ss : List Splice) → together es (tree text) ≡ Ok (t, ss) → tree (printed t) ≡ t
+
+-- a text alone is a history, of which it is the first text
+abbrev pub TextsStart : Type 0
+TextsStart = (text : List ℕ) → IsHistory (started text) × (first_text (started text) ≡ text)
+
+-- what orders leave of a history is a history
 abbrev pub HistoriesStay : Type 0
-HistoriesStay = (text : List ℕ) (orders : List Order) → IsHistory (after_all orders (started text))
+HistoriesStay = (h : History) (orders : List Order) → IsHistory h → IsHistory (after_all orders h)

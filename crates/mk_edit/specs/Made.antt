@@ -1,11 +1,11 @@
 -- What is known of edits that were made in a text.
 use Rattle.std.specs.Prelude.{◌≡◌, ℕ, Ok, List, [], ◌∷◌}
 use Rattle.mk_tree.specs.Documents.{tree}
-use Rattle.mk_edit.specs.Edits.{PlainEdit}
-use Rattle.mk_edit.specs.EditSplices.{splices_of}
+use Rattle.mk_decide.specs.Edits.{PlainEdit}
+use Rattle.mk_decide.specs.EditSplices.{splices_of}
 use Rattle.mk_edit.specs.Groups.{together}
-use Rattle.mk_edit.specs.Outcomes.{edited}
-use Rattle.mk_edit.specs.Splices.{Splice, Stands, forth_one, forth_step, GoesForth}
+use Rattle.mk_decide.specs.Outcomes.{edited}
+use Rattle.mk_splice.specs.Splices.{Splice, Stands, forth_one, forth_step, GoesForth}
 
 -- an edit was accepted, and its splice made
 pub record IsMade (e : PlainEdit) (before : List ℕ) (s : Splice) (after : List ℕ) : Type 0 where

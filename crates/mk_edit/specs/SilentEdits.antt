@@ -2,10 +2,10 @@
 use Rattle.std.specs.Prelude.{◌≡◌, ◌==◌, ◌&&◌, ℕ, Bool, true, false, not, Option, None, Some, List, [], ◌∷◌, codes, IfSome}
 use Rattle.std.specs.Str.{bytes_eq, str_to_ascii_lowercase}
 use Rattle.mk_line.specs.Lines.{is_nil}
-use Rattle.mk_edit.specs.declared.field_edits.FieldEdit.{FieldEdit}
-use Rattle.mk_edit.specs.declared.field_edits.FieldEdit.TheVariants.{Remove, Rename}
+use Rattle.mk_decide.specs.declared.field_edits.FieldEdit.{FieldEdit}
+use Rattle.mk_decide.specs.declared.field_edits.FieldEdit.TheVariants.{Remove, Rename}
 use Rattle.mk_edit.specs.declared.silent_edits.SilentEdit.{SilentEdit}
-use Rattle.mk_edit.specs.Edits.{PlainEdit, AddField, RemoveField, RenameField, SetField, SetBody, SetSection, InsertPart, RemovePart, Wrap}
+use Rattle.mk_decide.specs.Edits.{PlainEdit, AddField, RemoveField, RenameField, SetField, SetBody, SetSection, InsertPart, RemovePart, Wrap}
 
 -- names are the same without regard to ASCII case (RFC 5322, 2.2)
 abbrev pub are_same : List ℕ → List ℕ → Bool

@@ -1,19 +1,19 @@
 //! A document under edits that are made together. Its tree is read when an edit asks for it.
 ghost use Rattle.std.specs.Prelude.{◌≡◌, IfOk, IfErr};
 ghost use Rattle.mk_tree.specs.Documents.{tree};
-ghost use Rattle.mk_edit.specs.Answers.{refusal_of, IsRefusedBy};
+ghost use Rattle.mk_decide.specs.Answers.{refusal_of, IsRefusedBy};
 ghost use Rattle.mk_edit.specs.Drafts.{text_in};
 ghost use Rattle.mk_edit.specs.Made.{IsMade};
-ghost use Rattle.mk_edit.specs.Outcomes.{edited};
-ghost use Rattle.mk_edit.specs.Views.{edit_of, splice_of};
+ghost use Rattle.mk_decide.specs.Outcomes.{edited};
+ghost use Rattle.mk_decide.specs.Views.{edit_of};
+ghost use Rattle.mk_splice.specs.Views.{splice_of};
 
-use crate::edits::Edit;
-use crate::errors::EditError;
 use crate::root_fields::RootFields;
 use crate::silent_edits::silent_edit;
-use crate::splicing::Splice;
 use crate::stepping::{make, read_anew};
+use mk_decide::{Edit, EditError};
 use mk_line::Meter;
+use mk_splice::Splice;
 use mk_tree::Doc;
 use std::alloc::{AllocError, Global};
 
@@ -32,11 +32,12 @@ pub(crate) enum Draft {
 impl Draft {
     ghost use Rattle.std.specs.Prelude.{◌≡◌, IfOk, IfErr};
     ghost use Rattle.mk_tree.specs.Documents.{tree};
-    ghost use Rattle.mk_edit.specs.Answers.{refusal_of, IsRefusedBy};
+    ghost use Rattle.mk_decide.specs.Answers.{refusal_of, IsRefusedBy};
     ghost use Rattle.mk_edit.specs.Drafts.{text_in};
     ghost use Rattle.mk_edit.specs.Made.{IsMade};
-    ghost use Rattle.mk_edit.specs.Outcomes.{edited};
-    ghost use Rattle.mk_edit.specs.Views.{edit_of, splice_of};
+    ghost use Rattle.mk_decide.specs.Outcomes.{edited};
+    ghost use Rattle.mk_decide.specs.Views.{edit_of};
+    ghost use Rattle.mk_splice.specs.Views.{splice_of};
 
     /// A copy of a document, in which these edits are to be made. Its tree is read when the first of them asks for it.
     pub(crate) fn begin(alloc: Global, doc: &Doc, list: &[Edit]) -> Result<Draft, AllocError>

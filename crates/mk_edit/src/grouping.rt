@@ -1,19 +1,21 @@
 //! Edits made one after another.
 ghost use Rattle.std.specs.Prelude.{◌≡◌, Result, Err, Some, IfOk, IfErr, map};
 ghost use Rattle.mk_tree.specs.Documents.{tree};
-ghost use Rattle.mk_edit.specs.Answers.{refusal_of, IsGroupRefusedBy};
-ghost use Rattle.mk_edit.specs.Edits.{Refusal, Member};
+ghost use Rattle.mk_decide.specs.Answers.{refusal_of};
+ghost use Rattle.mk_edit.specs.Answers.{IsGroupRefusedBy};
+ghost use Rattle.mk_decide.specs.Edits.{Refusal, Member};
 ghost use Rattle.mk_edit.specs.Groups.{together as defined};
 ghost use Rattle.mk_edit.specs.Histories.{grouped_by};
 ghost use Rattle.mk_edit.specs.History.{History};
 ghost use Rattle.mk_edit.specs.Made.{AreMade};
-ghost use Rattle.mk_edit.specs.Views.{edit_of, splice_of};
+ghost use Rattle.mk_decide.specs.Views.{edit_of};
+ghost use Rattle.mk_splice.specs.Views.{splice_of};
 
 use crate::drafts::Draft;
-use crate::edits::Edit;
-use crate::errors::{EditError, GroupError};
-use crate::splicing::Splice;
+use crate::errors::GroupError;
+use mk_decide::{Edit, EditError};
 use mk_line::Meter;
+use mk_splice::Splice;
 use mk_tree::Doc;
 use std::alloc::Global;
 

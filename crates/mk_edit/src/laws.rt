@@ -1,14 +1,15 @@
 //! Laws of edits and histories, over the definitions alone: each a function with an empty body whose clause is the law.
-ghost use Rattle.mk_edit.specs.Laws.{EditsReadBack, GroupsLead, HistoriesStay, SplicesLead, UndoingRestores};
+ghost use Rattle.mk_decide.specs.EditLaws.{EditsReadBack, SplicesLead};
+ghost use Rattle.mk_edit.specs.Laws.{GroupsLead, GroupsReadBack, HistoriesStay, TextsStart, UndoingRestores};
 
-/// Undoing as often as steps are done gives the first text, and redoing as often gives the text from which the undoing
-/// began; the same for every text and every list of edits, groups, undos and redos.
+/// Undoing as often as steps are done gives the first text, and redoing as often gives the history from which the undoing
+/// began; the same for every history and every list of edits, groups, undos and redos.
 pub fn undoing_restores()
     ensures { UndoingRestores }
 {}
 
 /// Replacing the old bytes of an accepted edit's splice by the new ones in the text before gives the text after, and
-/// the other way round.
+/// the other way round. The bytes that are replaced stand there.
 pub fn splices_lead()
     ensures { SplicesLead }
 {}
@@ -19,12 +20,23 @@ pub fn edits_read_back()
 {}
 
 /// The splices of an accepted group, made one after another, give the text after; taken back from the last to the first
-/// they give the text before. That text is read as the document that its edits give.
+/// they give the text before. On both ways each finds the bytes that it replaces.
 pub fn groups_lead()
     ensures { GroupsLead }
 {}
 
-/// What edits, groups, undos and redos leave is a history: each text is the one before it with a step made.
+/// The text after an accepted group is read as the document that its edits give.
+pub fn groups_read_back()
+    ensures { GroupsReadBack }
+{}
+
+/// A text alone is a history.
+pub fn texts_start()
+    ensures { TextsStart }
+{}
+
+/// What edits, groups, undos and redos leave of a history is a history: each step leads from its text to the next, and
+/// back.
 pub fn histories_stay()
     ensures { HistoriesStay }
 {}

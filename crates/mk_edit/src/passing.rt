@@ -3,14 +3,13 @@ ghost use Rattle.std.specs.Prelude.{◌≡◌, ◌&&◌, false, nat_lt, IfOk, If
 ghost use Rattle.std.specs.Str.{bytes_eq};
 ghost use Rattle.mk_line.specs.Lines.{cut as lines_of};
 ghost use Rattle.mk_head.specs.Splits.{IsRun};
-ghost use Rattle.mk_edit.specs.Answers.{refusal_of, IsRefusedBy};
-ghost use Rattle.mk_edit.specs.FieldPuts.{puts, IsPut};
+ghost use Rattle.mk_decide.specs.Answers.{refusal_of, IsRefusedBy};
+ghost use Rattle.mk_decide.specs.FieldPuts.{puts, IsPut};
 ghost use Rattle.mk_edit.specs.RootFields.{HasPassed, IsBehind};
 ghost use Rattle.mk_edit.specs.SilentEdits.{numbered};
 
-use crate::errors::EditError;
-use crate::field_edits::{Put, put_of};
 use crate::silent_edits::SilentEdit;
+use mk_decide::{EditError, Put, put_of};
 use std::alloc::Global;
 
 /// Fields in front.

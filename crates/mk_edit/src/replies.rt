@@ -1,10 +1,11 @@
 //! What is replied to commands.
 ghost use Rattle.std.specs.Prelude.{Result};
 ghost use Rattle.mk_edit.specs.Answers.{Does, DoesGroup, Replies};
-ghost use Rattle.mk_edit.specs.Edits.{Refusal};
+ghost use Rattle.mk_decide.specs.Edits.{Refusal};
 ghost use Rattle.mk_edit.specs.History.{History};
 
-use crate::errors::{EditError, GroupError};
+use crate::errors::GroupError;
+use mk_decide::EditError;
 use std::alloc::AllocError;
 
 /// What is replied to a command.

@@ -3,22 +3,19 @@ ghost use Rattle.std.specs.Prelude.{◌≡◌, ◌∷◌, [], IfOk, IfErr, IfSom
 ghost use Rattle.mk_line.specs.Lines.{cut as lines_of};
 ghost use Rattle.mk_tree.specs.Documents.{tree};
 ghost use Rattle.mk_tree.specs.Sections.{head_text};
-ghost use Rattle.mk_edit.specs.Answers.{refusal_of, IsRefusedBy};
-ghost use Rattle.mk_edit.specs.FieldPuts.{plain_of, puts, IsPut};
-ghost use Rattle.mk_edit.specs.LocalAnswers.{plain_splice};
-ghost use Rattle.mk_edit.specs.Outcomes.{edited};
+ghost use Rattle.mk_decide.specs.Answers.{refusal_of, IsRefusedBy};
+ghost use Rattle.mk_decide.specs.FieldPuts.{plain_of, puts, IsPut};
+ghost use Rattle.mk_decide.specs.LocalAnswers.{plain_splice};
+ghost use Rattle.mk_decide.specs.Outcomes.{edited};
 ghost use Rattle.mk_edit.specs.RootFields.{lines_in, root_in, HasFields, HasPassed, Replaces};
 ghost use Rattle.mk_edit.specs.SilentEdits.{numbered, IsSilent};
 
-use crate::errors::EditError;
-use crate::field_answers::{opens_early, splice_of};
-use crate::field_edits::Put;
-use crate::looking::has_separator;
 use crate::passing::{Passed, put_behind};
 use crate::silent_edits::SilentEdit;
-use crate::splicing::{Replacement, Splice, copied};
 use crate::stepping::read;
-use mk_tree::{Doc, replace};
+use mk_decide::{EditError, Put, Replacement, has_separator, opens_early, splice_of};
+use mk_splice::{Splice, copied, replace};
+use mk_tree::Doc;
 use std::alloc::{AllocError, Global};
 use std::marker::Model;
 
@@ -49,14 +46,14 @@ impl Model for RootFields {
 impl RootFields {
     ghost use Rattle.std.specs.Prelude.{◌≡◌, ◌∷◌, [], IfOk, IfErr, IfSome};
     ghost use Rattle.mk_tree.specs.Documents.{tree};
-    ghost use Rattle.mk_edit.specs.Answers.{refusal_of, IsRefusedBy};
-    ghost use Rattle.mk_edit.specs.FieldPuts.{plain_of};
-    ghost use Rattle.mk_edit.specs.LocalAnswers.{plain_splice};
+    ghost use Rattle.mk_decide.specs.Answers.{refusal_of, IsRefusedBy};
+    ghost use Rattle.mk_decide.specs.FieldPuts.{plain_of};
+    ghost use Rattle.mk_decide.specs.LocalAnswers.{plain_splice};
     ghost use Rattle.mk_edit.specs.Made.{IsMade};
-    ghost use Rattle.mk_edit.specs.Outcomes.{edited};
+    ghost use Rattle.mk_decide.specs.Outcomes.{edited};
     ghost use Rattle.mk_edit.specs.RootFields.{Replaces};
     ghost use Rattle.mk_edit.specs.SilentEdits.{numbered, IsSilent};
-    ghost use Rattle.mk_edit.specs.Views.{splice_of as plain_step};
+    ghost use Rattle.mk_splice.specs.Views.{splice_of as plain_step};
 
     /// The text of a document. The document comes back where its root has no separator.
     pub(crate) fn of(alloc: Global, doc: Doc) -> Result<RootFields, Doc>

@@ -1,24 +1,27 @@
 //! A message under edit, and its history.
 ghost use Rattle.std.specs.Prelude.{◌≡◌, ◌+◌, ◌*◌, ◌≤◌, ℕ, Ok, Some, IfOk, IfErr, OnOk, OnErr, length, take, map};
 ghost use Rattle.mk_tree.specs.Documents.{tree};
-ghost use Rattle.mk_edit.specs.Edits.{Do, Group, Undo, Redo};
-ghost use Rattle.mk_edit.specs.Outcomes.{edited};
-ghost use Rattle.mk_edit.specs.Answers.{reply_of, Answers, Does, DoesGroup, Replies};
-ghost use Rattle.mk_edit.specs.Counts.{edit_lines};
-ghost use Rattle.mk_edit.specs.Decided.{IsDecided};
-ghost use Rattle.mk_edit.specs.LocalAnswers.{plain_splice};
-ghost use Rattle.mk_edit.specs.Splices.{forth_step, back_step};
+ghost use Rattle.mk_decide.specs.Edits.{Do, Group, Undo, Redo};
+ghost use Rattle.mk_decide.specs.Outcomes.{edited};
+ghost use Rattle.mk_decide.specs.Answers.{Answers};
+ghost use Rattle.mk_edit.specs.Answers.{reply_of, Does, DoesGroup, Replies};
+ghost use Rattle.mk_decide.specs.Counts.{edit_lines};
+ghost use Rattle.mk_decide.specs.Decided.{IsDecided};
+ghost use Rattle.mk_decide.specs.LocalAnswers.{plain_splice};
+ghost use Rattle.mk_splice.specs.Splices.{forth_step, back_step};
 ghost use Rattle.mk_edit.specs.Histories.{IsHistory, after_all, replies, started, step, text_now};
-ghost use Rattle.mk_edit.specs.Views.{edit_of, order_of, splice_of};
+ghost use Rattle.mk_decide.specs.Views.{edit_of};
+ghost use Rattle.mk_edit.specs.Views.{order_of};
+ghost use Rattle.mk_splice.specs.Views.{splice_of};
 
-use crate::deciding::decide;
-use crate::edits::{Command, Edit};
-use crate::errors::{EditError, GroupError};
+use crate::commands::Command;
+use crate::errors::GroupError;
 use crate::grouping::together;
 use crate::replies::{Reply, replied, replied_to_group};
-use crate::splicing::{Replacement, Splice, copied};
 use crate::stepping::{change, made_again, put_step, taken_back};
+use mk_decide::{Edit, EditError, Replacement, decide};
 use mk_line::Meter;
+use mk_splice::{Splice, copied};
 use mk_tree::Doc;
 use std::alloc::{AllocError, Global};
 use std::marker::Model;
@@ -37,8 +40,9 @@ impl Model for Session {
 
     ghost Value = { History };
 
-    ghost use Rattle.mk_edit.specs.Fits.{history_of, Fit};
-    ghost use Rattle.mk_edit.specs.Views.{steps_of};
+    ghost use Rattle.mk_edit.specs.History.{history_of};
+    ghost use Rattle.mk_splice.specs.Fits.{Fit};
+    ghost use Rattle.mk_splice.specs.Views.{steps_of};
 
     ghost view = { λ s. history_of s.doc (steps_of s.steps.items) s.done };
 

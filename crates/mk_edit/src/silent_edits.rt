@@ -1,11 +1,10 @@
 //! Edits of the root's fields that say nothing of its body.
 ghost use Rattle.std.specs.Prelude.{◌≡◌, ◌∷◌, [], false, IfNone, IfSome};
-ghost use Rattle.mk_edit.specs.FieldPuts.{plain_of};
+ghost use Rattle.mk_decide.specs.FieldPuts.{plain_of};
 ghost use Rattle.mk_edit.specs.SilentEdits.{is_silent as says_nothing, is_silent_edit, leads_to_root, numbered, IsSilent};
-ghost use Rattle.mk_edit.specs.Views.{edit_of};
+ghost use Rattle.mk_decide.specs.Views.{edit_of};
 
-use crate::edits::Edit;
-use crate::field_edits::FieldEdit;
+use mk_decide::{Edit, FieldEdit};
 
 /// The number of the root, the path to which it is.
 const ROOT: u32 = 1;

@@ -2,20 +2,18 @@
 ghost use Rattle.std.specs.Prelude.{◌≡◌, ◌<◌, ◌++◌, ◌∷◌, [], ℕ, List, map, take, vec_len, vec_capacity, IfOk, IfErr, OnOk, OnErr};
 ghost use Rattle.mk_tree.specs.ChangeViews.{ChangesTo};
 ghost use Rattle.mk_tree.specs.Documents.{tree};
-ghost use Rattle.mk_tree.specs.Splicing.{spliced};
-ghost use Rattle.mk_edit.specs.Answers.{refusal_of, IsRefusedBy};
-ghost use Rattle.mk_edit.specs.Decided.{IsDecided};
-ghost use Rattle.mk_edit.specs.Edits.{path_of};
+ghost use Rattle.mk_splice.specs.Splices.{spliced, back_step, forth_step, GoesBack, GoesForth};
+ghost use Rattle.mk_decide.specs.Answers.{refusal_of, IsRefusedBy};
+ghost use Rattle.mk_decide.specs.Decided.{IsDecided};
+ghost use Rattle.mk_decide.specs.Edits.{path_of};
 ghost use Rattle.mk_edit.specs.Made.{IsMade};
-ghost use Rattle.mk_edit.specs.Outcomes.{edited};
-ghost use Rattle.mk_edit.specs.Splices.{back_step, forth_step, GoesBack, GoesForth};
-ghost use Rattle.mk_edit.specs.Views.{edit_of, splice_of};
+ghost use Rattle.mk_decide.specs.Outcomes.{edited};
+ghost use Rattle.mk_decide.specs.Views.{edit_of};
+ghost use Rattle.mk_splice.specs.Views.{splice_of};
 
-use crate::deciding::decide;
-use crate::edits::Edit;
-use crate::errors::EditError;
-use crate::splicing::{Replacement, Splice, copied, make_again, take_back};
+use mk_decide::{Edit, EditError, Replacement, decide};
 use mk_line::Meter;
+use mk_splice::{Splice, copied, make_again, take_back};
 use mk_tree::{Change, Doc};
 use std::alloc::{AllocError, Global};
 

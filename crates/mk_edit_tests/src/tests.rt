@@ -20,9 +20,10 @@ mod sections;
 mod wrapping;
 mod wraps;
 
-use crate::{Edit, EditError, Session};
 use flat::flattened;
+use mk_edit::{Edit, EditError, Session};
 use mk_line::Meter;
+use mk_rows::{Row, rows};
 use mk_tree::Doc;
 use std::alloc::{AllocError, Global};
 use std::process::Abort;
@@ -37,44 +38,72 @@ pub const PART: &[u8] = b"Content-Transfer-Encoding: base64\n\naGk=\n";
 
 /// An edit at a section that is named beside it.
 #[derive(Clone, Copy, Debug)]
-pub enum Asked {
+pub enum Asked<'a> {
     AddField {
         top: bool,
-        text: &'static [u8],
+        text: &'a [u8],
     },
     RemoveField {
-        name: &'static [u8],
+        name: &'a [u8],
         k: u32,
     },
     RenameField {
-        name: &'static [u8],
+        name: &'a [u8],
         k: u32,
-        to: &'static [u8],
+        to: &'a [u8],
     },
     SetField {
-        name: &'static [u8],
+        name: &'a [u8],
         k: u32,
-        text: &'static [u8],
+        text: &'a [u8],
     },
     SetBody {
-        text: &'static [u8],
+        text: &'a [u8],
     },
     SetSection {
-        text: &'static [u8],
+        text: &'a [u8],
     },
     InsertPart {
         place: u32,
-        text: &'static [u8],
+        text: &'a [u8],
     },
     RemovePart,
     Wrap {
-        subtype: &'static [u8],
-        boundary: &'static [u8],
+        subtype: &'a [u8],
+        boundary: &'a [u8],
     },
 }
 
+/// The edit that a row asks for.
+pub fn asked_in(row: &Row) -> Result<Asked<'_>, Fail> {
+    let (name, k, text) = (row.bytes("name"), row.number("number"), row.bytes("with"));
+    let asked = match row.text("edit") {
+        "add" => Asked::AddField { top: false, text },
+        "add at the top" => Asked::AddField { top: true, text },
+        "remove" => Asked::RemoveField { name, k },
+        "rename" => {
+            let to = row.bytes("to");
+            Asked::RenameField { name, k, to }
+        }
+        "set" => Asked::SetField { name, k, text },
+        "body" => Asked::SetBody { text },
+        "section" => Asked::SetSection { text },
+        "insert" => {
+            let place = row.number("place");
+            Asked::InsertPart { place, text }
+        }
+        "remove part" => Asked::RemovePart,
+        "wrap" => {
+            let (subtype, boundary) = (row.bytes("subtype"), row.bytes("boundary"));
+            Asked::Wrap { subtype, boundary }
+        }
+        _ => return Err(Fail::new(row.shows)),
+    };
+    Ok(asked)
+}
+
 /// The edit of a section that is asked for.
-pub fn edit_at(alloc: Global, path: &[u32], asked: Asked) -> Result<Edit, AllocError> {
+pub fn edit_at(alloc: Global, path: &[u32], asked: Asked<'_>) -> Result<Edit, AllocError> {
     let path = Vec::from_slice(alloc, path)?;
     let edit = match asked {
         Asked::AddField { top, text } => {
@@ -126,15 +155,6 @@ pub fn edit_at(alloc: Global, path: &[u32], asked: Asked) -> Result<Edit, AllocE
     Ok(edit)
 }
 
-/// An edit of a text, and what must come of it: the text behind it, or the reason against it.
-pub struct Row {
-    pub shows: &'static str,
-    pub text: &'static [u8],
-    pub path: &'static [u32],
-    pub asked: Asked,
-    pub after: Result<&'static [u8], EditError>,
-}
-
 /// A session over a copy of a text.
 pub fn session_over(alloc: Global, text: &[u8]) -> Result<Session, AllocError> {
     let text = Vec::from_slice(alloc, text)?;
@@ -147,35 +167,41 @@ pub fn read(alloc: Global, text: &[u8]) -> Result<Doc, AllocError> {
     Doc::read(alloc, text).map_err(|(_, error)| error)
 }
 
-/// Makes the edits of a table, takes them back and makes them again.
-pub fn check_rows(rt: &impl Abort, alloc: Global, rows: &[Row]) -> Result<(), Fail> {
-    for row in rows {
-        check_row(rt, alloc, row)?;
+/// Makes the edits of a table, takes them back and makes them again. A row has a message, the path of a section in it,
+/// an edit, and the text that the edit gives or the reason for which it is refused.
+pub fn check_rows(rt: &impl Abort, alloc: Global, table: &'static str) -> Result<(), Fail> {
+    for row in &rows(alloc, table)? {
+        let asked = asked_in(row)?;
+        let path = row.path(alloc, "at")?;
+        let edit = edit_at(alloc, &path, asked)?;
+        check_row(rt, alloc, row, &edit)?;
     }
     Ok(())
 }
 
-fn check_row(rt: &impl Abort, alloc: Global, row: &Row) -> Result<(), Fail> {
-    let mut session = session_over(alloc, row.text)?;
-    let edit = edit_at(alloc, row.path, row.asked)?;
-    let checked = session.check(&edit, &mut Meter::new());
-    check_state(rt, alloc, &session, row.text, row.shows)?;
-    let answer = session.edit(&edit, &mut Meter::new());
+fn check_row(rt: &impl Abort, alloc: Global, row: &Row, edit: &Edit) -> Result<(), Fail> {
+    let text = row.bytes("message");
+    let mut session = session_over(alloc, text)?;
+    let checked = session.check(edit, &mut Meter::new());
+    check_state(rt, alloc, &session, text, row.shows)?;
+    let answer = session.edit(edit, &mut Meter::new());
     assert_eq!(rt; checked, answer, "{}", row.shows);
-    match row.after {
-        Ok(after) => {
-            assert_eq!(rt; answer, Ok(()), "{}", row.shows);
+    match answer {
+        Ok(()) => {
+            let after = row.bytes("gives");
+            assert!(rt; row.get("gives").is_some(), "{}", row.shows);
             check_state(rt, alloc, &session, after, row.shows)?;
             assert_eq!(rt; (session.done(), session.undone()), (1, 0), "{}", row.shows);
             assert_eq!(rt; session.undo(), Ok(()), "{}", row.shows);
-            check_state(rt, alloc, &session, row.text, row.shows)?;
+            check_state(rt, alloc, &session, text, row.shows)?;
             assert_eq!(rt; (session.done(), session.undone()), (0, 1), "{}", row.shows);
             assert_eq!(rt; session.redo(), Ok(()), "{}", row.shows);
             check_state(rt, alloc, &session, after, row.shows)?;
         }
         Err(error) => {
-            assert_eq!(rt; answer, Err(error), "{}", row.shows);
-            check_state(rt, alloc, &session, row.text, row.shows)?;
+            let reason = format!(in alloc; "{error:?}")?;
+            assert_eq!(rt; reason.as_str(), row.text("refused"), "{}", row.shows);
+            check_state(rt, alloc, &session, text, row.shows)?;
             assert_eq!(rt; (session.done(), session.undone()), (0, 0), "{}", row.shows);
         }
     }

@@ -3,9 +3,10 @@ use Rattle.std.proofs.Common.{◌≡◌, ◌==◌, ◌&&◌, ℕ, Bool, true, fa
 use Rattle.std.proofs.lemmas.Bool.{cases_Bool}
 use Rattle.std.specs.List.{list_all}
 use Rattle.std.specs.Str.{bytes_eq}
-use Rattle.mk_line.specs.Ascii.{is_blank}
+use Rattle.mk_line.specs.Ascii.{is_blank, semicolon, quote, backslash, equals_sign, slash}
 use Rattle.mk_line.specs.Marks.{trimmed, trimmed_before}
-use Rattle.mk_head.specs.Values.{Scan, Plain, scan, is_kept, is_plain, semicolon, uncommented, pieces, push_first, before, behind, unled, stripped, unquoted, quote, backslash, equals, slash, parameter_value, parameter_before, parameters, typed_as, type_of_pieces, content_type_of, param_of, is_token}
+use Rattle.mk_line.specs.Parting.{before, behind}
+use Rattle.mk_head.specs.Values.{Scan, Plain, scan, is_kept, is_plain, uncommented, pieces, push_first, unled, stripped, unquoted, parameter_value, parameter_before, parameters, typed_as, type_of_pieces, content_type_of, param_of, is_token}
 use Rattle.mk_head.specs.Types.{trimmed_boundary}
 use Rattle.mk_head.specs.Laws.{ParametersAreBytes, BoundariesAreTrimmed}
 
@@ -109,13 +110,13 @@ abbrev ValuesPass : (ℕ → Bool) → List (List ℕ × List ℕ) → Type 0
 ValuesPass t [] = Unit {0}
 ValuesPass t (p ∷ ps) = Passes t p.1 × ValuesPass t ps
 
-parameter_all : (t : ℕ → Bool) (name piece : List ℕ) (o : Option (List ℕ)) (ps : List (List ℕ × List ℕ)) → behind equals piece ≡ o → Passes t piece → ValuesPass t ps → ValuesPass t (parameter_before name o ps)
+parameter_all : (t : ℕ → Bool) (name piece : List ℕ) (o : Option (List ℕ)) (ps : List (List ℕ × List ℕ)) → behind equals_sign piece ≡ o → Passes t piece → ValuesPass t ps → ValuesPass t (parameter_before name o ps)
 parameter_all t name piece None ps e h k = k
-parameter_all t name piece (Some value) ps e h k = (value_all t (stripped value) (trimmed_all t (unled value) (unled_all t value (behind_all t equals piece value h e))), k)
+parameter_all t name piece (Some value) ps e h k = (value_all t (stripped value) (trimmed_all t (unled value) (unled_all t value (behind_all t equals_sign piece value h e))), k)
 
 parameters_all : (t : ℕ → Bool) (ps : List (List ℕ)) → AllPass t ps → ValuesPass t (parameters ps)
 parameters_all t [] h = tt
-parameters_all t (p ∷ ps) h = parameter_all t (before equals p) p (behind equals p) (parameters ps) refl h.0 (parameters_all t ps h.1)
+parameters_all t (p ∷ ps) h = parameter_all t (before equals_sign p) p (behind equals_sign p) (parameters ps) refl h.0 (parameters_all t ps h.1)
 
 typed_params : (main : List ℕ) (o : Option (List ℕ)) (ps : List (List ℕ × List ℕ)) → (typed_as main o ps).params ≡ ps
 typed_params main None ps = refl

@@ -1,6 +1,6 @@
 -- Pieces of values, and what stands before and behind a byte.
-use Rattle.std.proofs.Common.{◌≡◌, ◌==◌, ◌&&◌, ◌+◌, ◌-◌, ◌<◌, ℕ, suc, zero, true, false, Option, None, Some, Result, List, [], ◌∷◌, ◌++◌, refl, ap, sym, ◌∙◌, inl, inr, length, take, drop, slice_index, arith, add-one, append_assoc}
-use Rattle.std.proofs.lemmas.Bool.{cases_Bool, false_from_ne_true}
+use Rattle.std.proofs.Common.{◌≡◌, ◌==◌, ◌&&◌, ◌+◌, ◌-◌, ℕ, suc, zero, false, Option, None, Some, Result, List, [], ◌∷◌, ◌++◌, refl, ap, sym, ◌∙◌, inl, inr, length, take, drop, slice_index, arith, append_assoc}
+use Rattle.std.proofs.lemmas.Bool.{cases_Bool}
 use Rattle.std.proofs.lemmas.Bool.Decides.{eqb_tells}
 use Rattle.std.proofs.lemmas.List.{take_rest}
 use Rattle.std.specs.List.{prefix_len}
@@ -8,14 +8,14 @@ use Rattle.std.specs.Option.{option_map}
 use Rattle.std.specs.Result.{IfOk}
 use Rattle.std.proofs.lemmas.Result.{IfOk-weaker}
 use Rattle.std.specs.Global.{Vec}
-use Rattle.memchr.specs.Find.{IsFirstByte, is_byte}
-use Rattle.mk_line.specs.Ascii.{is_blank}
+use Rattle.mk_line.specs.Ascii.{is_blank, semicolon, slash, equals_sign}
 use Rattle.mk_line.specs.Lines.{TextLine, text_line, is_nil, cut, onto_first, with_byte}
 use Rattle.mk_line.specs.declared.cutting.Ending.{Ending}
 use Rattle.mk_line.specs.declared.cutting.Ending.TheVariants.{Crlf, Lf, Missing}
 use Rattle.mk_line.proofs.Cuts.{cut_other}
 use Rattle.mk_line.specs.Marks.{trimmed}
-use Rattle.mk_head.specs.Values.{Scan, Plain, scan, is_plain, semicolon, slash, equals, pieces, push_first, before, behind, behind as stands_behind, unled, stripped, parameters, parameter_before, typed_as, type_of_pieces}
+use Rattle.mk_line.specs.Parting.{before, behind, behind as stands_behind}
+use Rattle.mk_head.specs.Values.{Scan, Plain, scan, is_plain, pieces, push_first, unled, stripped, parameters, parameter_before, typed_as, type_of_pieces}
 use Rattle.mk_head.specs.Depths.{first_piece, other_pieces, pieces_behind}
 use Rattle.mk_head.specs.Unfolding.{contents, or_nothing, value_in}
 use Rattle.mk_head.specs.Boundaries.{ends_in_space}
@@ -28,26 +28,6 @@ pieces_parts s (b ∷ bytes) =
       | inl h ↦ rw h refl
       | inr h ↦ rw h (ap (push_first b) (pieces_parts (scan s b) bytes))
     ]
-
--- before and behind the first byte of a kind
-before_none : (mark : ℕ) (text : List ℕ) → ((k : ℕ) → k < length text → (slice_index text k == mark) ≡ false) → behind mark text ≡ None
-before_none mark [] h = refl
-before_none mark (b ∷ text) h = rw (h 0 (omega arith)) (before_none mark text (λ k l. h (suc k) (omega arith)))
-
-before_at : (mark n : ℕ) (text : List ℕ) → n < length text → ((k : ℕ) → k < n → (slice_index text k == mark) ≡ false) → (slice_index text n == mark) ≡ true → (take n text ≡ before mark text) × (behind mark text ≡ Some (drop (suc n) text))
-before_at mark n [] l h e = let none : n < 0 = l in absurd (omega arith)
-before_at mark zero (b ∷ text) l h e = (rw e refl, rw e refl)
-before_at mark (suc n) (b ∷ text) l h e =
-    let p = before_at mark n text (omega (arith, l)) (λ k q. h (suc k) (omega arith)) e in
-    (rw (h 0 (omega arith)) (ap (λ xs. b ∷ xs) p.0), rw (h 0 (omega arith)) p.1)
-
-pub unfound : (mark : ℕ) (text : List ℕ) → IsFirstByte (is_byte mark) text None → behind mark text ≡ None
-unfound mark text h = before_none mark text (λ k l. false_from_ne_true (slice_index text k == mark) (h k (omega arith) l))
-
-pub found : (mark end : ℕ) (text : List ℕ) → IsFirstByte (is_byte mark) text (Some end) → (take end text ≡ before mark text) × (behind mark text ≡ Some (take (length text - (end + 1)) (drop (end + 1) text)))
-found mark end text h =
-    let p = before_at mark end text h.0.high (λ k l. false_from_ne_true (slice_index text k == mark) (h.0.before k (omega arith) l)) h.1 in
-    (p.0, p.1 ∙ ap (λ xs. Some xs) (ap (λ n. drop n text) (sym (add-one end)) ∙ sym (take_rest text (end + 1))))
 
 one_more : (n : ℕ) → 1 + n ≡ suc n
 one_more n = omega arith
@@ -136,14 +116,14 @@ parameter_append name (Some value) others = refl
 
 -- one parameter more
 pub parameters_next : (params more all : List (List ℕ × List ℕ)) (rest behind others piece : List ℕ) (end b : ℕ) → rest ≡ b ∷ behind → other_pieces Plain behind ≡ pieces_behind (drop end behind) → others ≡ drop end behind
-    → first_piece Plain behind ≡ take end behind → piece ≡ take end behind → more ≡ params ++ parameter_before (before equals piece) (stands_behind equals piece) []
+    → first_piece Plain behind ≡ take end behind → piece ≡ take end behind → more ≡ params ++ parameter_before (before equals_sign piece) (stands_behind equals_sign piece) []
     → params ++ parameters (pieces_behind rest) ≡ all → more ++ parameters (pieces_behind others) ≡ all
 parameters_next params more all rest behind others piece end b e o q f p m t =
     let named : piece ≡ first_piece Plain behind = p ∙ sym f in
     ap (λ xs. xs ++ parameters (pieces_behind others)) m
-    ∙ (append_assoc params (parameter_before (before equals piece) (stands_behind equals piece) []) (parameters (pieces_behind others))
-    ∙ (ap (λ xs. params ++ xs) (sym (parameter_append (before equals piece) (stands_behind equals piece) (parameters (pieces_behind others))))
-    ∙ (ap (λ x. params ++ parameter_before (before equals x) (stands_behind equals x) (parameters (pieces_behind others))) named
+    ∙ (append_assoc params (parameter_before (before equals_sign piece) (stands_behind equals_sign piece) []) (parameters (pieces_behind others))
+    ∙ (ap (λ xs. params ++ xs) (sym (parameter_append (before equals_sign piece) (stands_behind equals_sign piece) (parameters (pieces_behind others))))
+    ∙ (ap (λ x. params ++ parameter_before (before equals_sign x) (stands_behind equals_sign x) (parameters (pieces_behind others))) named
     ∙ (ap (λ ps. params ++ parameters ps) (sym (behind_parts rest behind others end b e o q)) ∙ t))))
 
 -- the content type of its pieces

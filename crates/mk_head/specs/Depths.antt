@@ -1,6 +1,7 @@
 -- Comments around a byte, and the pieces of a text one by one.
 use Rattle.std.specs.Prelude.{◌==◌, ◌&&◌, ◌+◌, if◌then◌else◌, ℕ, List, [], ◌∷◌}
-use Rattle.mk_head.specs.Values.{Scan, Plain, Quoted, QuotedEscaped, Comment, CommentEscaped, scan, is_plain, semicolon, pieces}
+use Rattle.mk_line.specs.Ascii.{semicolon}
+use Rattle.mk_head.specs.Values.{Scan, Plain, Quoted, QuotedEscaped, Comment, CommentEscaped, scan, is_plain, pieces}
 
 -- how many comments a byte stands in
 abbrev pub depth_of : Scan → ℕ

@@ -1,6 +1,7 @@
 -- What fields say of a body: its content type and its encoding (RFC 2045, 5.1, 5.2 and 6; RFC 2046, 5.1.5 for digests).
-use Rattle.std.specs.Prelude.{◌&&◌, if◌then◌else◌, ℕ, Bool, true, false, Option, None, Some, List, [], ◌∷◌, codes}
-use Rattle.mk_line.specs.Lines.{TextLine}
+use Rattle.std.specs.Prelude.{◌&&◌, ◌++◌, if◌then◌else◌, ℕ, Bool, true, false, Option, None, Some, List, [], ◌∷◌, codes}
+use Rattle.mk_line.specs.declared.cutting.Ending.{Ending}
+use Rattle.mk_line.specs.Lines.{TextLine, text_line}
 use Rattle.mk_line.specs.Marks.{trimmed}
 use Rattle.mk_head.specs.declared.encodings.Encoding.{Encoding}
 use Rattle.mk_head.specs.declared.encodings.Encoding.TheVariants.{Identity}
@@ -46,3 +47,7 @@ trimmed_boundary (Some boundary) = trimmed boundary
 -- the boundary of a content type: the parameter without the blanks at its end; an empty one is none (own)
 abbrev pub boundary_of : MediaType → List ℕ
 boundary_of t = trimmed_boundary (param_of (codes "boundary") t.params)
+
+-- the field that says a multipart and its boundary (RFC 2046, 5.1.1)
+abbrev pub type_line : Ending → List ℕ → List ℕ → TextLine
+type_line eol subtype boundary = text_line (codes "Content-Type: multipart/" ++ (subtype ++ (codes "; boundary=\"" ++ (boundary ++ codes "\"")))) eol

@@ -2,7 +2,7 @@
 use Rattle.std.specs.Prelude.{◌++◌, ℕ, Option, None, Some, List, [], ◌∷◌}
 use Rattle.mk_line.specs.Ascii.{colon}
 use Rattle.mk_line.specs.Lines.{TextLine}
-use Rattle.mk_head.specs.Values.{behind}
+use Rattle.mk_line.specs.Parting.{behind}
 
 -- the contents of lines, joined
 abbrev pub contents : List TextLine → List ℕ

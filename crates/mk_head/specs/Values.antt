@@ -2,37 +2,10 @@
 use Rattle.std.specs.Prelude.{◌==◌, ◌&&◌, if◌then◌else◌, ℕ, suc, zero, Bool, true, false, not, Option, None, Some, List, [], ◌∷◌, codes, nat_le}
 use Rattle.std.specs.List.{list_all, list_any}
 use Rattle.std.specs.Str.{bytes_eq, str_to_ascii_lowercase}
-use Rattle.mk_line.specs.Ascii.{is_blank}
+use Rattle.mk_line.specs.Ascii.{backslash, closing, equals_sign, is_blank, opening, quote, semicolon, slash}
 use Rattle.mk_line.specs.Lines.{is_nil}
 use Rattle.mk_line.specs.Marks.{trimmed}
-
--- b'"'
-abbrev pub quote : ℕ
-quote = 34
-
--- b'('
-abbrev pub opening : ℕ
-opening = 40
-
--- b')'
-abbrev pub closing : ℕ
-closing = 41
-
--- b'/'
-abbrev pub slash : ℕ
-slash = 47
-
--- b';'
-abbrev pub semicolon : ℕ
-semicolon = 59
-
--- b'='
-abbrev pub equals : ℕ
-equals = 61
-
--- b'\\'
-abbrev pub backslash : ℕ
-backslash = 92
+use Rattle.mk_line.specs.Parting.{before, behind}
 
 -- where a byte of a value stands: outside, in a quoted string, or in a comment with so many comments around it; behind
 -- a backslash a byte is escaped
@@ -87,16 +60,6 @@ abbrev pub pieces : Scan → List ℕ → List (List ℕ)
 pieces s [] = [] ∷ []
 pieces s (byte ∷ bytes) = if is_plain s && byte == semicolon then [] ∷ pieces s bytes else push_first byte (pieces (scan s byte) bytes)
 
--- what stands before the first byte of a kind
-abbrev pub before : ℕ → List ℕ → List ℕ
-before mark [] = []
-before mark (byte ∷ bytes) = if byte == mark then [] else byte ∷ before mark bytes
-
--- what stands behind it, where it is there
-abbrev pub behind : ℕ → List ℕ → Option (List ℕ)
-behind mark [] = None
-behind mark (byte ∷ bytes) = if byte == mark then Some bytes else behind mark bytes
-
 -- without the blanks in front
 abbrev pub unled : List ℕ → List ℕ
 unled [] = []
@@ -129,7 +92,7 @@ parameter_before name (Some value) others = (lowered (stripped name), parameter_
 -- the pieces with a `=` as names and values, the others left out
 abbrev pub parameters : List (List ℕ) → List (List ℕ × List ℕ)
 parameters [] = []
-parameters (piece ∷ pieces) = parameter_before (before equals piece) (behind equals piece) (parameters pieces)
+parameters (piece ∷ pieces) = parameter_before (before equals_sign piece) (behind equals_sign piece) (parameters pieces)
 
 -- a byte of a token: 33 to 126, and none of these
 abbrev pub is_token_byte : ℕ → Bool

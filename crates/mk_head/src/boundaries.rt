@@ -1,7 +1,12 @@
-//! Boundaries that may be made (RFC 2046, 5.1.1).
-ghost use Rattle.std.specs.Prelude.{◌≡◌};
+//! Boundaries that may be made, and the field that says one (RFC 2046, 5.1.1).
+ghost use Rattle.std.specs.Prelude.{◌≡◌, ◌++◌, OnOk};
 ghost use Rattle.std.specs.List.{list_all};
+ghost use Rattle.mk_line.specs.Lines.{printed_line};
 ghost use Rattle.mk_head.specs.Boundaries.{is_boundary as boundary, is_boundary_byte as boundary_byte, ends_in_space as spaced};
+ghost use Rattle.mk_head.specs.Types.{type_line};
+
+use mk_line::Ending;
+use std::alloc::AllocError;
 
 const SPACE: u8 = b' ';
 
@@ -14,6 +19,25 @@ pub fn is_boundary(text: &[u8]) -> bool
     ensures { result ≡ boundary text.now }
 {
     !text.is_empty() && text.len() <= LONGEST && are_boundary_bytes(text) && !ends_in_space(text)
+}
+
+/// Appends the Content-Type field of a multipart of a subtype and a boundary, as they are given. After an error only some
+/// of its bytes may be there.
+pub fn push_multipart_type(
+    text: &mut Vec<u8>,
+    subtype: &[u8],
+    boundary: &[u8],
+    eol: Ending,
+) -> Result<(), AllocError>
+    ensures { OnOk result (text.new.items ≡ text.old.items ++ printed_line (type_line eol subtype.now boundary.now)) }
+{
+    text.extend_from_slice(b"Content-Type: multipart/")?;
+    text.extend_from_slice(subtype)?;
+    text.extend_from_slice(b"; boundary=\"")?;
+    text.extend_from_slice(boundary)?;
+    text.extend_from_slice(b"\"")?;
+    text.extend_from_slice(eol.bytes())?;
+    Ok(())
 }
 
 fn are_boundary_bytes(text: &[u8]) -> bool

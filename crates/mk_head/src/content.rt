@@ -1,14 +1,14 @@
 //! Content types: type, subtype and parameters (RFC 2045, 5.1 and 5.2).
-ghost use Rattle.std.specs.Prelude.{◌≡◌, ◌≤◌, ◌++◌, length, [], Some, None, map, IfOk, IfNone, IfSome, OnOk};
-ghost use Rattle.std.specs.List.{list_all, prefix_len};
-ghost use Rattle.mk_line.specs.Ascii.{is_blank as blank};
-ghost use Rattle.mk_head.specs.Values.{before, behind, content_type_of, equals, is_token as token, is_token_byte as token_byte, lowered, media_type, parameter_before, slash, parameter_value as value_of_parameter, parameters as parameters_of, stripped, typed_as};
+ghost use Rattle.std.specs.Prelude.{◌≡◌, ◌++◌, [], map, IfOk, OnOk};
+ghost use Rattle.std.specs.List.{list_all};
+ghost use Rattle.mk_line.specs.Ascii.{equals_sign, slash};
+ghost use Rattle.mk_line.specs.Parting.{before, behind};
+ghost use Rattle.mk_head.specs.Values.{content_type_of, is_token as token, is_token_byte as token_byte, lowered, media_type, parameter_before, parameter_value as value_of_parameter, parameters as parameters_of, stripped, typed_as};
 ghost use Rattle.mk_head.specs.Depths.{pieces_behind};
 ghost use Rattle.mk_head.specs.ValueViews.{media_type_of, parameter_of};
 
 use crate::scanning::{QUOTE, piece_end, uncomment, unquote};
-use memchr::memchr;
-use mk_line::{is_blank, trimmed};
+use mk_line::{leading_blanks, split_at_first, trimmed};
 use std::alloc::{AllocError, Global};
 
 const EQUALS: u8 = b'=';
@@ -128,7 +128,7 @@ fn push_parameter(
     params: &mut Vec<(Vec<u8>, Vec<u8>)>,
     piece: &[u8],
 ) -> Result<(), AllocError>
-    ensures { OnOk result (map parameter_of params.new.items ≡ map parameter_of params.old.items ++ parameter_before (before equals piece.now) (behind equals piece.now) []) }
+    ensures { OnOk result (map parameter_of params.new.items ≡ map parameter_of params.old.items ++ parameter_before (before equals_sign piece.now) (behind equals_sign piece.now) []) }
 {
     if let Some((name, value)) = split_at_first(piece, EQUALS) {
         let name = lowercase(alloc, strip(name))?;
@@ -148,30 +148,11 @@ fn parameter_value(alloc: Global, text: &[u8]) -> Result<Vec<u8>, AllocError>
     }
 }
 
-// What stands before the first byte of a kind, and what stands behind it.
-pub(crate) fn split_at_first(text: &[u8], mark: u8) -> Option<(&[u8], &[u8])>
-    ensures none { IfNone result (behind mark text.now ≡ None) }
-    ensures some { IfSome result (λ p. (p.0.now ≡ before mark text.now) × (behind mark text.now ≡ Some p.1.now)) }
-{
-    match memchr(mark, text) {
-        Some(place) => Some((&text[..place], &text[place + 1..])),
-        None => None,
-    }
-}
-
 // The text without the blanks at both ends.
 fn strip(text: &[u8]) -> &[u8]
     ensures { result.now ≡ stripped text.now }
 {
-    trimmed(&text[blank_front(text)..])
-}
-
-// How many blanks stand in front.
-fn blank_front(text: &[u8]) -> usize
-    ensures front { result ≡ prefix_len blank text.now }
-    ensures within { result ≤ length text.now }
-{
-    text.iter().take_while(|byte| is_blank(**byte)).count()
+    trimmed(&text[leading_blanks(text)..])
 }
 
 // The text in lower case.

@@ -12,14 +12,11 @@ mod reading;
 mod scanning;
 mod unfolding;
 
-pub use boundaries::is_boundary;
+pub use boundaries::{is_boundary, push_multipart_type};
 pub use content::{ContentType, content_type, is_token};
 pub use encodings::Encoding;
 pub use fields::{Field, Header};
 pub use listing::{Fields, each_field};
 pub use naming::encoding;
 pub use reading::{header, one_field};
-pub use unfolding::unfold;
-
-#[cfg(test)]
-mod tests;
+pub use unfolding::{unfold, without_endings};

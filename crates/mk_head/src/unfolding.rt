@@ -3,9 +3,8 @@ ghost use Rattle.std.specs.Prelude.{◌≡◌, IfOk};
 ghost use Rattle.mk_line.specs.Lines.{cut as lines_of};
 ghost use Rattle.mk_head.specs.Unfolding.{contents, value_in};
 
-use crate::content::split_at_first;
 use crate::fields::Field;
-use mk_line::cut;
+use mk_line::{cut, split_at_first};
 use std::alloc::{AllocError, Global};
 
 const COLON: u8 = b':';
@@ -15,18 +14,18 @@ pub fn unfold(alloc: Global, field: &Field<'_>) -> Result<Vec<u8>, AllocError>
     ensures { IfOk result (λ v. v.items ≡ value_in (lines_of field.now.raw.now)) }
 {
     match split_at_first(field.raw, COLON) {
-        Some((_, rest)) => joined(alloc, rest),
+        Some((_, rest)) => without_endings(alloc, rest),
         None => Ok(Vec::new(alloc)),
     }
 }
 
-// The contents of the lines of a text, joined.
-fn joined(alloc: Global, text: &[u8]) -> Result<Vec<u8>, AllocError>
+/// A text without its line endings: the contents of its lines, joined.
+pub fn without_endings(alloc: Global, text: &[u8]) -> Result<Vec<u8>, AllocError>
     ensures { IfOk result (λ v. v.items ≡ contents (lines_of text.now)) }
 {
-    let mut value = Vec::with_capacity(alloc, text.len())?;
+    let mut joined = Vec::with_capacity(alloc, text.len())?;
     for line in cut(text) {
-        value.extend_from_slice(line.content)?;
+        joined.extend_from_slice(line.content)?;
     }
-    Ok(value)
+    Ok(joined)
 }

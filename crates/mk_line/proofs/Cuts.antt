@@ -1,5 +1,5 @@
 -- The lines of a text joined are the text, they are lines, and no other lines join to it.
-use Rattle.std.proofs.Common.{◌≡◌, append_assoc, ◌==◌, ◌≢◌, subst, length-append, ◌<◌, ◌≤◌, ◌+◌, ◌-◌, if◌then◌else◌, ℕ, suc, zero, Bool, true, false, List, [], ◌∷◌, ◌++◌, refl, ap, sym, ◌∙◌, length, take, drop, slice_index, arith, inl, inr}
+use Rattle.std.proofs.Common.{◌≡◌, append_assoc, ◌==◌, ◌≢◌, subst, length-append, ◌<◌, ◌≤◌, ◌+◌, ◌-◌, if◌then◌else◌, ℕ, suc, zero, Bool, true, false, not, List, [], ◌∷◌, ◌++◌, refl, ap, sym, ◌∙◌, length, take, drop, slice_index, arith, inl, inr}
 use Rattle.std.proofs.Common.{None, Some, add-one, length-drop}
 use Rattle.std.proofs.Math.Seq.{drop-length}
 use Rattle.std.proofs.lemmas.Bool.{or_parts, eqb-true, false_from_ne_true}
@@ -9,14 +9,14 @@ use Rattle.std.proofs.lemmas.Bool.Decides.{eqb_tells, nat_tests}
 use Rattle.mk_line.specs.declared.cutting.Ending.{Ending}
 use Rattle.mk_line.specs.declared.cutting.Ending.TheVariants.{Crlf, Lf, Missing}
 use Rattle.mk_line.specs.Views.{BeginsLine}
-use Rattle.mk_line.specs.Lines.{TextLine, text_line, ending_bytes, printed_line, text_of, is_open, is_nil, with_byte, onto_first, cut, ended, has_line_feed, ends_in_return, IsLine, AreLines}
+use Rattle.mk_line.specs.Lines.{TextLine, text_line, ending_bytes, printed_line, text_of, is_open, is_nil, with_byte, onto_first, cut, ended, has_line_feed, ends_in_return, ends_open, IsLine, AreLines}
 
 -- a byte put before a line stands before its bytes
 printed_if : (t : Bool) (byte : ℕ) → (t ≡ true → byte ≡ 13) → printed_line (if t then text_line [] Crlf else text_line (byte ∷ []) Lf) ≡ byte ∷ 10 ∷ []
 printed_if true byte h = ap (λ b. b ∷ 10 ∷ []) (sym (h refl))
 printed_if false byte h = refl
 
-printed_with : (byte : ℕ) (content : List ℕ) (e : Ending) → printed_line (with_byte byte (text_line content e)) ≡ byte ∷ printed_line (text_line content e)
+pub printed_with : (byte : ℕ) (content : List ℕ) (e : Ending) → printed_line (with_byte byte (text_line content e)) ≡ byte ∷ printed_line (text_line content e)
 printed_with byte content Crlf = refl
 printed_with byte [] Lf = printed_if (byte == 13) byte (eqb-true byte 13)
 printed_with byte (next ∷ bytes) Lf = refl
@@ -171,6 +171,17 @@ last_at byte (next ∷ bytes) (suc n) e = last_at next bytes n (omega (arith, e)
 pub last_return : (bytes : List ℕ) → (slice_index bytes (length bytes - 1) == 13) ≡ ends_in_return bytes
 last_return [] = refl
 last_return (byte ∷ bytes) = last_at byte bytes (length (byte ∷ bytes) - 1) (omega arith)
+
+-- the last byte tells whether a text ends open
+open_at : (byte : ℕ) (bytes : List ℕ) (n : ℕ) → length bytes ≡ n → not (slice_index (byte ∷ bytes) n == 10) ≡ ends_open (byte ∷ bytes)
+open_at byte [] zero e = refl
+open_at byte [] (suc n) e = absurd (omega (arith, e))
+open_at byte (next ∷ bytes) zero e = absurd (omega (arith, e))
+open_at byte (next ∷ bytes) (suc n) e = open_at next bytes n (omega (arith, e))
+
+pub last_open : (bytes : List ℕ) → 0 < length bytes → not (slice_index bytes (length bytes - 1) == 10) ≡ ends_open bytes
+last_open [] h = let none : 0 < 0 = h in absurd (omega arith)
+last_open (byte ∷ bytes) h = open_at byte bytes (length (byte ∷ bytes) - 1) (omega arith)
 
 -- what a search for the first line feed tells of the first line
 pub cut_found : (text : List ℕ) (end : ℕ) (l : TextLine) → IsFirstByte (is_byte 10) text (Some end) → l ≡ ended (take end text) → cut text ≡ l ∷ cut (take (length text - (end + 1)) (drop (end + 1) text))

@@ -1,3 +1,5 @@
 pub mod Cuts
 pub mod Starts
+pub mod FirstBytes
 pub mod Blanks
+pub mod Joined

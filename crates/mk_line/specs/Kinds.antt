@@ -1,7 +1,12 @@
 -- Kinds of line (RFC 5322, 2.2 and 2.2.3; 4.5 for the blanks before a colon).
 use Rattle.std.specs.Prelude.{◌==◌, ◌&&◌, if◌then◌else◌, ℕ, Bool, false, not, Option, None, Some, List, [], ◌∷◌, codes, nat_eq}
-use Rattle.std.specs.List.{starts_with, prefix_len}
+use Rattle.std.specs.List.{list_all, starts_with, prefix_len}
 use Rattle.mk_line.specs.Ascii.{is_blank, is_name_byte, colon}
+use Rattle.mk_line.specs.Lines.{is_nil}
+
+-- a name has one byte or more, each a byte of a name (RFC 5322, 2.2)
+abbrev pub is_name : List ℕ → Bool
+is_name bytes = not (is_nil bytes) && list_all is_name_byte bytes
 
 -- blanks or none, and then a colon
 abbrev pub is_past_blanks_colon : List ℕ → Bool

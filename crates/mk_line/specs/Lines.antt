@@ -1,5 +1,5 @@
 -- Lines of a text (RFC 5322, 2.1; that LF alone ends a line too, and that the last line may be open, is our own).
-use Rattle.std.specs.Prelude.{◌≡◌, ◌==◌, ◌&&◌, ◌||◌, if◌then◌else◌, ℕ, Bool, true, false, List, [], ◌∷◌, ◌++◌}
+use Rattle.std.specs.Prelude.{◌≡◌, ◌==◌, ◌&&◌, ◌||◌, if◌then◌else◌, ℕ, Bool, true, false, not, List, [], ◌∷◌, ◌++◌}
 use Rattle.mk_line.specs.declared.cutting.Ending.{Ending}
 use Rattle.mk_line.specs.declared.cutting.Ending.TheVariants.{Crlf, Lf, Missing}
 use Rattle.mk_line.specs.Ascii.{line_feed, carriage_return}
@@ -86,6 +86,12 @@ abbrev pub ends_in_return : List ℕ → Bool
 ends_in_return [] = false
 ends_in_return (byte ∷ []) = byte == carriage_return
 ends_in_return (byte ∷ next ∷ bytes) = ends_in_return (next ∷ bytes)
+
+-- a text ends open where it isn't empty and no line feed is its last byte
+abbrev pub ends_open : List ℕ → Bool
+ends_open [] = false
+ends_open (byte ∷ []) = not (byte == line_feed)
+ends_open (byte ∷ next ∷ bytes) = ends_open (next ∷ bytes)
 
 -- a line ended by LF doesn't end in CR, and an open line isn't empty
 abbrev pub EndsWell : Ending → List ℕ → Type 0

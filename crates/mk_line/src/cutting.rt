@@ -2,7 +2,7 @@
 ghost use Rattle.std.specs.Prelude.{◌≡◌, ◌≤◌, ◌<◌, ◌∷◌, ◌++◌, [], true, length, drop, slice_get, IfNone, IfSome};
 ghost use Rattle.std.specs.Option.{option_map};
 ghost use Rattle.std.specs.Iterator.{YieldsFirstBy, item_count};
-ghost use Rattle.mk_line.specs.Lines.{cut as lines_of, ended, eol_of as eol, closed as closed_ending, printed_line, text_line, ends_in_return as ends_in_cr};
+ghost use Rattle.mk_line.specs.Lines.{cut as lines_of, ended, ends_open as is_open_text, eol_of as eol, closed as closed_ending, printed_line, text_line, ends_in_return as ends_in_cr};
 ghost use Rattle.mk_line.specs.declared.cutting.Ending.TheVariants.{Missing};
 ghost use Rattle.mk_line.specs.Meters.{ticked};
 ghost use Rattle.mk_line.specs.Views.{line_of, BeginsLine};
@@ -24,6 +24,22 @@ pub enum Ending {
     Lf,
     /// Nothing: the last line of a text may be open, and isn't empty then.
     Missing,
+}
+
+impl Ending {
+    ghost use Rattle.std.specs.Prelude.{◌≡◌};
+    ghost use Rattle.mk_line.specs.Lines.{ending_bytes};
+
+    /// The bytes of the ending: CR LF, LF or none.
+    pub fn bytes(self) -> &'static [u8]
+        ensures { result.now ≡ ending_bytes self }
+    {
+        match self {
+            Ending::Crlf => b"\r\n",
+            Ending::Lf => b"\n",
+            Ending::Missing => b"",
+        }
+    }
 }
 
 /// A line of a text. A CR that isn't part of the ending belongs to the content.
@@ -107,6 +123,16 @@ pub fn eol_of(text: &[u8]) -> Ending
     match cut(text).next() {
         Some(line) => closed(line.ending),
         None => Ending::Lf,
+    }
+}
+
+/// Whether a text isn't empty and its last line has no ending.
+pub fn ends_open(text: &[u8]) -> bool
+    ensures { result ≡ is_open_text text.now }
+{
+    match text {
+        [.., last] => *last != LINE_FEED,
+        [] => false,
     }
 }
 

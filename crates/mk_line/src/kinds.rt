@@ -1,8 +1,8 @@
 //! Kinds of line: field starts, continuations, From-lines (RFC 5322, 2.2; From-lines are our own).
 ghost use Rattle.std.specs.Prelude.{◌≡◌, ◌≤◌, length};
-ghost use Rattle.std.specs.List.{prefix_len};
+ghost use Rattle.std.specs.List.{list_all, prefix_len};
 ghost use Rattle.mk_line.specs.Ascii.{is_blank as blank, is_name_byte as name_byte};
-ghost use Rattle.mk_line.specs.Kinds.{is_continuation as continues, is_from_line as is_from, is_past_blanks_colon, name_len as length_of_name};
+ghost use Rattle.mk_line.specs.Kinds.{is_continuation as continues, is_from_line as is_from, is_name as are_name, is_past_blanks_colon, name_len as length_of_name};
 
 const TAB: u8 = b'\t';
 
@@ -28,6 +28,19 @@ pub fn name_len(content: &[u8]) -> Option<usize>
     } else {
         None
     }
+}
+
+/// Whether these bytes are a field's name: one or more bytes 33 to 126 other than the colon.
+pub fn is_name(bytes: &[u8]) -> bool
+    ensures { result ≡ are_name bytes.now }
+{
+    !bytes.is_empty() && are_name_bytes(bytes)
+}
+
+fn are_name_bytes(bytes: &[u8]) -> bool
+    ensures { result ≡ list_all name_byte bytes.now }
+{
+    bytes.iter().all(|byte| is_name_byte(*byte))
 }
 
 /// Whether the content begins with a blank, a space or a tab.
@@ -71,17 +84,18 @@ fn name_front(content: &[u8]) -> usize
         .count()
 }
 
-// How many blanks stand in front.
-fn blank_front(content: &[u8]) -> usize
-    ensures { result ≡ prefix_len blank content.now }
+/// How many blanks the bytes begin with.
+pub fn leading_blanks(bytes: &[u8]) -> usize
+    ensures front { result ≡ prefix_len blank bytes.now }
+    ensures within { result ≤ length bytes.now }
 {
-    content.iter().take_while(|byte| is_blank(**byte)).count()
+    bytes.iter().take_while(|byte| is_blank(**byte)).count()
 }
 
 // Whether blanks or none and then a colon stand in front.
 fn opens_value(content: &[u8]) -> bool
     ensures { result ≡ is_past_blanks_colon content.now }
 {
-    let blanks = blank_front(content);
+    let blanks = leading_blanks(content);
     blanks < content.len() && content[blanks] == COLON
 }

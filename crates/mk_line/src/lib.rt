@@ -1,6 +1,6 @@
 //! Lines of Internet messages: cutting a text into lines, and telling the kinds of line.
 //!
-//! No call takes memory, and none refuses.
+//! Only `push_delimiter` and `push_close` take memory, and no other call fails.
 #![tactic(auto)]
 
 mod cutting;
@@ -8,11 +8,10 @@ mod kinds;
 pub mod laws;
 mod marks;
 mod metering;
+mod parting;
 
-pub use cutting::{Ending, Line, Lines, cut, eol_of, first_line, line_at};
-pub use kinds::{is_blank, is_continuation, is_from_line, name_len};
-pub use marks::{Mark, is_delimiter, trimmed};
+pub use cutting::{Ending, Line, Lines, cut, ends_open, eol_of, first_line, line_at};
+pub use kinds::{is_blank, is_continuation, is_from_line, is_name, leading_blanks, name_len};
+pub use marks::{Mark, is_delimiter, push_close, push_delimiter, trimmed};
 pub use metering::Meter;
-
-#[cfg(test)]
-mod tests;
+pub use parting::split_at_first;

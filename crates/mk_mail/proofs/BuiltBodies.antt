@@ -12,7 +12,7 @@ use Rattle.mk_code.specs.OutputLines.{IsSafe, AreSafe}
 use Rattle.mk_tree.specs.Cutting.{Unmarked}
 use Rattle.mk_tree.specs.Sections.{unended}
 use Rattle.mk_tree.proofs.Endings.{ended_crlf, ended_lf}
-use Rattle.mk_edit.proofs.WrapFields.{mark_none}
+use Rattle.mk_decide.proofs.WrapFields.{mark_none}
 use Rattle.mk_code.proofs.NoReturns.{is_other}
 use Rattle.mk_mail.proofs.PartTypes.{both}
 

@@ -8,7 +8,7 @@ use Rattle.mk_line.specs.Ascii.{is_blank}
 use Rattle.mk_line.specs.declared.cutting.Ending.{Ending}
 use Rattle.mk_line.specs.declared.cutting.Ending.TheVariants.{Crlf, Lf, Missing}
 use Rattle.mk_line.specs.Kinds.{is_field_start}
-use Rattle.mk_line.specs.Lines.{TextLine, text_line, ending_bytes, is_lf, is_nil, is_open, onto_first, cut, text_of, AreLines}
+use Rattle.mk_line.specs.Lines.{TextLine, text_line, ending_bytes, is_lf, is_nil, is_open, onto_first, cut, text_of, AreLines, ends_open}
 use Rattle.mk_line.proofs.Blanks.{untold}
 use Rattle.mk_line.proofs.Cuts.{lines_cut, text_append, text_cut}
 use Rattle.mk_head.specs.Fields.{field_text, is_named, is_one_field, name_of}
@@ -17,7 +17,7 @@ use Rattle.mk_head.specs.Splits.{IsRun}
 use Rattle.mk_head.specs.Types.{field_value}
 use Rattle.mk_head.specs.Values.{lowered}
 use Rattle.mk_head.proofs.FieldRuns.{more_start}
-use Rattle.mk_mail.specs.Building.{closed_field, is_free_field, is_free_start, is_made_name}
+use Rattle.mk_build.specs.Building.{closed_field, is_free_field, is_free_start, is_made_name}
 use Rattle.mk_mail.proofs.BuiltLines.{AreClosed, AreSome, closed_joined, cut_ended, lines_joined, one_more, some_closed}
 use Rattle.mk_mail.proofs.FieldLines.{first_content, name_behind, name_first, name_in, start_behind, start_first}
 use Rattle.mk_mail.proofs.PartTypes.{both}
@@ -77,20 +77,15 @@ onto_blank byte (l ∷ ls) h = by_more ((is_lf l.ending && is_nil l.content) && 
 -- whether a line feed is the last byte
 abbrev pub ends_fed : List ℕ → Bool
 ends_fed [] = false
-ends_fed (byte ∷ []) = pointwise nat_eq (10 ∷ []) (byte ∷ [])
+ends_fed (byte ∷ []) = byte == 10
 ends_fed (byte ∷ next ∷ bytes) = ends_fed (next ∷ bytes)
 
-one_less : (n : ℕ) → suc n - 1 ≡ n
-one_less n = omega arith
-
-pub fed_is : (byte : ℕ) (bytes : List ℕ) → ends_with nat_eq (byte ∷ bytes) (codes "\n") ≡ ends_fed (byte ∷ bytes)
-fed_is byte [] = refl
-fed_is byte (next ∷ bytes) =
-    ap (λ n. pointwise nat_eq (10 ∷ []) (drop n (byte ∷ next ∷ bytes))) (one_less (suc (length bytes)))
-    ∙ (ap (λ n. pointwise nat_eq (10 ∷ []) (drop n (next ∷ bytes))) (sym (one_less (length bytes))) ∙ fed_is next bytes)
+open_unfed : (byte : ℕ) (bytes : List ℕ) → ends_open (byte ∷ bytes) ≡ not (ends_fed (byte ∷ bytes))
+open_unfed byte [] = refl
+open_unfed byte (next ∷ bytes) = open_unfed next bytes
 
 fed_feed : {A : Type 0} (byte : ℕ) → (byte == 10) ≡ true → ends_fed (byte ∷ []) ≡ false → A
-fed_feed byte e h = let same : byte ≡ 10 = eqb-true byte 10 e in let bad : true ≡ false = ap (λ b. pointwise nat_eq (10 ∷ []) (b ∷ [])) (sym same) ∙ h in absurd cc
+fed_feed byte e h = let bad : true ≡ false = sym e ∙ h in absurd cc
 
 fed_rest : (byte : ℕ) (bytes : List ℕ) → ends_fed (byte ∷ bytes) ≡ false → ends_fed bytes ≡ false
 fed_rest byte [] h = refl
@@ -134,11 +129,7 @@ closed_fed (byte ∷ []) h =
     ]
   where
     unfed : (byte : ℕ) → (byte == 10) ≡ false → ends_fed (byte ∷ []) ≡ true → ⊥
-    unfed byte n h =
-        let p = both (nat_eq 10 byte) true h in
-        let same : 10 ≡ byte = eqb-true 10 byte p.0 in
-        let bad : false ≡ true = sym n ∙ ap (λ b. b == 10) (sym same) in
-        cc
+    unfed byte n h = let bad : false ≡ true = sym n ∙ h in cc
 closed_fed (byte ∷ next ∷ bytes) h = one_more (byte == 10) byte (cut (next ∷ bytes)) (closed_fed (next ∷ bytes) h)
 
 -- the lines of a field that may stand in front
@@ -202,9 +193,13 @@ pub field_lines : (eol : Ending) (field : List ℕ) → is_open eol ≡ false �
 field_lines eol [] c h = absurd cc
 field_lines eol (byte ∷ bytes) c h =
     let p = both (is_one_field (cut (byte ∷ bytes))) (is_free_start (cut (byte ∷ bytes))) h in
-    elim (cases_Bool (ends_with nat_eq (byte ∷ bytes) (codes "\n"))) [
-      | inl fed ↦ rw fed (of_closed (byte ∷ bytes) (cut (byte ∷ bytes)) refl p.0 p.1 (sym (fed_is byte bytes) ∙ fed))
-      | inr unfed ↦ rw unfed (of_open eol (byte ∷ bytes) (cut (byte ∷ bytes)) c refl p.0 p.1 (sym (fed_is byte bytes) ∙ unfed))
+    elim (cases_Bool (ends_fed (byte ∷ bytes))) [
+      | inl fed ↦
+          let closed : ends_open (byte ∷ bytes) ≡ false = open_unfed byte bytes ∙ ap not fed in
+          rw closed (of_closed (byte ∷ bytes) (cut (byte ∷ bytes)) refl p.0 p.1 fed)
+      | inr unfed ↦
+          let opened : ends_open (byte ∷ bytes) ≡ true = open_unfed byte bytes ∙ ap not unfed in
+          rw opened (of_open eol (byte ∷ bytes) (cut (byte ∷ bytes)) c refl p.0 p.1 unfed)
     ]
 
 -- the lines of all fields

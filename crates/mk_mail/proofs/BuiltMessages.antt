@@ -16,7 +16,7 @@ use Rattle.mk_head.specs.Split.{Head, is_start}
 use Rattle.mk_head.specs.Splits.{IsRun}
 use Rattle.mk_head.specs.Types.{field_value, header_encoding, type_by}
 use Rattle.mk_head.specs.Unfolding.{or_nothing}
-use Rattle.mk_head.specs.Values.{behind}
+use Rattle.mk_line.specs.Parting.{behind}
 use Rattle.mk_tree.specs.Documents.{Document, document_of, levels, tree}
 use Rattle.mk_tree.specs.Kinds.{Multi, is_digest, kind, kind_of}
 use Rattle.mk_tree.specs.Locality.{BeginsPlain}
@@ -26,17 +26,17 @@ use Rattle.mk_tree.specs.Spans.{digest_below, size}
 use Rattle.mk_tree.specs.Tree.{Entity, multi, Parts, no_parts, part, print, print_parts}
 use Rattle.mk_tree.proofs.Stability.{read_parts}
 use Rattle.mk_tree.proofs.WellRead.{well_read}
-use Rattle.mk_edit.specs.Wrapping.{delimiter_line}
-use Rattle.mk_edit.specs.Wrapping.{type_line as multi_line}
-use Rattle.mk_edit.specs.Wrapping.{close_line as end_line}
-use Rattle.mk_edit.proofs.Bounds.{close_mark_is, delimiter_is, delimiter_mark}
-use Rattle.mk_edit.proofs.Typed.{MayBound, made_bound, made_kind, made_value, may_bound}
-use Rattle.mk_edit.proofs.Wraps.{close_is, type_is}
-use Rattle.mk_mail.specs.declared.building.BuildError.{BuildError}
-use Rattle.mk_mail.specs.declared.building.BuildError.TheVariants as build
-use Rattle.mk_mail.specs.Building.{Attached, attached, built, built_part, closed_field, first_failing, is_free_field, is_media, is_name_or_none, refusal_at}
+use Rattle.mk_line.specs.Marks.{delimiter_line}
+use Rattle.mk_head.specs.Types.{type_line as multi_line}
+use Rattle.mk_line.specs.Marks.{close_line as end_line}
+use Rattle.mk_decide.proofs.Bounds.{close_mark_is, delimiter_is, delimiter_mark}
+use Rattle.mk_decide.proofs.Typed.{MayBound, made_bound, made_kind, made_value, may_bound}
+use Rattle.mk_decide.proofs.Wraps.{close_is, type_is}
+use Rattle.mk_build.specs.declared.building.BuildError.{BuildError}
+use Rattle.mk_build.specs.declared.building.BuildError.TheVariants as build
+use Rattle.mk_build.specs.Building.{Attached, attached, built, built_part, closed_field, first_failing, is_free_field, is_media, is_name_or_none, refusal_at}
 use Rattle.mk_mail.specs.BuiltLaws.{AreBytes, HaveBytes, GivesBack, BuiltMessagesGiveBack}
-use Rattle.mk_mail.specs.Extracts.{IsContentOf, IsExtract}
+use Rattle.mk_view.specs.Extracts.{IsContentOf, IsExtract}
 use Rattle.mk_mail.proofs.BuiltFields.{AreFreeFields, field_lines, fields_are_lines, fields_closed, fields_lines, fields_text, run_fields, skip_fields}
 use Rattle.mk_mail.proofs.BuiltParts.{AreFull, empty_line, full_join, full_none, full_one, inner_line, part_content, part_entity, part_free, part_full, part_read, part_text}
 

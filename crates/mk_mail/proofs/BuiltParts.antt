@@ -11,7 +11,8 @@ use Rattle.mk_head.specs.declared.encodings.Encoding.TheVariants.{Base64, Qp}
 use Rattle.mk_head.specs.Splits.{IsRun}
 use Rattle.mk_head.specs.Types.{field_value, header_encoding, type_by}
 use Rattle.mk_head.specs.Unfolding.{or_nothing}
-use Rattle.mk_head.specs.Values.{behind, before, is_token, is_token_byte}
+use Rattle.mk_head.specs.Values.{is_token, is_token_byte}
+use Rattle.mk_line.specs.Parting.{before, behind}
 use Rattle.mk_code.specs.Contents.{IsContent}
 use Rattle.mk_code.specs.Base64Text.{base64_encoded}
 use Rattle.mk_code.specs.QuotedPrintable.{qp_encoded}
@@ -25,10 +26,10 @@ use Rattle.mk_tree.specs.Kinds.{Leaf, kind, kind_of}
 use Rattle.mk_tree.specs.Reading.{IsWellRead}
 use Rattle.mk_tree.specs.Tree.{Entity, leaf, print}
 use Rattle.mk_tree.proofs.Plugs.{unmarked_join}
-use Rattle.mk_edit.proofs.Bounds.{made_line}
-use Rattle.mk_mail.specs.Building.{Attached, attached, disposition_line, encoded, encoding_line, encoding_name, is_media, is_name, is_name_byte, is_name_or_none, is_single, is_subtype, longest, name_param}
+use Rattle.mk_decide.proofs.Bounds.{made_line}
+use Rattle.mk_build.specs.Building.{Attached, attached, disposition_line, encoded, encoding_line, encoding_name, is_media, is_name, is_name_byte, is_name_or_none, is_single, is_subtype, longest, name_param}
 use Rattle.mk_mail.specs.BuiltLaws.{AreBytes}
-use Rattle.mk_mail.specs.Extracts.{IsContentOf}
+use Rattle.mk_view.specs.Extracts.{IsContentOf}
 use Rattle.mk_mail.proofs.BuiltBodies.{AreFree, body_content, free_ended, free_unmarked, safe_free}
 use Rattle.mk_mail.proofs.BuiltLines.{AreClosed, closed_joined, cut_ended, lines_joined, some_closed}
 use Rattle.mk_mail.proofs.PartTypes.{both, differs, part_kind, parted}

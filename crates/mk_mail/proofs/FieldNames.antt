@@ -11,13 +11,13 @@ use Rattle.mk_head.specs.Splits.{IsRun}
 use Rattle.mk_tree.specs.Documents.{tree}
 use Rattle.mk_tree.specs.Sections.{head_text, root_of, section_fields}
 use Rattle.mk_tree.specs.Tree.{field_lines}
-use Rattle.mk_edit.proofs.FieldPlaces.{run_all}
-use Rattle.mk_edit.proofs.SectionSites.{head_cut, head_is_run, site}
+use Rattle.mk_decide.proofs.FieldPlaces.{run_all}
+use Rattle.mk_decide.proofs.SectionSites.{head_cut, head_is_run, site}
 use Rattle.mk_mail.specs.Letters.{Work, others, respelling, respelt, root_names, same_name, then_do, those, with_first}
-use Rattle.mk_edit.specs.Edits.{PlainEdit}
+use Rattle.mk_decide.specs.Edits.{PlainEdit}
 use Rattle.std.specs.Global.{Vec}
 use Rattle.mk_mail.specs.LetterWork.{texts_of}
-use Rattle.mk_mail.proofs.Intaking.{true_or_false}
+use Rattle.mk_mailbox.proofs.Intaking.{true_or_false}
 
 -- the fields of the root are those of the lines of its head
 pub root_fields : (text : List ℕ) → fields_of (fields_from false (cut (head_text (root_of (tree text))))) ≡ section_fields (root_of (tree text))

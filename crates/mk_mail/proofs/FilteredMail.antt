@@ -3,7 +3,7 @@ use Rattle.std.proofs.Common.{◌≡◌, ◌&&◌, ◌||◌, ◌++◌, ℕ, Bool
 use Rattle.std.specs.List.{list_any}
 use Rattle.std.proofs.lemmas.Bool.{cases_Bool}
 use Rattle.mk_line.specs.declared.cutting.Ending.{Ending}
-use Rattle.mk_line.specs.Kinds.{is_continuation, is_field_start, is_from_line}
+use Rattle.mk_line.specs.Kinds.{is_continuation, is_field_start, is_from_line, is_name}
 use Rattle.mk_line.specs.Lines.{TextLine, cut, eol_of, is_nil}
 use Rattle.mk_head.specs.Fields.{is_one_field}
 use Rattle.mk_head.specs.Split.{option_line}
@@ -15,19 +15,19 @@ use Rattle.mk_tree.specs.Tree.{Entity, leaf, message, multi, field_lines, with_f
 use Rattle.mk_tree.proofs.HeadChanged.{behind_fields, changed_lines, entity_lines}
 use Rattle.mk_tree.proofs.Kept.{lines_kept}
 use Rattle.mk_tree.proofs.OwnFields.{fields_are}
-use Rattle.mk_edit.specs.EditLaws.{IsJudged}
-use Rattle.mk_edit.specs.Edits.{PlainEdit, AddField, RemoveField, RenameField, SetField, SetBody, SetSection, InsertPart, RemovePart, Wrap, Refusal, BadField, BadName}
-use Rattle.mk_edit.specs.EditSplices.{splices_of}
-use Rattle.mk_edit.specs.FieldEdits.{field_at, is_name, renamed}
+use Rattle.mk_decide.specs.EditLaws.{IsJudged}
+use Rattle.mk_decide.specs.Edits.{PlainEdit, AddField, RemoveField, RenameField, SetField, SetBody, SetSection, InsertPart, RemovePart, Wrap, Refusal, BadField, BadName}
+use Rattle.mk_decide.specs.EditSplices.{splices_of}
+use Rattle.mk_decide.specs.FieldEdits.{field_at, renamed}
 use Rattle.mk_edit.specs.Groups.{Together, behind, made_on, together}
-use Rattle.mk_edit.specs.Outcomes.{edited, judged_by}
-use Rattle.mk_edit.specs.Plans.{Plan, add_plan, drop_plan, plan_at, plan_of, place_of, planned, rename_plan, unless, with_place}
-use Rattle.mk_edit.specs.Reasons.{added as with_added}
-use Rattle.mk_edit.specs.Splices.{Splice}
-use Rattle.mk_edit.proofs.Answered.{Holds, field_holds, unless_holds}
-use Rattle.mk_edit.proofs.GroupFacts.{groups_lead_lem}
-use Rattle.mk_edit.proofs.Late.{IsFair, fair, told}
-use Rattle.mk_edit.proofs.SectionSites.{head_cut, head_is_run, site}
+use Rattle.mk_decide.specs.Outcomes.{edited, judged_by}
+use Rattle.mk_decide.specs.Plans.{Plan, add_plan, drop_plan, plan_at, plan_of, place_of, planned, rename_plan, unless, with_place}
+use Rattle.mk_decide.specs.Reasons.{added as with_added}
+use Rattle.mk_splice.specs.Splices.{Splice}
+use Rattle.mk_decide.proofs.Answered.{Holds, field_holds, unless_holds}
+use Rattle.mk_edit.proofs.GroupFacts.{groups_read_back_lem}
+use Rattle.mk_decide.proofs.Late.{IsFair, fair, told}
+use Rattle.mk_decide.proofs.SectionSites.{head_cut, head_is_run, site}
 use Rattle.mk_mail.specs.Filtered.{FilteredStayApart, filtered, outcome, text_left}
 use Rattle.mk_mail.specs.Letters.{PlainLetters, Work, add_if_letter, added, added_full, edits_of, first_letter, is_bare, last_of, letter, made_old, name_in, next_number, old_name, only_letter, prefixed_letter, removed_all, rename_letter, renamed_all, respelling, respelt_all, root_names, root_path, same_name, those, untouched, worked}
 use Rattle.mk_mail.proofs.MailChains.{AreMessage, IsKept, IsWhole, begins_from, ends_empty, kept_apart}
@@ -287,7 +287,7 @@ fielded_kept text u a stable w =
     (λ h. ap begins_from new_lines ∙ envelope_begins (cut text) (a.fields ++ rest) h) w
 
 kept_by : (l : PlainLetters) (text : List ℕ) (r : Together) → outcome l text ≡ r → FieldedBy (tree text) r → IsWhole false (cut text) → IsKept (cut text) (cut (text_left text r))
-kept_by l text (Ok q) e a w = fielded_kept text q.0 a (groups_lead_lem (edits_of text l) text q.0 q.1 e).2 w
+kept_by l text (Ok q) e a w = fielded_kept text q.0 a (groups_read_back_lem (edits_of text l) text q.0 q.1 e) w
 kept_by l text (Err q) e a w = record { whole = w; ends = λ h. h; begins = λ h. h }
 
 kept : (l : PlainLetters) (text : List ℕ) → AreMessage (cut text) → IsKept (cut text) (cut (filtered l text))

@@ -1,6 +1,3 @@
-pub mod Depths
-pub mod Sections
-pub mod LeavesAt
 pub mod BuiltLines
 pub mod PartTypes
 pub mod BuiltBodies
@@ -8,20 +5,6 @@ pub mod FieldLines
 pub mod BuiltFields
 pub mod BuiltParts
 pub mod BuiltMessages
-pub mod Taken
-pub mod NamesKnown
-pub mod InTurn
-pub mod SafeNames
-pub mod Rows
-pub mod Joined
-pub mod Failing
-pub mod LineBytes
-pub mod MessageLines
-pub mod LinesGathered
-pub mod Intaking
-pub mod MailboxRuns
-pub mod PieceLaws
 pub mod FieldNames
 pub mod MailChains
 pub mod FilteredMail
-pub mod Gaps

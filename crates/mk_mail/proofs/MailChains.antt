@@ -9,9 +9,9 @@ use Rattle.mk_line.specs.Lines.{AreLines, IsLine, TextLine, cut, is_nil, text_li
 use Rattle.mk_line.proofs.Cuts.{cut_text, lines_cut, text_append, text_cut}
 use Rattle.mk_head.specs.Splits.{has_line}
 use Rattle.mk_mail.specs.Filtered.{is_left}
-use Rattle.mk_mail.specs.Pieces.{is_first, front, later, parted, mailbox_pieces}
+use Rattle.mk_mailbox.specs.Pieces.{is_first, front, later, parted, mailbox_pieces}
 use Rattle.mk_mail.proofs.FieldNames.{both_true}
-use Rattle.mk_mail.proofs.PieceLaws.{lines_front}
+use Rattle.mk_mailbox.proofs.PieceLaws.{lines_front}
 
 -- no line begins a message, where `e` says whether the line before the first is empty
 abbrev pub IsWhole : Bool → List TextLine → Type 0

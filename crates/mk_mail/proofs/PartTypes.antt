@@ -8,10 +8,11 @@ use Rattle.mk_line.specs.Lines.{is_nil}
 use Rattle.mk_line.specs.Marks.{trimmed_before, trimmed}
 use Rattle.mk_line.proofs.Cuts.{append_nil}
 use Rattle.mk_head.specs.declared.encodings.Encoding.{Encoding}
+use Rattle.mk_line.specs.Parting.{before, behind}
 use Rattle.mk_head.specs.Types.{type_by}
-use Rattle.mk_head.specs.Values.{Plain, Quoted, uncommented, push_first, pieces, before, behind, unled, stripped, lowered, parameters, is_token_byte, is_token, MediaType, media_type, typed_as, type_of_pieces, content_type_of}
+use Rattle.mk_head.specs.Values.{Plain, Quoted, uncommented, push_first, pieces, unled, stripped, lowered, parameters, is_token_byte, is_token, MediaType, media_type, typed_as, type_of_pieces, content_type_of}
 use Rattle.mk_tree.specs.Kinds.{Leaf, kind_of}
-use Rattle.mk_mail.specs.Building.{longest, is_single, is_subtype, is_media, is_name_byte, is_name_or_none, name_param}
+use Rattle.mk_build.specs.Building.{longest, is_single, is_subtype, is_media, is_name_byte, is_name_or_none, name_param}
 
 pub both : (a b : Bool) → (a && b) ≡ true → (a ≡ true) × (b ≡ true)
 both true b h = (refl, h)

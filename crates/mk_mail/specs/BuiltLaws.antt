@@ -7,8 +7,8 @@ use Rattle.mk_tree.specs.declared.shapes.Kind.TheVariants.{Multi}
 use Rattle.mk_tree.specs.Documents.{Document, tree}
 use Rattle.mk_tree.specs.Forms.{kind_in}
 use Rattle.mk_tree.specs.Sections.{Placed, children, section_at}
-use Rattle.mk_mail.specs.Building.{Attached, build_refusal, built}
-use Rattle.mk_mail.specs.Extracts.{IsExtract}
+use Rattle.mk_build.specs.Building.{Attached, build_refusal, built}
+use Rattle.mk_view.specs.Extracts.{IsExtract}
 
 -- all of them are bytes
 abbrev pub AreBytes : List ℕ → Type 0

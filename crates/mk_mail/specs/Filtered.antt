@@ -5,7 +5,7 @@ use Rattle.mk_line.specs.Lines.{is_nil}
 use Rattle.mk_tree.specs.Documents.{printed, tree}
 use Rattle.mk_edit.specs.Groups.{Together, together}
 use Rattle.mk_mail.specs.Letters.{PlainLetters, edits_of}
-use Rattle.mk_mail.specs.Pieces.{mailbox_pieces}
+use Rattle.mk_mailbox.specs.Pieces.{mailbox_pieces}
 
 -- what the edits of letters give of a message, made one after another
 abbrev pub outcome : PlainLetters → List ℕ → Together

@@ -1,9 +1,9 @@
 -- Names and edits in memory as plain data, for private contracts.
 use Rattle.std.specs.Prelude.{ℕ, List, map}
 use Rattle.std.specs.Global.{Vec}
-use Rattle.mk_edit.specs.declared.edits.Edit.{Edit}
-use Rattle.mk_edit.specs.Edits.{PlainEdit}
-use Rattle.mk_edit.specs.Views.{edit_of}
+use Rattle.mk_decide.specs.declared.edits.Edit.{Edit}
+use Rattle.mk_decide.specs.Edits.{PlainEdit}
+use Rattle.mk_decide.specs.Views.{edit_of}
 use Rattle.mk_mail.specs.declared.filtering.Filter.{Filter}
 use Rattle.mk_mail.specs.Letters.{Work}
 

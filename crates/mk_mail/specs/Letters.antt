@@ -6,12 +6,12 @@ use Rattle.mk_line.specs.declared.cutting.Ending.{Ending}
 use Rattle.mk_line.specs.Ascii.{colon, is_blank, is_name_byte}
 use Rattle.mk_line.specs.Lines.{cut, ending_bytes, eol_of}
 use Rattle.mk_head.specs.Fields.{is_one_field}
-use Rattle.mk_head.specs.Values.{behind}
+use Rattle.mk_line.specs.Parting.{behind}
 use Rattle.mk_tree.specs.Documents.{tree}
 use Rattle.mk_tree.specs.Sections.{root_of, section_fields}
-use Rattle.mk_edit.specs.Edits.{PlainEdit, AddField, RemoveField, RenameField}
-use Rattle.mk_edit.specs.FieldEdits.{is_name}
-use Rattle.mk_mail.specs.Building.{is_open_text}
+use Rattle.mk_decide.specs.Edits.{PlainEdit, AddField, RemoveField, RenameField}
+use Rattle.mk_line.specs.Kinds.{is_name}
+use Rattle.mk_line.specs.Lines.{ends_open}
 
 -- what is asked for; a name stands without its colon
 pub record PlainLetters : Type 0 where
@@ -36,7 +36,7 @@ pub record PlainLetters : Type 0 where
 
 -- exactly one field, whose last line has no ending
 abbrev pub is_given_field : List ℕ → Bool
-is_given_field text = is_one_field (cut text) && is_open_text text
+is_given_field text = is_one_field (cut text) && ends_open text
 
 -- only blanks stand behind the first colon; a line feed is none
 abbrev pub is_bare : List ℕ → Bool

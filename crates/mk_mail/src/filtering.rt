@@ -3,14 +3,13 @@ ghost use Rattle.std.specs.Prelude.{◌≡◌, ◌≤◌, ◌++◌, Some, false,
 ghost use Rattle.std.specs.List.{list_all, list_any, prefix_len};
 ghost use Rattle.mk_line.specs.Ascii.{is_blank as blank, is_name_byte as name_byte};
 ghost use Rattle.mk_line.specs.Lines.{ending_bytes};
-ghost use Rattle.mk_edit.specs.Edits.{AddField, RemoveField, RenameField};
-ghost use Rattle.mk_edit.specs.Views.{edit_of};
+ghost use Rattle.mk_decide.specs.Edits.{AddField, RemoveField, RenameField};
+ghost use Rattle.mk_decide.specs.Views.{edit_of};
 ghost use Rattle.mk_mail.specs.LetterWork.{plain_edits, texts_of, work_of};
 ghost use Rattle.mk_mail.specs.Letters.{add_if_letter, added as added_field, added_full, first_letter, is_bare as bare, last_of, made_old, name_in, old_name, only_letter, others, prefixed_letter, removed_all, rename_letter, renamed_all as all_renamed, replaced, respelling, respelt, root_names, root_path, same_name, then_do, those, untouched, with_first};
 ghost use Rattle.mk_mail.specs.LetterViews.{bytes_in};
 
 use memchr::memchr;
-use mk_code::bytes_of;
 use mk_edit::Edit;
 use mk_head::each_field;
 use mk_line::{Ending, is_blank};
@@ -298,7 +297,7 @@ fn addition(alloc: Global, field: &[u8], eol: Ending) -> Result<Edit, AllocError
     ensures { IfOk result (λ edit. edit_of edit ≡ AddField root_path false (field.now ++ ending_bytes eol)) }
 {
     let mut text = Vec::from_slice(alloc, field)?;
-    text.extend_from_slice(bytes_of(eol))?;
+    text.extend_from_slice(eol.bytes())?;
     Ok(Edit::AddField {
         path: root(alloc)?,
         top: false,
@@ -360,8 +359,8 @@ fn are_blank(bytes: &[u8]) -> bool
     true
 }
 
-/// Whether a byte may stand in a name (RFC 5322, 2.2).
-pub(crate) fn is_name_byte(byte: u8) -> bool
+// Whether a byte may stand in a name (RFC 5322, 2.2).
+fn is_name_byte(byte: u8) -> bool
     ensures { result ≡ name_byte byte }
 {
     byte >= FIRST_OF_NAME && byte <= LAST_OF_NAME && byte != COLON

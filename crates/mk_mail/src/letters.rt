@@ -1,23 +1,18 @@
 //! Letters: a filter of the fields of a message (own, after formail).
 ghost use Rattle.std.specs.Prelude.{◌≡◌, true, map, IfOk, OnOk};
-ghost use Rattle.std.specs.List.{list_all};
 ghost use Rattle.std.specs.Option.{option_map};
-ghost use Rattle.mk_line.specs.Ascii.{is_name_byte as name_byte};
-ghost use Rattle.mk_edit.specs.FieldEdits.{is_name as is_one_name};
-ghost use Rattle.mk_edit.specs.Views.{edit_of};
-ghost use Rattle.mk_mail.specs.Building.{is_open_text};
+ghost use Rattle.mk_line.specs.Kinds.{is_name as is_one_name};
+ghost use Rattle.mk_decide.specs.Views.{edit_of};
 ghost use Rattle.mk_mail.specs.LetterViews.{bytes_in, letters_of};
 ghost use Rattle.mk_mail.specs.LetterWork.{work_of};
 ghost use Rattle.mk_mail.specs.Letters.{add_if_letter, added, are_allowed, are_names, edits_of, edits_some as some_edits, first_letter, have_values as values_are_had, is_full_field as full_field, is_given_field as given_field, letter, only_letter, passes, prefixed_letter, rename_letter, stand_together as stand_so};
 
-use crate::filtering::{Filter, is_bare, is_name_byte};
+use crate::filtering::{Filter, is_bare};
 use mk_edit::Edit;
 use mk_head::one_field;
-use mk_line::{Ending, eol_of};
+use mk_line::{Ending, ends_open, eol_of, is_name};
 use mk_tree::Doc;
 use std::alloc::{AllocError, Global};
-
-const LINE_FEED: &[u8; 1] = b"\n";
 
 /// What a filter of fields is asked for, each letter at most once. A name stands without its colon, a field without the
 /// ending of its last line. They work in this order, each on the fields that those before it left.
@@ -60,10 +55,10 @@ impl Letters {
             && is_full_field(&self.add)
             && is_given_field(&self.prefixed)
             && is_given_field(&self.only)
-            && is_name(&self.first)
-            && is_name(&self.last)
-            && is_name(&self.take)
-            && is_name(&self.whole)
+            && is_given_name(&self.first)
+            && is_given_name(&self.last)
+            && is_given_name(&self.take)
+            && is_given_name(&self.whole)
     }
 
     // Whether no letter that gives fields stands beside another.
@@ -163,7 +158,7 @@ fn may_rename(names: &Option<(Vec<u8>, Vec<u8>)>) -> bool
     ensures { result ≡ passes are_names (option_map (λ p. (p.0.items, p.1.items)) names.now) }
 {
     match names {
-        Some((old, new)) => are_name(old) && are_name(new),
+        Some((old, new)) => is_name(old) && is_name(new),
         None => true,
     }
 }
@@ -186,11 +181,11 @@ fn is_given_field(field: &Option<Vec<u8>>) -> bool
     }
 }
 
-fn is_name(name: &Option<Vec<u8>>) -> bool
+fn is_given_name(name: &Option<Vec<u8>>) -> bool
     ensures { result ≡ passes is_one_name (bytes_in name.now) }
 {
     match name {
-        Some(name) => are_name(name),
+        Some(name) => is_name(name),
         None => true,
     }
 }
@@ -199,30 +194,5 @@ fn is_name(name: &Option<Vec<u8>>) -> bool
 fn is_given(text: &[u8]) -> bool
     ensures { result ≡ given_field text.now }
 {
-    one_field(text) && is_open(text)
-}
-
-// Whether the last line of a text has no ending.
-fn is_open(text: &[u8]) -> bool
-    ensures { result ≡ is_open_text text.now }
-{
-    !text.is_empty() && !text.ends_with(LINE_FEED)
-}
-
-// Whether the bytes are a name (RFC 5322, 2.2).
-fn are_name(bytes: &[u8]) -> bool
-    ensures { result ≡ is_one_name bytes.now }
-{
-    !bytes.is_empty() && are_name_bytes(bytes)
-}
-
-fn are_name_bytes(bytes: &[u8]) -> bool
-    ensures { result ≡ list_all name_byte bytes.now }
-{
-    for byte in bytes {
-        if !is_name_byte(*byte) {
-            return false;
-        }
-    }
-    true
+    one_field(text) && ends_open(text)
 }

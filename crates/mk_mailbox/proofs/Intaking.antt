@@ -5,13 +5,13 @@ use Rattle.std.proofs.lemmas.List.{drop-drop, drop-take}
 use Rattle.std.proofs.KnownBytes.{Consumes-trans}
 use Rattle.std.specs.Io.KnownBytes.{Consumes}
 use Rattle.mk_line.specs.Lines.{cut}
-use Rattle.mk_mail.specs.Gathered.{IsLastSplit, IsSplit, later_of}
+use Rattle.mk_mailbox.specs.Gathered.{IsLastSplit, IsSplit, later_of}
 use Rattle.mk_line.specs.Meters.{ticked}
-use Rattle.mk_mail.specs.Devices.{IsFull}
-use Rattle.mk_mail.specs.Held.{Held, unread}
-use Rattle.mk_mail.specs.Mailboxes.{FitsReads, IsNextPiece, IsOpenInFront, chunk_bytes}
-use Rattle.mk_mail.specs.Pieces.{mailbox_pieces}
-use Rattle.mk_mail.proofs.MessageLines.{pieces_of}
+use Rattle.mk_mailbox.specs.Devices.{IsFull}
+use Rattle.mk_mailbox.specs.Held.{Held, unread}
+use Rattle.mk_mailbox.specs.Mailboxes.{FitsReads, IsNextPiece, IsOpenInFront, chunk_bytes}
+use Rattle.mk_mailbox.specs.Pieces.{mailbox_pieces}
+use Rattle.mk_mailbox.proofs.MessageLines.{pieces_of}
 
 longer : (piece new old : List ℕ) → old ≡ piece ++ new → 0 < length piece → 0 < length old
 longer piece new old p s = let e : length old ≡ length (piece ++ new) = ap length p in omega (arith, e, s, length-append piece new)

@@ -7,11 +7,11 @@ use Rattle.mk_line.specs.declared.cutting.Ending.TheVariants.{Missing}
 use Rattle.mk_line.specs.Kinds.{is_from_line}
 use Rattle.mk_line.specs.Lines.{cut, has_line_feed, is_nil, text_line, text_of}
 use Rattle.mk_line.proofs.Cuts.{cut_whole}
-use Rattle.mk_mail.specs.Gathered.{IsGathered, IsLastSplit, IsOneLine, IsOnePiece, IsSplit, IsWholeLine, front_of, later_of}
-use Rattle.mk_mail.specs.Mailboxes.{IsOpenInFront}
-use Rattle.mk_mail.specs.Pieces.{is_first, front, later, parted, mailbox_pieces}
-use Rattle.mk_mail.proofs.LineBytes.{one_line_on}
-use Rattle.mk_mail.proofs.MessageLines.{front_first, front_line, later_first, later_line, whole_closed, whole_some}
+use Rattle.mk_mailbox.specs.Gathered.{IsGathered, IsLastSplit, IsOneLine, IsOnePiece, IsSplit, IsWholeLine, front_of, later_of}
+use Rattle.mk_mailbox.specs.Mailboxes.{IsOpenInFront}
+use Rattle.mk_mailbox.specs.Pieces.{is_first, front, later, parted, mailbox_pieces}
+use Rattle.mk_mailbox.proofs.LineBytes.{one_line_on}
+use Rattle.mk_mailbox.proofs.MessageLines.{front_first, front_line, later_first, later_line, whole_closed, whole_some}
 
 -- more of the last line
 pub grown : (bytes more : List ℕ) (line : ℕ) (e : Bool) → IsGathered bytes line e → has_line_feed (drop line bytes) ≡ false → IsOneLine more → IsGathered (bytes ++ more) line e

@@ -1,9 +1,9 @@
 -- Many calls of a mailbox.
 use Rattle.std.proofs.Common.{◌≡◌, ◌++◌, ℕ, true, List, [], ◌∷◌, refl, ap, sym, ◌∙◌, append-nil, append_assoc}
-use Rattle.mk_mail.specs.Held.{Held}
-use Rattle.mk_mail.specs.MailboxLaws.{AreCalls, Call, IsReply, Reply, message, none, error, given_by, message_of, read_by, unread_mailbox}
-use Rattle.mk_mail.specs.Mailboxes.{IsOver}
-use Rattle.mk_mail.specs.Pieces.{mailbox_pieces}
+use Rattle.mk_mailbox.specs.Held.{Held}
+use Rattle.mk_mailbox.specs.MailboxLaws.{AreCalls, Call, IsReply, Reply, message, none, error, given_by, message_of, read_by, unread_mailbox}
+use Rattle.mk_mailbox.specs.Mailboxes.{IsOver}
+use Rattle.mk_mailbox.specs.Pieces.{mailbox_pieces}
 
 -- once the input has ended nothing is read
 over_reads : (calls : List Call) (old new : Held) → AreCalls old calls new → old.ended ≡ true → (read_by calls ≡ []) × (new.ended ≡ true)

@@ -6,8 +6,8 @@ use Rattle.mk_line.specs.declared.cutting.Ending.{Ending}
 use Rattle.mk_line.specs.declared.cutting.Ending.TheVariants.{Crlf, Lf, Missing}
 use Rattle.mk_line.specs.Lines.{AreLines, IsLine, TextLine, cut, is_nil, printed_line, text_line, text_of}
 use Rattle.mk_line.proofs.Cuts.{cut_text, lines_cut, text_cut}
-use Rattle.mk_mail.specs.MailboxLaws.{AreOnes, AreSome}
-use Rattle.mk_mail.specs.Pieces.{is_first, front, later, parted, mailbox_pieces}
+use Rattle.mk_mailbox.specs.MailboxLaws.{AreOnes, AreSome}
+use Rattle.mk_mailbox.specs.Pieces.{is_first, front, later, parted, mailbox_pieces}
 
 abbrev joined : List (List TextLine) → List ℕ
 joined ps = flat_map (λ p. p) (map text_of ps)

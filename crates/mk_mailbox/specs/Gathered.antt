@@ -2,8 +2,8 @@
 use Rattle.std.specs.Prelude.{◌≡◌, ◌<◌, ◌≤◌, ◌++◌, ◌⊎◌, ℕ, Bool, true, false, List, [], ◌∷◌, map, length, take, drop}
 use Rattle.mk_line.specs.Ascii.{line_feed}
 use Rattle.mk_line.specs.Lines.{cut, ended, has_line_feed, text_of}
-use Rattle.mk_mail.specs.Mailboxes.{IsOpenInFront, chunk_bytes}
-use Rattle.mk_mail.specs.Pieces.{front, later, mailbox_pieces}
+use Rattle.mk_mailbox.specs.Mailboxes.{IsOpenInFront, chunk_bytes}
+use Rattle.mk_mailbox.specs.Pieces.{front, later, mailbox_pieces}
 
 -- the bytes of a text that still belong to a message, and the messages behind them
 abbrev pub front_of : Bool → List ℕ → List ℕ

@@ -1,8 +1,8 @@
 -- What reads a mailbox in chunks, as what it holds; for private contracts.
 use Rattle.std.specs.Prelude.{◌++◌, ℕ, List}
-use Rattle.mk_mail.specs.declared.intake.Intake.{Intake}
-use Rattle.mk_mail.specs.Gathered.{IsChunk, IsGathered}
-use Rattle.mk_mail.specs.Held.{Held, unread}
+use Rattle.mk_mailbox.specs.declared.intake.Intake.{Intake}
+use Rattle.mk_mailbox.specs.Gathered.{IsChunk, IsGathered}
+use Rattle.mk_mailbox.specs.Held.{Held, unread}
 
 -- the bytes that were read and not given yet: the lines gathered, and those in the chunk
 abbrev pub kept_by : Intake → List ℕ

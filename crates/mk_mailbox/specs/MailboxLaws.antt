@@ -1,9 +1,9 @@
 -- Laws of mailboxes, over the definitions alone.
 use Rattle.std.specs.Prelude.{◌≡◌, ◌<◌, ◌++◌, ℕ, true, false, List, [], ◌∷◌, length}
 use Rattle.std.specs.List.{flat_map}
-use Rattle.mk_mail.specs.Held.{Held}
-use Rattle.mk_mail.specs.Mailboxes.{IsNextPiece, IsOver}
-use Rattle.mk_mail.specs.Pieces.{mailbox_pieces}
+use Rattle.mk_mailbox.specs.Held.{Held}
+use Rattle.mk_mailbox.specs.Mailboxes.{IsNextPiece, IsOver}
+use Rattle.mk_mailbox.specs.Pieces.{mailbox_pieces}
 
 -- what a call answers: a message, that there is none, or an error
 pub data Reply : Type 0 where

@@ -1,9 +1,9 @@
 -- What the calls of a mailbox answer (own).
 use Rattle.std.specs.Prelude.{◌≡◌, ◌<◌, ◌≤◌, ◌+◌, ◌*◌, ◌++◌, ◌⊎◌, ℕ, true, List, [], ◌∷◌, Option, None, Some, length, slice_get}
 use Rattle.mk_line.specs.Lines.{TextLine, cut, is_open}
-use Rattle.mk_mail.specs.Devices.{IsFull}
-use Rattle.mk_mail.specs.Held.{Held}
-use Rattle.mk_mail.specs.Pieces.{mailbox_pieces}
+use Rattle.mk_mailbox.specs.Devices.{IsFull}
+use Rattle.mk_mailbox.specs.Held.{Held}
+use Rattle.mk_mailbox.specs.Pieces.{mailbox_pieces}
 
 -- the first line has no ending
 abbrev pub IsOpenInFront : List TextLine → Type 0

@@ -5,6 +5,12 @@ ghost use Rattle.mk_line.specs.Meters.{ticked};
 use std::error::Error;
 use std::fmt;
 
+/// The most reads that one call makes. A source that still gives bytes then is given up.
+pub const MOST_READS: u32 = 2_147_483_647;
+
+/// How many bytes are asked for in one read.
+pub const CHUNK_BYTES: usize = 65_536;
+
 /// What a device answers that failed to read or to write. It says nothing more.
 #[derive(Clone, Copy, Debug, PartialEq, Eq)]
 pub struct Fault;

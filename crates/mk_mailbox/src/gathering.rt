@@ -2,8 +2,8 @@
 ghost use Rattle.std.specs.Prelude.{◌≡◌, ◌≢◌, ◌++◌, [], ◌∷◌, ℕ, List, false, length, drop, take, IfOk, IfNone, MatchOption, OnErr, OnOk};
 ghost use Rattle.mk_line.specs.Ascii.{carriage_return};
 ghost use Rattle.mk_line.specs.Lines.{ended, has_line_feed};
-ghost use Rattle.mk_mail.specs.Gathered.{IsGathered, IsLastSplit, IsOneLine, IsSplit, IsWholeLine};
-ghost use Rattle.mk_mail.specs.Pieces.{is_first};
+ghost use Rattle.mk_mailbox.specs.Gathered.{IsGathered, IsLastSplit, IsOneLine, IsSplit, IsWholeLine};
+ghost use Rattle.mk_mailbox.specs.Pieces.{is_first};
 
 use mk_line::is_from_line;
 use std::alloc::{AllocError, Global};

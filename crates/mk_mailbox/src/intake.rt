@@ -5,23 +5,17 @@ ghost use Rattle.std.specs.Option.{option_map};
 ghost use Rattle.mk_line.specs.Ascii.{line_feed};
 ghost use Rattle.mk_line.specs.Lines.{has_line_feed};
 ghost use Rattle.mk_line.specs.Meters.{ticked};
-ghost use Rattle.mk_mail.specs.Devices.{IsLong, Rose};
-ghost use Rattle.mk_mail.specs.Gathered.{IsChunk, IsGathered, IsLastSplit, IsOneLine, IsSplit};
-ghost use Rattle.mk_mail.specs.Held.{unread};
-ghost use Rattle.mk_mail.specs.Intakes.{IsIntake, held_of, kept_by};
-ghost use Rattle.mk_mail.specs.Mailboxes.{Answers, FitsReads, chunk_bytes};
+ghost use Rattle.mk_mailbox.specs.Devices.{IsLong, Rose};
+ghost use Rattle.mk_mailbox.specs.Gathered.{IsChunk, IsGathered, IsLastSplit, IsOneLine, IsSplit};
+ghost use Rattle.mk_mailbox.specs.Held.{unread};
+ghost use Rattle.mk_mailbox.specs.Intakes.{IsIntake, held_of, kept_by};
+ghost use Rattle.mk_mailbox.specs.Mailboxes.{Answers, FitsReads, chunk_bytes};
 
-use crate::device::{Fault, Source};
+use crate::device::{CHUNK_BYTES, Fault, MOST_READS, Source};
 use crate::gathering::Gathered;
 use crate::mailbox::MailFault;
 use memchr::memchr;
 use std::alloc::{AllocError, Global};
-
-/// The most reads that are made for one message. A source that still gives bytes then is given up.
-const MAX_READS: u32 = 2_147_483_647;
-
-/// How many bytes are asked for in one read.
-const CHUNK_BYTES: usize = 65_536;
 
 const LINE_FEED: u8 = b'\n';
 
@@ -68,7 +62,7 @@ impl Intake {
         ensures well { OnOk result (S.failures r.new ≡ S.failures r.old) }
         ensures memory { IfErr result (λ e. e ≡ MailFault.Memory → S.failures r.new ≡ S.failures r.old) }
     {
-        for _read in 0..MAX_READS {
+        for _read in 0..MOST_READS {
             match self.take_lines() {
                 Ok(Some(piece)) => return Ok(Some(piece)),
                 Ok(None) => {}

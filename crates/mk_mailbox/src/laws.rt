@@ -1,5 +1,5 @@
 //! Laws of mailboxes, over the definitions alone: each a function with an empty body whose clause is the law.
-ghost use Rattle.mk_mail.specs.MailboxLaws.{CallsGiveMessages, EndsAreWhole, EndsStay, PiecesAreAll, PiecesAreSome, PiecesAreUncut};
+ghost use Rattle.mk_mailbox.specs.MailboxLaws.{CallsGiveMessages, EndsAreWhole, EndsStay, PiecesAreAll, PiecesAreSome, PiecesAreUncut};
 
 /// Whatever calls of `Mailbox::next` were made, in whatever pieces the input was read and whichever calls failed: the
 /// messages given so far, and then those of what is kept, are those of all that was read.

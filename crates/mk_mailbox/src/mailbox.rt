@@ -2,8 +2,8 @@
 ghost use Rattle.std.specs.Prelude.{◌≡◌, ◌≤◌, ◌++◌, ◌⊎◌, [], ℕ, List, true, false, length, IfErr, MatchResult, OnOk};
 ghost use Rattle.std.specs.Io.KnownBytes.{Consumes, IsAtEnd};
 ghost use Rattle.std.specs.Option.{option_map};
-ghost use Rattle.mk_mail.specs.Devices.{IsLong, Rose};
-ghost use Rattle.mk_mail.specs.Mailboxes.{Answers, FitsReads};
+ghost use Rattle.mk_mailbox.specs.Devices.{IsLong, Rose};
+ghost use Rattle.mk_mailbox.specs.Mailboxes.{Answers, FitsReads};
 
 use crate::device::Source;
 use crate::intake::Intake;
@@ -30,11 +30,11 @@ pub struct Mailbox {
 }
 
 impl Model for Mailbox {
-    ghost use Rattle.mk_mail.specs.Held.{Held};
+    ghost use Rattle.mk_mailbox.specs.Held.{Held};
 
     ghost Value = { Held };
 
-    ghost use Rattle.mk_mail.specs.Intakes.{IsIntake, held_of};
+    ghost use Rattle.mk_mailbox.specs.Intakes.{IsIntake, held_of};
 
     ghost view = { λ m. held_of m.intake };
 

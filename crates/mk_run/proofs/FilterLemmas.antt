@@ -4,10 +4,11 @@ use Rattle.std.proofs.KnownBytes.{Appends-nil, Appends-trans}
 use Rattle.std.specs.Io.KnownBytes.{Appends}
 use Rattle.std.specs.List.{flat_map}
 use Rattle.mk_line.specs.Lines.{cut, is_nil}
-use Rattle.mk_edit.specs.declared.errors.EditError.{EditError}
-use Rattle.mk_edit.specs.Answers.{IsGroupRefusedBy, is_unnamed, refusal_of}
+use Rattle.mk_decide.specs.declared.errors.EditError.{EditError}
+use Rattle.mk_decide.specs.Answers.{is_unnamed, refusal_of}
+use Rattle.mk_edit.specs.Answers.{IsGroupRefusedBy}
 use Rattle.mk_edit.specs.declared.errors.GroupError.TheVariants.{Member as MemberIn}
-use Rattle.mk_edit.specs.Edits.{Refusal, Group, Member, NothingToUndo, PlainEdit}
+use Rattle.mk_decide.specs.Edits.{Refusal, Group, Member, NothingToUndo, PlainEdit}
 use Rattle.mk_edit.specs.Groups.{Together}
 use Rattle.mk_edit.specs.Histories.{grouped_by, started, step, text_now, with_step}
 use Rattle.mk_edit.specs.History.{History}
@@ -15,25 +16,25 @@ use Rattle.mk_head.specs.Fields.{FieldText, fields_of, is_named}
 use Rattle.mk_head.specs.Split.{fields_from}
 use Rattle.mk_tree.specs.Documents.{printed, tree}
 use Rattle.mk_tree.specs.Sections.{head_text, root_of, section_fields}
-use Rattle.mk_mail.specs.Devices.{AppendsFront, IsFull, IsLong, Rose}
+use Rattle.mk_mailbox.specs.Devices.{AppendsFront, IsFull, IsLong, Rose}
 use Rattle.mk_mail.specs.Filtered.{outcome, text_left}
-use Rattle.mk_mail.specs.Held.{Held as Kept}
+use Rattle.mk_mailbox.specs.Held.{Held as Kept}
 use Rattle.mk_mail.specs.Letters.{PlainLetters, edits_of}
-use Rattle.mk_mail.specs.Mailboxes.{FitsReads, IsNextPiece, IsOver, chunk_bytes}
-use Rattle.mk_mail.specs.Pieces.{mailbox_pieces}
+use Rattle.mk_mailbox.specs.Mailboxes.{FitsReads, IsNextPiece, IsOver, chunk_bytes}
+use Rattle.mk_mailbox.specs.Pieces.{mailbox_pieces}
 use Rattle.mk_mail.proofs.FieldNames.{root_fields}
-use Rattle.mk_tool.specs.declared.status.Status.TheVariants.{Well, Refused}
-use Rattle.mk_tool.specs.declared.status.Cause.{Cause}
-use Rattle.mk_tool.specs.declared.status.Cause.TheVariants.{Read, Write, Memory}
-use Rattle.mk_tool.specs.declared.transfer.Stop.{Stop}
-use Rattle.mk_tool.specs.declared.transfer.Stop.TheVariants.{Fault as Stopped, Memory as Wanting}
-use Rattle.mk_tool.specs.FilterClauses.{Filters, IsBroken, IsEdited, IsFiltered, IsReason, SaysAll, SaysSome}
-use Rattle.mk_tool.specs.Filtering.{given_by, message_line, report_of, said_from, said_of, said_of_edits, said_or}
-use Rattle.mk_tool.specs.RunClauses.{Held, IsSent, IsStopped, cause_line, cause_of_writing, held, status_of}
-use Rattle.mk_tool.specs.Shown.{shown}
-use Rattle.mk_tool.specs.Unpacking.{Said, said_behind, silence}
-use Rattle.mk_tool.proofs.Fronts.{AppendsFront-behind, not-is_nil-append}
-use Rattle.mk_tool.proofs.RunLemmas.{AppendsFront-none}
+use Rattle.mk_run.specs.declared.status.Status.TheVariants.{Well, Refused}
+use Rattle.mk_run.specs.declared.status.Cause.{Cause}
+use Rattle.mk_run.specs.declared.status.Cause.TheVariants.{Read, Write, Memory}
+use Rattle.mk_run.specs.declared.transfer.Stop.{Stop}
+use Rattle.mk_run.specs.declared.transfer.Stop.TheVariants.{Fault as Stopped, Memory as Wanting}
+use Rattle.mk_run.specs.FilterClauses.{Filters, IsBroken, IsEdited, IsFiltered, IsReason, SaysAll, SaysSome}
+use Rattle.mk_run.specs.Filtering.{given_by, message_line, report_of, said_from, said_of, said_of_edits, said_or}
+use Rattle.mk_run.specs.RunClauses.{Held, IsSent, IsStopped, cause_line, cause_of_writing, held, status_of}
+use Rattle.mk_run.specs.Shown.{shown}
+use Rattle.mk_run.specs.Unpacking.{Said, said_behind, silence}
+use Rattle.mk_run.proofs.Fronts.{AppendsFront-behind, not-is_nil-append}
+use Rattle.mk_run.proofs.RunLemmas.{AppendsFront-none}
 
 -- ---- what is said of messages, one behind another
 

@@ -3,7 +3,7 @@ use Rattle.std.proofs.Common.{◌≡◌, ◌≤◌, ℕ, not, ◌||◌, List, []
 use Rattle.std.specs.Io.KnownBytes.{Appends}
 use Rattle.std.proofs.KnownBytes.{Appends-trans}
 use Rattle.mk_line.specs.Lines.{is_nil}
-use Rattle.mk_mail.specs.Devices.{AppendsFront, Rose}
+use Rattle.mk_mailbox.specs.Devices.{AppendsFront, Rose}
 
 -- a front of further bytes, behind bytes that went out
 pub AppendsFront-behind : (a b c : Option (List ℕ)) (front bytes more all : List ℕ) → Appends a b front → AppendsFront b c bytes

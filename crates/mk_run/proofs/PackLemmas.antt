@@ -8,15 +8,15 @@ use Rattle.mk_line.proofs.Cuts.{lines_behind, lines_cut}
 use Rattle.mk_head.specs.Split.{behind_head, head_lines, head_of}
 use Rattle.mk_head.specs.Fields.{HeaderView, header_view}
 use Rattle.mk_head.proofs.Splits.{head_body}
-use Rattle.mk_edit.proofs.OpenPlaces.{more_lines}
-use Rattle.mk_tool.specs.Paths.{parted, pieces_of}
-use Rattle.mk_tool.specs.Parts.{last_of}
-use Rattle.mk_mail.specs.declared.building.BuildError.TheVariants as refused
-use Rattle.mk_mail.specs.Building.{Attached, build_refusal, built, first_failing, is_free_field}
-use Rattle.mk_tool.specs.Packing.{fields_given, fields_in_front, has_body, packed, told}
-use Rattle.mk_tool.specs.Shown.{shown}
-use Rattle.mk_tool.proofs.PathLemmas.{pieces_of-parted, pieces_of-whole}
-use Rattle.mk_tool.proofs.PieceLemmas.{HasFirst, pieces_of-some}
+use Rattle.mk_decide.proofs.OpenPlaces.{more_lines}
+use Rattle.mk_script.specs.Paths.{parted, pieces_of}
+use Rattle.mk_run.specs.Parts.{last_of}
+use Rattle.mk_build.specs.declared.building.BuildError.TheVariants as refused
+use Rattle.mk_build.specs.Building.{Attached, build_refusal, built, first_failing, is_free_field}
+use Rattle.mk_run.specs.Packing.{fields_given, fields_in_front, has_body, packed, told}
+use Rattle.mk_run.specs.Shown.{shown}
+use Rattle.mk_script.proofs.PathLemmas.{pieces_of-parted, pieces_of-whole}
+use Rattle.mk_script.proofs.PieceLemmas.{HasFirst, pieces_of-some}
 
 last_more : (piece : List ℕ) (pieces : List (List ℕ)) → HasFirst pieces → last_of (piece ∷ pieces) ≡ last_of pieces
 last_more piece [] h = absurd h

@@ -4,15 +4,15 @@ use Rattle.std.proofs.lemmas.Bool.{ltb-true}
 use Rattle.std.proofs.lemmas.List.{append-nil}
 use Rattle.mk_line.specs.Ascii.{line_feed}
 use Rattle.mk_line.specs.Lines.{is_nil}
-use Rattle.mk_edit.specs.declared.errors.EditError.{EditError}
-use Rattle.mk_edit.specs.declared.errors.EditError.TheVariants as error
-use Rattle.mk_edit.specs.Edits.{Refusal, Order, PlainEdit, path_of}
-use Rattle.mk_edit.specs.Answers.{refusal_of, is_unnamed}
+use Rattle.mk_decide.specs.declared.errors.EditError.{EditError}
+use Rattle.mk_decide.specs.declared.errors.EditError.TheVariants as error
+use Rattle.mk_decide.specs.Edits.{Refusal, Order, PlainEdit, path_of}
+use Rattle.mk_decide.specs.Answers.{refusal_of, is_unnamed}
 use Rattle.mk_edit.specs.History.{History}
 use Rattle.mk_edit.specs.Histories.{text_now, step}
-use Rattle.mk_tool.specs.Reports.{reason_name, behind_name, error_line}
-use Rattle.mk_tool.specs.ScriptSteps.{ScriptStep}
-use Rattle.mk_tool.specs.Runs.{ordered_by, numbers_of, path_at, line_at, refusal_line, report_of, reported, IsReportedAt}
+use Rattle.mk_run.specs.Reports.{reason_name, behind_name, error_line}
+use Rattle.mk_script.specs.ScriptSteps.{ScriptStep}
+use Rattle.mk_run.specs.Runs.{ordered_by, numbers_of, path_at, line_at, refusal_line, report_of, reported, IsReportedAt}
 
 -- behind the name of any other reason stands nothing
 pub behind_name-none : (e : EditError) (path bytes : List ℕ) → ((level : ℕ) → e ≡ error.HoldsBoundary level → ⊥)

@@ -7,16 +7,16 @@ use Rattle.std.proofs.KnownBytes.{Appends-nil}
 use Rattle.mk_line.specs.Lines.{is_nil}
 use Rattle.mk_edit.specs.History.{History}
 use Rattle.mk_edit.specs.Histories.{text_now, started}
-use Rattle.mk_mail.specs.Devices.{AppendsFront}
-use Rattle.mk_tool.specs.declared.status.Status.{Status}
-use Rattle.mk_tool.specs.declared.status.Status.TheVariants.{Well, Refused}
-use Rattle.mk_tool.specs.declared.status.Cause.{Cause}
-use Rattle.mk_tool.specs.declared.status.Cause.TheVariants.{Read, Write, Memory}
-use Rattle.mk_tool.specs.declared.transfer.Stop.{Stop}
-use Rattle.mk_tool.specs.declared.transfer.Stop.TheVariants.{Fault as Stopped, Memory as Wanting}
-use Rattle.mk_tool.specs.ScriptSteps.{ScriptStep}
-use Rattle.mk_tool.specs.Runs.{Run, run_steps, history_after, errors_of}
-use Rattle.mk_tool.specs.RunClauses.{Held, Leaves, WritesFronts, cause_line, cause_of_writing, status_of}
+use Rattle.mk_mailbox.specs.Devices.{AppendsFront}
+use Rattle.mk_run.specs.declared.status.Status.{Status}
+use Rattle.mk_run.specs.declared.status.Status.TheVariants.{Well, Refused}
+use Rattle.mk_run.specs.declared.status.Cause.{Cause}
+use Rattle.mk_run.specs.declared.status.Cause.TheVariants.{Read, Write, Memory}
+use Rattle.mk_run.specs.declared.transfer.Stop.{Stop}
+use Rattle.mk_run.specs.declared.transfer.Stop.TheVariants.{Fault as Stopped, Memory as Wanting}
+use Rattle.mk_script.specs.ScriptSteps.{ScriptStep}
+use Rattle.mk_run.specs.Runs.{Run, run_steps, history_after, errors_of}
+use Rattle.mk_run.specs.RunClauses.{Held, Leaves, WritesFronts, cause_line, cause_of_writing, status_of}
 
 -- where nothing went out, a front did
 pub AppendsFront-none : (known : Option (List ℕ)) (bytes : List ℕ) → AppendsFront known known bytes

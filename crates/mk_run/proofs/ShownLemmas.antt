@@ -1,12 +1,12 @@
 -- What is written of an answer is what a run leaves.
 use Rattle.std.proofs.Common.{List, ℕ, Option, refl, inr}
 use Rattle.std.specs.Io.KnownBytes.{IsAtEnd}
-use Rattle.mk_tool.specs.declared.status.Status.{Status}
-use Rattle.mk_tool.specs.declared.status.Status.TheVariants.{Well, Refused, Usage, Fault, Memory}
-use Rattle.mk_tool.specs.declared.status.Cause.TheVariants.{Write}
-use Rattle.mk_tool.specs.Runs.{Run}
-use Rattle.mk_tool.specs.RunClauses.{held}
-use Rattle.mk_tool.specs.Shown.{Shows, Writes}
+use Rattle.mk_run.specs.declared.status.Status.{Status}
+use Rattle.mk_run.specs.declared.status.Status.TheVariants.{Well, Refused, Usage, Fault, Memory}
+use Rattle.mk_run.specs.declared.status.Cause.TheVariants.{Write}
+use Rattle.mk_run.specs.Runs.{Run}
+use Rattle.mk_run.specs.RunClauses.{held}
+use Rattle.mk_run.specs.Shown.{Shows, Writes}
 
 pub Shows-written : (R : Run → Type 0) (run : Run) (status : Status) (input input_after out out_after err err_after : Option (List ℕ)) → R run → IsAtEnd input_after → Writes status run out out_after err err_after
     → Shows R status (held input out err) (held input_after out_after err_after)

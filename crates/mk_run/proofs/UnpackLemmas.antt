@@ -6,24 +6,24 @@ use Rattle.std.proofs.KnownBytes.{Appends-trans}
 use Rattle.mk_line.specs.Lines.{is_nil}
 use Rattle.mk_tree.specs.Documents.{Document}
 use Rattle.mk_tree.specs.Sections.{section_at}
-use Rattle.mk_mail.specs.declared.extracting.ExtractError.{ExtractError}
-use Rattle.mk_mail.specs.Extracts.{IsExtract, IsExtractRefused}
-use Rattle.mk_mail.specs.Devices.{AppendsFront}
-use Rattle.mk_mail.specs.FileNames.{Named}
-use Rattle.mk_tool.specs.declared.status.Cause.{Cause}
-use Rattle.mk_tool.specs.declared.status.Cause.TheVariants.{Read, Write, Memory as NoMemory}
-use Rattle.mk_tool.specs.declared.status.Status.{Status}
-use Rattle.mk_tool.specs.declared.status.Status.TheVariants.{Well, Refused, Fault, Memory}
-use Rattle.mk_tool.specs.declared.transfer.Stop.{Stop}
-use Rattle.mk_tool.specs.declared.transfer.Stop.TheVariants.{Fault as Stopped, Memory as Wanting}
-use Rattle.mk_tool.specs.declared.unpacking.Manner.{Manner}
-use Rattle.mk_tool.specs.Folders.{Files}
-use Rattle.mk_tool.specs.RunClauses.{held, cause_line, cause_of_writing, status_of}
-use Rattle.mk_tool.specs.Unpacking.{AreLeaves, Said, silence, said_behind, Unpacks, UnpacksLeaf, stored_line, exists_line}
-use Rattle.mk_tool.specs.Shown.{extract_line, is_wanting, shown}
-use Rattle.mk_tool.specs.UnpackClauses.{Written, written, GetsNext, PutsText, PutsNone, PutsFront, UnpackedAll, UnpackedSome, IsUnpacked, IsBrokenOff, Stores}
-use Rattle.mk_tool.proofs.Fronts.{AppendsFront-behind, not-is_nil-append}
-use Rattle.mk_tool.proofs.RunLemmas.{AppendsFront-none}
+use Rattle.mk_view.specs.declared.extracting.ExtractError.{ExtractError}
+use Rattle.mk_view.specs.Extracts.{IsExtract, IsExtractRefused}
+use Rattle.mk_mailbox.specs.Devices.{AppendsFront}
+use Rattle.mk_view.specs.FileNames.{Named}
+use Rattle.mk_run.specs.declared.status.Cause.{Cause}
+use Rattle.mk_run.specs.declared.status.Cause.TheVariants.{Read, Write, Memory as NoMemory}
+use Rattle.mk_run.specs.declared.status.Status.{Status}
+use Rattle.mk_run.specs.declared.status.Status.TheVariants.{Well, Refused, Fault, Memory}
+use Rattle.mk_run.specs.declared.transfer.Stop.{Stop}
+use Rattle.mk_run.specs.declared.transfer.Stop.TheVariants.{Fault as Stopped, Memory as Wanting}
+use Rattle.mk_run.specs.declared.unpacking.Manner.{Manner}
+use Rattle.mk_run.specs.Folders.{Files}
+use Rattle.mk_run.specs.RunClauses.{held, cause_line, cause_of_writing, status_of}
+use Rattle.mk_run.specs.Unpacking.{AreLeaves, Said, silence, said_behind, Unpacks, UnpacksLeaf, stored_line, exists_line}
+use Rattle.mk_run.specs.Shown.{extract_line, is_wanting, shown}
+use Rattle.mk_run.specs.UnpackClauses.{Written, written, GetsNext, PutsText, PutsNone, PutsFront, UnpackedAll, UnpackedSome, IsUnpacked, IsBrokenOff, Stores}
+use Rattle.mk_run.proofs.Fronts.{AppendsFront-behind, not-is_nil-append}
+use Rattle.mk_run.proofs.RunLemmas.{AppendsFront-none}
 
 behind-silence : (s : Said) → s ≡ said_behind s silence
 behind-silence s = rw (append-nil s.output, append-nil s.errors) refl

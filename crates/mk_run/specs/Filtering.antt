@@ -5,16 +5,16 @@ use Rattle.mk_line.specs.Ascii.{colon, line_feed}
 use Rattle.mk_head.specs.Fields.{FieldText, is_named}
 use Rattle.mk_tree.specs.Documents.{tree}
 use Rattle.mk_tree.specs.Sections.{root_of, section_fields}
-use Rattle.mk_edit.specs.Edits.{Refusal}
+use Rattle.mk_decide.specs.Edits.{Refusal}
 use Rattle.mk_edit.specs.Groups.{Together}
 use Rattle.mk_mail.specs.Filtered.{filtered, outcome}
 use Rattle.mk_mail.specs.Letters.{PlainLetters, root_path}
-use Rattle.mk_mail.specs.Pieces.{mailbox_pieces}
-use Rattle.mk_tool.specs.Paths.{parted}
-use Rattle.mk_tool.specs.Reports.{behind_name, reason_name}
-use Rattle.mk_tool.specs.Runs.{Run}
-use Rattle.mk_tool.specs.Shown.{shown}
-use Rattle.mk_tool.specs.Unpacking.{Said, said_behind, silence}
+use Rattle.mk_mailbox.specs.Pieces.{mailbox_pieces}
+use Rattle.mk_script.specs.Paths.{parted}
+use Rattle.mk_run.specs.Reports.{behind_name, reason_name}
+use Rattle.mk_run.specs.Runs.{Run}
+use Rattle.mk_run.specs.Shown.{shown}
+use Rattle.mk_run.specs.Unpacking.{Said, said_behind, silence}
 
 -- the fields of a message that have a name
 abbrev pub fields_named : List ℕ → List ℕ → List FieldText

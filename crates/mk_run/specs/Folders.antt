@@ -1,7 +1,7 @@
 -- What stands in a folder, and what putting a file there does to it (own).
 use Rattle.std.specs.Prelude.{◌≡◌, ◌⊎◌, ◌++◌, if◌then◌else◌, ℕ, Bool, true, false, is_some, ⊤, List, Option, None, Some, Result, Ok, Err}
 use Rattle.std.specs.Str.{bytes_eq}
-use Rattle.mk_mail.specs.declared.device.Fault.{Fault}
+use Rattle.mk_mailbox.specs.declared.device.Fault.{Fault}
 
 -- the text that stands under each name, where there is a file of that name
 abbrev pub Files : Type 0

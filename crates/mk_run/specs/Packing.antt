@@ -5,11 +5,11 @@ use Rattle.mk_line.specs.Lines.{TextLine, cut, eol_of}
 use Rattle.mk_head.specs.Split.{behind_head, fields_from}
 use Rattle.mk_head.specs.Splits.{has_line}
 use Rattle.mk_head.specs.Fields.{fields_of}
-use Rattle.mk_mail.specs.declared.building.BuildError.{BuildError}
-use Rattle.mk_mail.specs.declared.building.BuildError.TheVariants as refused
-use Rattle.mk_mail.specs.Building.{Attached, build_refusal, built, first_failing, is_free_field}
-use Rattle.mk_tool.specs.Runs.{Run}
-use Rattle.mk_tool.specs.Shown.{shown}
+use Rattle.mk_build.specs.declared.building.BuildError.{BuildError}
+use Rattle.mk_build.specs.declared.building.BuildError.TheVariants as refused
+use Rattle.mk_build.specs.Building.{Attached, build_refusal, built, first_failing, is_free_field}
+use Rattle.mk_run.specs.Runs.{Run}
+use Rattle.mk_run.specs.Shown.{shown}
 
 -- the fields in front of lines, each with all its bytes
 abbrev pub fields_in_front : List TextLine → List (List ℕ)

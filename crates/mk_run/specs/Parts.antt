@@ -3,10 +3,11 @@ use Rattle.std.specs.Prelude.{ℕ, Bool, false, not, Option, None, Some, List, [
 use Rattle.std.specs.Option.{option_map}
 use Rattle.std.specs.Str.{bytes_eq}
 use Rattle.mk_line.specs.Ascii.{colon}
-use Rattle.mk_head.specs.Values.{lowered, slash}
-use Rattle.mk_mail.specs.Building.{Attached}
-use Rattle.mk_tool.specs.Paths.{parted, pieces_of}
-use Rattle.mk_tool.specs.declared.parts.Spec as declared
+use Rattle.mk_head.specs.Values.{lowered}
+use Rattle.mk_line.specs.Ascii.{slash}
+use Rattle.mk_build.specs.Building.{Attached}
+use Rattle.mk_script.specs.Paths.{parted, pieces_of}
+use Rattle.mk_run.specs.declared.parts.Spec as declared
 
 -- a media type, and the path of a file
 pub record Spec : Type 0 where

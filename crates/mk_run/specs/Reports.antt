@@ -1,8 +1,8 @@
 -- The lines of a run that report why a line of the script was refused, or that a line is a fault (own).
 use Rattle.std.specs.Prelude.{◌++◌, ◌∷◌, [], ℕ, List, codes, decimal, take}
 use Rattle.mk_line.specs.Ascii.{space, line_feed}
-use Rattle.mk_edit.specs.Edits.{Refusal, NoSuchSection, NotMultipart, NotLeaf, NotPart, NoSuchField, BadPlace, BadField, BadName, BadBoundary, BadSubtype, OpenLine, HoldsBoundary, Recut, NothingToUndo, NothingToRedo, Member}
-use Rattle.mk_mail.specs.Listing.{path_text}
+use Rattle.mk_decide.specs.Edits.{Refusal, NoSuchSection, NotMultipart, NotLeaf, NotPart, NoSuchField, BadPlace, BadField, BadName, BadBoundary, BadSubtype, OpenLine, HoldsBoundary, Recut, NothingToUndo, NothingToRedo, Member}
+use Rattle.mk_view.specs.Listing.{path_text}
 
 -- the name under which a reason is reported
 abbrev pub reason_name : Refusal → List ℕ

@@ -2,15 +2,15 @@
 use Rattle.std.specs.Prelude.{◌≡◌, ◌≤◌, ◌⊎◌, ℕ, Bool, true, false, List, ◌++◌, ◌∷◌, [], Option, Result, Ok, Err, codes}
 use Rattle.std.specs.Io.KnownBytes.{Appends, Consumes, IsAtEnd, Keeps}
 use Rattle.mk_line.specs.Ascii.{line_feed}
-use Rattle.mk_mail.specs.Devices.{AppendsFront, Rose, IsLong}
-use Rattle.mk_tool.specs.declared.status.Status.{Status}
-use Rattle.mk_tool.specs.declared.status.Status.TheVariants.{Well, Refused, Usage, Fault, Memory}
-use Rattle.mk_tool.specs.declared.status.Cause.{Cause}
-use Rattle.mk_tool.specs.declared.status.Cause.TheVariants.{Read, Write, Memory as NoMemory}
-use Rattle.mk_tool.specs.declared.transfer.Stop.{Stop}
-use Rattle.mk_tool.specs.declared.transfer.Stop.TheVariants.{Fault as Stopped, Memory as Wanting}
-use Rattle.mk_tool.specs.Runs.{Run, run_of, run_steps}
-use Rattle.mk_tool.specs.ScriptSteps.{ScriptStep}
+use Rattle.mk_mailbox.specs.Devices.{AppendsFront, Rose, IsLong}
+use Rattle.mk_run.specs.declared.status.Status.{Status}
+use Rattle.mk_run.specs.declared.status.Status.TheVariants.{Well, Refused, Usage, Fault, Memory}
+use Rattle.mk_run.specs.declared.status.Cause.{Cause}
+use Rattle.mk_run.specs.declared.status.Cause.TheVariants.{Read, Write, Memory as NoMemory}
+use Rattle.mk_run.specs.declared.transfer.Stop.{Stop}
+use Rattle.mk_run.specs.declared.transfer.Stop.TheVariants.{Fault as Stopped, Memory as Wanting}
+use Rattle.mk_run.specs.Runs.{Run, run_of, run_steps}
+use Rattle.mk_script.specs.ScriptSteps.{ScriptStep}
 
 -- what the devices of a run tell: the bytes that the input has left, and those that the output and the errors hold
 pub record Held : Type 0 where

@@ -1,16 +1,16 @@
 -- What a run of a script on a message is (own).
 use Rattle.std.specs.Prelude.{◌≡◌, IfSome, ◌-◌, if◌then◌else◌, ℕ, List, [], ◌∷◌, ◌++◌, Result, Ok, Err, length, map, slice_index_or}
 use Rattle.mk_line.specs.Lines.{cut, eol_of, ending_bytes, is_nil}
-use Rattle.mk_edit.specs.declared.errors.EditError.{EditError}
-use Rattle.mk_edit.specs.Answers.{refusal_of}
+use Rattle.mk_decide.specs.declared.errors.EditError.{EditError}
+use Rattle.mk_decide.specs.Answers.{refusal_of}
 use Rattle.mk_edit.specs.History.{History}
 use Rattle.mk_edit.specs.Histories.{text_now, started, step, left_by}
-use Rattle.mk_edit.specs.Edits.{Order, Do, Group, Undo, Redo, PlainEdit, AddField, RemoveField, RenameField, SetField, SetBody, SetSection, InsertPart, RemovePart, Wrap, path_of, Refusal, Member}
-use Rattle.mk_tool.specs.declared.status.Status.{Status}
-use Rattle.mk_tool.specs.declared.status.Status.TheVariants.{Well, Refused, Usage}
-use Rattle.mk_tool.specs.Reports.{error_line, syntax_line}
-use Rattle.mk_tool.specs.Script.{ScriptWord, Adds, Deletes, Renames, Sets, Bodies, Replaces, Inserts, Removes, Wraps}
-use Rattle.mk_tool.specs.ScriptSteps.{ScriptStep, Makes, Groups, TakesBack, MakesAgain, script_of}
+use Rattle.mk_decide.specs.Edits.{Order, Do, Group, Undo, Redo, PlainEdit, AddField, RemoveField, RenameField, SetField, SetBody, SetSection, InsertPart, RemovePart, Wrap, path_of, Refusal, Member}
+use Rattle.mk_run.specs.declared.status.Status.{Status}
+use Rattle.mk_run.specs.declared.status.Status.TheVariants.{Well, Refused, Usage}
+use Rattle.mk_run.specs.Reports.{error_line, syntax_line}
+use Rattle.mk_script.specs.Script.{ScriptWord, Adds, Deletes, Renames, Sets, Bodies, Replaces, Inserts, Removes, Wraps}
+use Rattle.mk_script.specs.ScriptSteps.{ScriptStep, Makes, Groups, TakesBack, MakesAgain, script_of}
 
 -- a field of a script gets the line ending of the text at that moment
 abbrev pub field_text : List ℕ → List ℕ → List ℕ

@@ -5,18 +5,18 @@ use Rattle.mk_line.specs.Ascii.{line_feed}
 use Rattle.mk_line.specs.Lines.{is_nil}
 use Rattle.mk_tree.specs.Documents.{tree}
 use Rattle.mk_tree.specs.Sections.{Placed, section_at}
-use Rattle.mk_mail.specs.declared.extracting.ExtractError.{ExtractError}
-use Rattle.mk_mail.specs.declared.extracting.ExtractError.TheVariants as refused
-use Rattle.mk_mail.specs.Devices.{AppendsFront}
-use Rattle.mk_mail.specs.Listing.{listing, path_text}
-use Rattle.mk_mail.specs.Extracts.{IsExtract, IsExtractRefused}
-use Rattle.mk_tool.specs.declared.answers.Answer.{Answer}
-use Rattle.mk_tool.specs.declared.status.Status.{Status}
-use Rattle.mk_tool.specs.declared.status.Status.TheVariants.{Well, Refused, Usage, Fault, Memory}
-use Rattle.mk_tool.specs.declared.status.Cause.{Cause}
-use Rattle.mk_tool.specs.declared.status.Cause.TheVariants.{Write}
-use Rattle.mk_tool.specs.Runs.{Run}
-use Rattle.mk_tool.specs.RunClauses.{Held, IsDone, IsGivenUp, cause_line, status_of}
+use Rattle.mk_view.specs.declared.extracting.ExtractError.{ExtractError}
+use Rattle.mk_view.specs.declared.extracting.ExtractError.TheVariants as refused
+use Rattle.mk_mailbox.specs.Devices.{AppendsFront}
+use Rattle.mk_view.specs.Listing.{listing, path_text}
+use Rattle.mk_view.specs.Extracts.{IsExtract, IsExtractRefused}
+use Rattle.mk_run.specs.declared.answers.Answer.{Answer}
+use Rattle.mk_run.specs.declared.status.Status.{Status}
+use Rattle.mk_run.specs.declared.status.Status.TheVariants.{Well, Refused, Usage, Fault, Memory}
+use Rattle.mk_run.specs.declared.status.Cause.{Cause}
+use Rattle.mk_run.specs.declared.status.Cause.TheVariants.{Write}
+use Rattle.mk_run.specs.Runs.{Run}
+use Rattle.mk_run.specs.RunClauses.{Held, IsDone, IsGivenUp, cause_line, status_of}
 
 -- what goes out is refused where there is an error line
 abbrev pub shown : List ℕ → List ℕ → Run

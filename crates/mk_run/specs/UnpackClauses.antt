@@ -4,16 +4,16 @@ use Rattle.std.specs.Io.KnownBytes.{Appends, Consumes}
 use Rattle.mk_line.specs.Lines.{is_nil}
 use Rattle.mk_tree.specs.Documents.{Document, tree}
 use Rattle.mk_tree.specs.Sections.{section_at}
-use Rattle.mk_mail.specs.Devices.{AppendsFront, Rose}
-use Rattle.mk_mail.specs.Extracts.{IsExtract}
-use Rattle.mk_mail.specs.FileNames.{Named}
-use Rattle.mk_tool.specs.declared.status.Status.{Status}
-use Rattle.mk_tool.specs.declared.status.Status.TheVariants.{Well, Refused, Usage, Fault, Memory}
-use Rattle.mk_tool.specs.declared.unpacking.Manner.{Manner}
-use Rattle.mk_tool.specs.Folders.{Files, Gets}
-use Rattle.mk_tool.specs.RunClauses.{Held, IsDone, IsGivenUp}
-use Rattle.mk_tool.specs.Shown.{IsSilent, shown}
-use Rattle.mk_tool.specs.Unpacking.{IsTarget, AllThere, Said, Unpacks, AreLeaves}
+use Rattle.mk_mailbox.specs.Devices.{AppendsFront, Rose}
+use Rattle.mk_view.specs.Extracts.{IsExtract}
+use Rattle.mk_view.specs.FileNames.{Named}
+use Rattle.mk_run.specs.declared.status.Status.{Status}
+use Rattle.mk_run.specs.declared.status.Status.TheVariants.{Well, Refused, Usage, Fault, Memory}
+use Rattle.mk_run.specs.declared.unpacking.Manner.{Manner}
+use Rattle.mk_run.specs.Folders.{Files, Gets}
+use Rattle.mk_run.specs.RunClauses.{Held, IsDone, IsGivenUp}
+use Rattle.mk_run.specs.Shown.{IsSilent, shown}
+use Rattle.mk_run.specs.Unpacking.{IsTarget, AllThere, Said, Unpacks, AreLeaves}
 
 -- what the devices tell to which unpacking writes: the bytes that the output and the errors hold, and the files of the folder
 pub record Written : Type 0 where

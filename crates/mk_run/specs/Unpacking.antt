@@ -3,14 +3,14 @@ use Rattle.std.specs.Prelude.{◌≡◌, ◌⊎◌, ◌<◌, ◌==◌, ◌++◌,
 use Rattle.mk_line.specs.Ascii.{line_feed}
 use Rattle.mk_tree.specs.Documents.{Document}
 use Rattle.mk_tree.specs.Sections.{Placed, section_at}
-use Rattle.mk_mail.specs.declared.extracting.ExtractError.{ExtractError}
-use Rattle.mk_mail.specs.Extracts.{IsExtract, IsExtractRefused}
-use Rattle.mk_mail.specs.FileNames.{Named, all_stored}
-use Rattle.mk_mail.specs.GivenNames.{AreGiven, numbered}
-use Rattle.mk_mail.specs.Listing.{type_of, type_text}
-use Rattle.mk_tool.specs.declared.unpacking.Manner.{Manner}
-use Rattle.mk_tool.specs.Folders.{Files, IsFree, IsThere, Gets}
-use Rattle.mk_tool.specs.Shown.{extract_line, is_wanting}
+use Rattle.mk_view.specs.declared.extracting.ExtractError.{ExtractError}
+use Rattle.mk_view.specs.Extracts.{IsExtract, IsExtractRefused}
+use Rattle.mk_view.specs.FileNames.{Named, all_stored}
+use Rattle.mk_view.specs.GivenNames.{AreGiven, numbered}
+use Rattle.mk_view.specs.Listing.{type_of, type_text}
+use Rattle.mk_run.specs.declared.unpacking.Manner.{Manner}
+use Rattle.mk_run.specs.Folders.{Files, IsFree, IsThere, Gets}
+use Rattle.mk_run.specs.Shown.{extract_line, is_wanting}
 
 -- how many names are tried for a leaf
 abbrev pub most_tries : ℕ

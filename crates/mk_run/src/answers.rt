@@ -3,8 +3,8 @@
 ghost use Rattle.std.specs.Prelude.{◌≡◌, ◌⊎◌, ◌++◌, ◌∷◌, [], IfOk};
 ghost use Rattle.mk_tree.specs.Documents.{tree};
 ghost use Rattle.mk_tree.specs.Sections.{section_at};
-ghost use Rattle.mk_mail.specs.Listing.{listing};
-ghost use Rattle.mk_tool.specs.Shown.{IsListed, IsTaken, extract_line, extract_name as name_of, run_of_answer};
+ghost use Rattle.mk_view.specs.Listing.{listing};
+ghost use Rattle.mk_run.specs.Shown.{IsListed, IsTaken, extract_line, extract_name as name_of, run_of_answer};
 
 use mk_mail::{ExtractError, extract, list, push_path};
 use mk_tree::Doc;

@@ -1,18 +1,18 @@
 //! The run of a script on a message, over any devices.
 
 ghost use Rattle.std.specs.Prelude.{◌≡◌, ◌≤◌, ◌⊎◌, true, length, map, Ok, IfOk, IfErr, OnOk};
-ghost use Rattle.mk_mail.specs.Devices.{AppendsFront};
-ghost use Rattle.mk_tool.specs.ScriptSteps.{script_of};
-ghost use Rattle.mk_tool.specs.ScriptViews.{step_by, texts_of};
-ghost use Rattle.mk_tool.specs.RunClauses.{held, counts, SameFailures, ReadFailed, WriteFailed, IsBlamed, LeavesRun, LeavesSteps, cause_line as line_of, cause_of_reading, cause_of_writing, status_of as status_for, ends_itself};
+ghost use Rattle.mk_mailbox.specs.Devices.{AppendsFront};
+ghost use Rattle.mk_script.specs.ScriptSteps.{script_of};
+ghost use Rattle.mk_script.specs.ScriptViews.{step_by, texts_of};
+ghost use Rattle.mk_run.specs.RunClauses.{held, counts, SameFailures, ReadFailed, WriteFailed, IsBlamed, LeavesRun, LeavesSteps, cause_line as line_of, cause_of_reading, cause_of_writing, status_of as status_for, ends_itself};
 
-use crate::groups::{ScriptError, Step, steps};
 use crate::report::{cause_line, report_syntax};
 use crate::status::{Cause, Status};
 use crate::steps::do_steps;
 use crate::transfer::{Stop, read_all, send, write_all};
 use mk_edit::Session;
 use mk_mail::{Sink, Source};
+use mk_script::{ScriptError, Step, steps};
 use std::alloc::Global;
 
 /// Edits the message that the input gives by the steps of a script, and prints what becomes of it.

@@ -1,21 +1,21 @@
 //! One message of which the fields are filtered by letters, or given.
 
 ghost use Rattle.std.specs.Prelude.{◌≡◌, ◌⊎◌, ℕ, List, true, false, IfOk, IfErr, IfSome, OnOk, OnErr};
-ghost use Rattle.mk_edit.specs.Answers.{is_memory};
+ghost use Rattle.mk_decide.specs.Answers.{is_memory};
 ghost use Rattle.mk_edit.specs.Histories.{started, text_now};
-ghost use Rattle.mk_mail.specs.Devices.{Rose};
+ghost use Rattle.mk_mailbox.specs.Devices.{Rose};
 ghost use Rattle.mk_mail.specs.LetterViews.{bytes_in, letters_of};
 ghost use Rattle.mk_mail.specs.Letters.{are_allowed};
-ghost use Rattle.mk_tool.specs.FilterClauses.{IsEdited, SaysAll, SaysSome};
-ghost use Rattle.mk_tool.specs.Filtering.{behind_colon as is_behind_colon, contents_named, given_by, said_of, said_of_edits, wholes_named};
+ghost use Rattle.mk_run.specs.FilterClauses.{IsEdited, SaysAll, SaysSome};
+ghost use Rattle.mk_run.specs.Filtering.{behind_colon as is_behind_colon, contents_named, given_by, said_of, said_of_edits, wholes_named};
 
-use crate::path::parted;
 use crate::report::report_message;
 use crate::transfer::{Stop, send};
 use mk_edit::{EditError, GroupError, Session};
 use mk_head::each_field;
 use mk_line::Meter;
 use mk_mail::{Letters, Sink, field_edits};
+use mk_script::parted;
 use mk_tree::Doc;
 use std::alloc::{AllocError, Global};
 
@@ -46,10 +46,10 @@ pub fn filter_message<O: Sink, E: Sink>(
         Err(_) => return Err(Stop::Memory),
     };
     match given(alloc, letters, session.doc()) {
-        Ok(Some(text)) => match send(out, &text) {
-            Ok(()) => Ok(false),
-            Err(stop) => Err(stop),
-        },
+        Ok(Some(text)) => {
+            send(out, &text)?;
+            Ok(false)
+        }
         Ok(None) => edit_message(alloc, letters, number, &mut session, out, err),
         Err(_) => Err(Stop::Memory),
     }
@@ -78,15 +78,13 @@ fn edit_message<O: Sink, E: Sink>(
         Ok(refusal) => refusal,
         Err(_) => return Err(Stop::Memory),
     };
-    match send(out, session.text()) {
-        Ok(()) => match refusal {
-            Some(reason) => match report_message(alloc, err, number, reason) {
-                Ok(()) => Ok(true),
-                Err(stop) => Err(stop),
-            },
-            None => Ok(false),
-        },
-        Err(stop) => Err(stop),
+    send(out, session.text())?;
+    match refusal {
+        Some(reason) => {
+            report_message(alloc, err, number, reason)?;
+            Ok(true)
+        }
+        None => Ok(false),
     }
 }
 

@@ -3,18 +3,16 @@
 ghost use Rattle.std.specs.Prelude.{◌≡◌, ◌⊎◌, ◌-◌, true, false, nat_le, IfErr, OnOk};
 ghost use Rattle.mk_mail.specs.LetterViews.{letters_of};
 ghost use Rattle.mk_mail.specs.Letters.{are_allowed};
-ghost use Rattle.mk_tool.specs.FilterClauses.{LeavesFiltered, LeavesSaid};
-ghost use Rattle.mk_tool.specs.RunClauses.{held, counts, SameFailures, ReadFailed, WriteFailed, IsBlamed, ends_itself};
+ghost use Rattle.mk_run.specs.FilterClauses.{LeavesFiltered, LeavesSaid};
+ghost use Rattle.mk_run.specs.RunClauses.{held, counts, SameFailures, ReadFailed, WriteFailed, IsBlamed, ends_itself};
 
 use crate::engine::{give_up, reading, writing};
 use crate::fields::filter_message;
 use crate::status::{Cause, Status};
 use crate::transfer::read_all;
 use mk_mail::{Letters, MailFault, Mailbox, Sink, Source};
+use mk_mailbox::MOST_READS;
 use std::alloc::Global;
-
-/// The most reads that are made of a mailbox. A source that still gives bytes then is given up.
-const MOST_READS: u64 = 2_147_483_647;
 
 /// The number of the message where all of the input is one.
 const ONLY: u64 = 1;
@@ -150,5 +148,5 @@ fn filter_each<S: Source, O: Sink, E: Sink>(
 fn are_too_many(before: u64, now: u64) -> bool
     ensures { result ≡ nat_le 2147483647 (now - before) }
 {
-    now.saturating_sub(before) >= MOST_READS
+    now.saturating_sub(before) >= MOST_READS as u64
 }

@@ -1,11 +1,11 @@
 //! A message packed from fields and files, over any devices.
 
 ghost use Rattle.std.specs.Prelude.{◌≡◌, ◌⊎◌, true, map, IfOk};
-ghost use Rattle.mk_mail.specs.BuildViews.{attached_of};
-ghost use Rattle.mk_tool.specs.RunClauses.{held, counts, SameFailures, ReadFailed, WriteFailed, ends_itself};
-ghost use Rattle.mk_tool.specs.Shown.{LeavesShown, run_of_answer};
+ghost use Rattle.mk_build.specs.BuildViews.{attached_of};
+ghost use Rattle.mk_run.specs.RunClauses.{held, counts, SameFailures, ReadFailed, WriteFailed, ends_itself};
+ghost use Rattle.mk_run.specs.Shown.{LeavesShown, run_of_answer};
 ghost use Rattle.mk_line.specs.Lines.{cut as lines_of};
-ghost use Rattle.mk_tool.specs.Packing.{IsPacked, build_name, fields_given, fields_in_front as fields_of_front, has_body as has_a_body, index_of as index_named, pack_line};
+ghost use Rattle.mk_run.specs.Packing.{IsPacked, build_name, fields_given, fields_in_front as fields_of_front, has_body as has_a_body, index_of as index_named, pack_line};
 
 use crate::answers::Answer;
 use crate::engine::{give_up, reading};

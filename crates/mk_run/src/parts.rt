@@ -1,11 +1,11 @@
 //! The files that are packed, as the command line names them.
 
 ghost use Rattle.std.specs.Prelude.{◌≡◌};
-ghost use Rattle.mk_head.specs.Values.{slash};
-ghost use Rattle.mk_tool.specs.Parts.{file_name as name_of_file, is_text as is_of_text};
+ghost use Rattle.mk_line.specs.Ascii.{slash};
+ghost use Rattle.mk_run.specs.Parts.{file_name as name_of_file, is_text as is_of_text};
 
-use crate::path::parted;
 use mk_mail::Attach;
+use mk_script::parted;
 use std::alloc::{AllocError, Global};
 
 const COLON: u8 = b':';
@@ -24,8 +24,8 @@ pub struct Spec<'a> {
 impl<'a> Spec<'a> {
     ghost use Rattle.std.specs.Prelude.{◌≡◌, IfOk};
     ghost use Rattle.std.specs.Option.{option_map};
-    ghost use Rattle.mk_mail.specs.BuildViews.{attached_of};
-    ghost use Rattle.mk_tool.specs.Parts.{attached_file, spec_of, spec_view};
+    ghost use Rattle.mk_build.specs.BuildViews.{attached_of};
+    ghost use Rattle.mk_run.specs.Parts.{attached_file, spec_of, spec_view};
 
     /// What a word names, which is cut at its first colon. `None` where it has none.
     pub fn of(word: &'a [u8]) -> Option<Spec<'a>>

@@ -1,17 +1,17 @@
 //! The lines that a run writes to the errors.
 
 ghost use Rattle.std.specs.Prelude.{◌≡◌, ◌++◌, codes, IfOk, OnOk, IfSome};
-ghost use Rattle.mk_edit.specs.Answers.{refusal_of};
+ghost use Rattle.mk_decide.specs.Answers.{refusal_of};
 ghost use Rattle.mk_mail.specs.Letters.{root_path};
-ghost use Rattle.mk_tool.specs.Filtering.{message_line as line_of_message};
-ghost use Rattle.mk_tool.specs.Reports.{reason_name as name_of, behind_name, error_line, syntax_line};
-ghost use Rattle.mk_tool.specs.RunClauses.{Sends, cause_line as line_of};
+ghost use Rattle.mk_run.specs.Filtering.{message_line as line_of_message};
+ghost use Rattle.mk_run.specs.Reports.{reason_name as name_of, behind_name, error_line, syntax_line};
+ghost use Rattle.mk_run.specs.RunClauses.{Sends, cause_line as line_of};
 
 use crate::status::Cause;
-use crate::targets::SPACE;
 use crate::transfer::{Stop, send};
 use mk_edit::EditError;
 use mk_mail::{Sink, push_path};
+use mk_script::SPACE;
 use std::alloc::{AllocError, Global};
 
 const LINE_FEED: u8 = b'\n';

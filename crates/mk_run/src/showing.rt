@@ -2,9 +2,9 @@
 
 ghost use Rattle.std.specs.Prelude.{◌≡◌, ◌≤◌, ◌⊎◌, true, Option, List, ℕ, IfOk, IfErr, OnOk, OnErr};
 ghost use Rattle.std.specs.Io.KnownBytes.{Appends, Consumes, IsAtEnd};
-ghost use Rattle.mk_mail.specs.Devices.{AppendsFront, Rose, IsLong};
-ghost use Rattle.mk_tool.specs.RunClauses.{held, counts, SameFailures, ReadFailed, WriteFailed, ends_itself};
-ghost use Rattle.mk_tool.specs.Shown.{IsListed, IsTaken, LeavesShown, Writes, run_of_answer};
+ghost use Rattle.mk_mailbox.specs.Devices.{AppendsFront, Rose, IsLong};
+ghost use Rattle.mk_run.specs.RunClauses.{held, counts, SameFailures, ReadFailed, WriteFailed, ends_itself};
+ghost use Rattle.mk_run.specs.Shown.{IsListed, IsTaken, LeavesShown, Writes, run_of_answer};
 
 use crate::answers::{Answer, content, sections};
 use crate::engine::{give_up, reading};

@@ -26,7 +26,7 @@ pub enum Cause {
 }
 
 impl Status {
-    ghost use Rattle.mk_tool.specs.Statuses.{code_of};
+    ghost use Rattle.mk_run.specs.Statuses.{code_of};
 
     /// The exit status of the program.
     pub fn code(self) -> u8

@@ -1,25 +1,24 @@
 //! The steps of a script, done in turn on a session.
 
 ghost use Rattle.std.specs.Prelude.{◌≡◌, ℕ, List, map, not, IfOk, OnOk, slice_index_or};
-ghost use Rattle.mk_line.specs.Lines.{ending_bytes, is_nil};
+ghost use Rattle.mk_line.specs.Lines.{is_nil};
 ghost use Rattle.mk_edit.specs.Answers.{Does};
-ghost use Rattle.mk_edit.specs.Edits.{Group, Order, Refusal};
+ghost use Rattle.mk_decide.specs.Edits.{Group, Order, Refusal};
 ghost use Rattle.mk_edit.specs.Histories.{left_by, step};
 ghost use Rattle.mk_edit.specs.History.{History};
-ghost use Rattle.mk_edit.specs.Views.{edit_of, order_of};
-ghost use Rattle.mk_tool.specs.Runs.{edit_by, field_text, line_at, refusal_line, numbers_of, ordered_by, path_at as path_in, piece_text, outcome_of, reported, history_after, errors_of, IsObeyed};
-ghost use Rattle.mk_tool.specs.RunClauses.{Sends};
-ghost use Rattle.mk_tool.specs.ScriptSteps.{Groups};
-ghost use Rattle.mk_tool.specs.ScriptViews.{said_by, numbered, step_by, texts_of};
+ghost use Rattle.mk_decide.specs.Views.{edit_of};
+ghost use Rattle.mk_edit.specs.Views.{order_of};
+ghost use Rattle.mk_run.specs.Runs.{edit_by, field_text, line_at, refusal_line, numbers_of, ordered_by, path_at as path_in, piece_text, outcome_of, reported, history_after, errors_of, IsObeyed};
+ghost use Rattle.mk_run.specs.RunClauses.{Sends};
+ghost use Rattle.mk_script.specs.ScriptSteps.{Groups};
+ghost use Rattle.mk_script.specs.ScriptViews.{said_by, numbered, step_by, texts_of};
 
-use crate::groups::Step;
 use crate::report::report_refusal;
-use crate::script::{NumberedWord, Word};
-use crate::targets::Target;
 use crate::transfer::Stop;
 use mk_edit::{Command, Edit, EditError, GroupError, Session};
-use mk_line::{Ending, Meter, eol_of};
+use mk_line::{Meter, eol_of};
 use mk_mail::Sink;
+use mk_script::{NumberedWord, Step, Target, Word};
 use std::alloc::{AllocError, Global};
 
 /// Does the steps in turn and reports each refusal as it comes. Answers whether there was one.
@@ -66,10 +65,8 @@ fn do_step<E: Sink>(
             }
             let number = number_at(&task.numbers, index);
             let path = path_at(&task.command, index);
-            match report_refusal(alloc, err, number, path, reason) {
-                Ok(()) => Ok(true),
-                Err(stop) => Err(stop),
-            }
+            report_refusal(alloc, err, number, path, reason)?;
+            Ok(true)
         }
     }
 }
@@ -249,17 +246,5 @@ fn piece_copy(alloc: Global, pieces: &[Vec<u8>], number: u32) -> Result<Vec<u8>,
 fn end_field(field: &mut Vec<u8>, text: &[u8]) -> Result<(), AllocError>
     ensures { OnOk result (field.new.items ≡ field_text field.old.items text.now) }
 {
-    let ending = eol_bytes(eol_of(text));
-    field.extend_from_slice(ending)
-}
-
-// The bytes of an ending.
-fn eol_bytes(ending: Ending) -> &'static [u8]
-    ensures { result.now ≡ ending_bytes ending }
-{
-    match ending {
-        Ending::Crlf => b"\r\n",
-        Ending::Lf => b"\n",
-        Ending::Missing => b"",
-    }
+    field.extend_from_slice(eol_of(text).bytes())
 }

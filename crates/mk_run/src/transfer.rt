@@ -2,18 +2,12 @@
 
 ghost use Rattle.std.specs.Prelude.{◌≡◌, ◌<◌, ◌≤◌, ◌⊎◌, List, ℕ, IfOk, IfErr, OnOk, OnErr};
 ghost use Rattle.std.specs.Io.KnownBytes.{Consumes, IsAtEnd, Appends};
-ghost use Rattle.mk_mail.specs.Devices.{Rose, IsLong, AppendsFront};
-ghost use Rattle.mk_tool.specs.RunClauses.{Sends};
-ghost use Rattle.mk_tool.specs.declared.transfer.Stop.TheVariants.{Memory as NoMemory};
+ghost use Rattle.mk_mailbox.specs.Devices.{Rose, IsLong, AppendsFront};
+ghost use Rattle.mk_run.specs.RunClauses.{Sends};
+ghost use Rattle.mk_run.specs.declared.transfer.Stop.TheVariants.{Memory as NoMemory};
 
-use mk_mail::{Fault, Sink, Source};
+use mk_mailbox::{CHUNK_BYTES, Fault, MOST_READS, Sink, Source};
 use std::alloc::{AllocError, AllocFailed, Global};
-
-/// The most reads that are made for one text. A source that still gives bytes then is given up.
-const MAX_READS: u32 = 2_147_483_647;
-
-/// How many bytes are asked for in one read.
-const PIECE_BYTES: usize = 65_536;
 
 /// Why a text was not read to its end, or bytes were not sent.
 #[derive(Clone, Copy, Debug, PartialEq, Eq)]
@@ -52,8 +46,8 @@ pub fn read_all<S: Source>(alloc: Global, input: &mut S) -> Result<Vec<u8>, Stop
         ⊎ IsLong (S.read_count input.old) (S.read_count input.new)) }
 {
     let mut text = Vec::new(alloc);
-    let mut piece = [0u8; PIECE_BYTES];
-    for _read in 0..MAX_READS {
+    let mut piece = [0u8; CHUNK_BYTES];
+    for _read in 0..MOST_READS {
         match input.read(&mut piece) {
             Err(Fault) => return Err(Stop::Fault),
             Ok(0) => return Ok(text),

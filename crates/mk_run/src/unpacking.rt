@@ -2,13 +2,13 @@
 
 ghost use Rattle.std.specs.Prelude.{◌≡◌, ◌⊎◌, ◌∷◌, [], if◌then◌else◌, true, map, None, Some, Ok, IfOk, IfErr, IfSome, OnOk, OnErr};
 ghost use Rattle.mk_tree.specs.Documents.{Document};
-ghost use Rattle.mk_mail.specs.Devices.{Rose};
-ghost use Rattle.mk_mail.specs.GivenNames.{AreSafe, is_safe};
-ghost use Rattle.mk_mail.specs.LeafViews.{AreAt, IsAt, leaf_view};
-ghost use Rattle.mk_tool.specs.RunClauses.{held, counts, Sends, SameFailures, ReadFailed, WriteFailed, ends_itself};
-ghost use Rattle.mk_tool.specs.Shown.{extract_line};
-ghost use Rattle.mk_tool.specs.Unpacking.{exists_line as line_of_exists, stored_line as line_of_stored, tried as name_tried};
-ghost use Rattle.mk_tool.specs.UnpackClauses.{LeavesUnpacked, NoneFailed, PutsFront, PutsNone, PutsText, SomeFailed, UnpackedAll, UnpackedSome, failures, manner_of, written};
+ghost use Rattle.mk_mailbox.specs.Devices.{Rose};
+ghost use Rattle.mk_view.specs.GivenNames.{AreSafe, is_safe};
+ghost use Rattle.mk_view.specs.LeafViews.{AreAt, IsAt, leaf_view};
+ghost use Rattle.mk_run.specs.RunClauses.{held, counts, Sends, SameFailures, ReadFailed, WriteFailed, ends_itself};
+ghost use Rattle.mk_run.specs.Shown.{extract_line};
+ghost use Rattle.mk_run.specs.Unpacking.{exists_line as line_of_exists, stored_line as line_of_stored, tried as name_tried};
+ghost use Rattle.mk_run.specs.UnpackClauses.{LeavesUnpacked, NoneFailed, PutsFront, PutsNone, PutsText, SomeFailed, UnpackedAll, UnpackedSome, failures, manner_of, written};
 
 use crate::answers::refusal;
 use crate::engine::{give_up, reading, writing};
@@ -136,22 +136,19 @@ fn unpack_leaf<O: Sink, E: Sink, F: Folder>(
         Ok(text) => text,
         Err(ExtractError::Memory) => return Err(Stop::Memory),
         Err(reason) => {
-            return match report_undecoded(alloc, err, &leaf.path, reason) {
-                Ok(()) => Ok(true),
-                Err(stop) => Err(stop),
-            };
+            report_undecoded(alloc, err, &leaf.path, reason)?;
+            return Ok(true);
         }
     };
-    match put_free(alloc, dir, &leaf.name, &text, manner.over) {
-        Ok(Some(target)) => match say_stored(alloc, out, &leaf.section, &target, manner.silent) {
-            Ok(()) => Ok(false),
-            Err(stop) => Err(stop),
-        },
-        Ok(None) => match report_exists(alloc, err, &leaf.name) {
-            Ok(()) => Ok(true),
-            Err(stop) => Err(stop),
-        },
-        Err(stop) => Err(stop),
+    match put_free(alloc, dir, &leaf.name, &text, manner.over)? {
+        Some(target) => {
+            say_stored(alloc, out, &leaf.section, &target, manner.silent)?;
+            Ok(false)
+        }
+        None => {
+            report_exists(alloc, err, &leaf.name)?;
+            Ok(true)
+        }
     }
 }
 

@@ -4,11 +4,11 @@ use Rattle.std.proofs.lemmas.Bool.{cases_Bool}
 use Rattle.std.proofs.lemmas.Slice.Eq.{bytes_eq-Decides}
 use Rattle.std.specs.Option.{option_map}
 use Rattle.std.specs.Str.{bytes_eq}
-use Rattle.mk_tool.specs.Script.{ScriptWord, ScriptLine, Edits, Undoes, Redoes, Begins, Ends, word_of, line_of}
-use Rattle.mk_tool.specs.Written.{written, IsLine, written_line}
-use Rattle.mk_tool.proofs.NumberLemmas.{some_same, none_some}
-use Rattle.mk_tool.proofs.TargetLemmas.{map-some}
-use Rattle.mk_tool.proofs.WordLemmas.{word_of-read, word_of-written}
+use Rattle.mk_script.specs.Script.{ScriptWord, ScriptLine, Edits, Undoes, Redoes, Begins, Ends, word_of, line_of}
+use Rattle.mk_script.specs.Written.{written, IsLine, written_line}
+use Rattle.mk_script.proofs.NumberLemmas.{some_same, none_some}
+use Rattle.mk_script.proofs.TargetLemmas.{map-some}
+use Rattle.mk_script.proofs.WordLemmas.{word_of-read, word_of-written}
 
 -- a line that is one name
 alone : (count : ℕ) (name bytes : List ℕ) (said line : ScriptLine) → bytes_eq bytes name ≡ true → IsLine count said → written_line said ≡ name → said ≡ line → IsLine count line × (bytes ≡ written_line line)

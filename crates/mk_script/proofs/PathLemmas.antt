@@ -6,7 +6,7 @@ use Rattle.std.proofs.lemmas.List.{drop_all}
 use Rattle.std.specs.List.{list_all, position_or_len}
 use Rattle.std.specs.Char.{digit_value, is_digit}
 use Rattle.std.specs.Str.Parse.{digits_value_after}
-use Rattle.mk_tool.specs.Paths.{number_behind, pieces_of, parted, onto_first_piece}
+use Rattle.mk_script.specs.Paths.{number_behind, pieces_of, parted, onto_first_piece}
 
 -- more digits make no smaller number
 digits_value_after-ge : (n : ℕ) (digits : List ℕ) → n ≤ digits_value_after 10 n digits

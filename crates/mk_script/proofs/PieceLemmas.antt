@@ -6,8 +6,8 @@ use Rattle.std.specs.List.{join_with_byte, position_or_len}
 use Rattle.std.specs.Option.{option_map}
 use Rattle.std.specs.Char.{digit_value}
 use Rattle.std.specs.Str.Parse.{AllDigits}
-use Rattle.mk_tool.specs.Paths.{parted, pieces_of, onto_first_piece}
-use Rattle.mk_tool.proofs.NumberLemmas.{some_same, none_some}
+use Rattle.mk_script.specs.Paths.{parted, pieces_of, onto_first_piece}
+use Rattle.mk_script.proofs.NumberLemmas.{some_same, none_some}
 
 -- a byte does not stand in a text
 abbrev pub HoldsNo : ℕ → List ℕ → Type 0

@@ -5,14 +5,14 @@ use Rattle.std.proofs.lemmas.Slice.Eq.{bytes_eq-Decides}
 use Rattle.std.specs.Option.{option_map, option_and_then}
 use Rattle.std.specs.Str.{bytes_eq}
 use Rattle.mk_line.specs.Ascii.{space}
-use Rattle.mk_tool.specs.Paths.{parted, number_of, path_of}
-use Rattle.mk_tool.specs.Targets.{is_name, count_of}
-use Rattle.mk_tool.specs.Script.{ScriptWord, Bodies, Replaces, Inserts, Removes, Wraps, piece_of, with_piece, placing, with_place, with_places, inserting, removing, with_subtype, with_wrapping, wrapping, word_on}
-use Rattle.mk_tool.specs.Written.{IsPath, IsPiece, written_path, written_place, IsWord, written}
-use Rattle.mk_tool.proofs.NumberLemmas.{some_same, none_some, number_of-decimal, number_of-written, decimal_digits}
-use Rattle.mk_tool.proofs.PieceLemmas.{HoldsNo-digits, parted-append, parted-joined}
-use Rattle.mk_tool.proofs.WrittenLemmas.{path_of-decimal, path_of-written}
-use Rattle.mk_tool.proofs.TargetLemmas.{and_then-some, map-some, path_holds, name_holds, count_of-decimal, count_of-written}
+use Rattle.mk_script.specs.Paths.{parted, number_of, path_of}
+use Rattle.mk_script.specs.Targets.{is_name, count_of}
+use Rattle.mk_script.specs.Script.{ScriptWord, Bodies, Replaces, Inserts, Removes, Wraps, piece_of, with_piece, placing, with_place, with_places, inserting, removing, with_subtype, with_wrapping, wrapping, word_on}
+use Rattle.mk_script.specs.Written.{IsPath, IsPiece, written_path, written_place, IsWord, written}
+use Rattle.mk_script.proofs.NumberLemmas.{some_same, none_some, number_of-decimal, number_of-written, decimal_digits}
+use Rattle.mk_script.proofs.PieceLemmas.{HoldsNo-digits, parted-append, parted-joined}
+use Rattle.mk_script.proofs.WrittenLemmas.{path_of-decimal, path_of-written}
+use Rattle.mk_script.proofs.TargetLemmas.{and_then-some, map-some, path_holds, name_holds, count_of-decimal, count_of-written}
 
 -- a word's name, a space and what it is given make up the line
 pub named : (name line : List ℕ) (word : ScriptWord) (p : List ℕ × List ℕ) → line ≡ p.0 ++ (space ∷ p.1) → bytes_eq p.0 name ≡ true

@@ -3,8 +3,8 @@ use Rattle.std.proofs.Common.{◌≡◌, ◌+◌, ℕ, false, Option, List, [], 
 use Rattle.std.proofs.lemmas.List.{length-map}
 use Rattle.std.specs.Global.{Vec}
 use Rattle.mk_line.specs.Lines.{TextLine}
-use Rattle.mk_tool.specs.Script.{ScriptLine, NumberedLine, is_skipped, line_of, lines_from}
-use Rattle.mk_tool.specs.ScriptViews.{texts_of}
+use Rattle.mk_script.specs.Script.{ScriptLine, NumberedLine, is_skipped, line_of, lines_from}
+use Rattle.mk_script.specs.ScriptViews.{texts_of}
 
 pub lines_turn : (count number : ℕ) (all more : List NumberedLine) (line : TextLine) (lines : List TextLine) (said : Option ScriptLine) (t : List NumberedLine) → is_skipped line.content ≡ false → line_of count line.content ≡ said
     → all ++ lines_from count number (line ∷ lines) ≡ t → more ≡ all ++ (number, said) ∷ [] → more ++ lines_from count (number + 1) lines ≡ t

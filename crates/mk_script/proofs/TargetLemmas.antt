@@ -8,12 +8,12 @@ use Rattle.std.specs.List.{list_any}
 use Rattle.std.specs.Option.{option_map, option_and_then}
 use Rattle.std.specs.Str.{bytes_eq}
 use Rattle.mk_line.specs.Ascii.{space}
-use Rattle.mk_tool.specs.Paths.{dot, parted, number_of, path_of}
-use Rattle.mk_tool.specs.Targets.{Target, is_name, count_of, with_count, target_of, whole_target, before_rest, target_front}
-use Rattle.mk_tool.specs.Written.{IsPath, written_path, IsTarget, written_target}
-use Rattle.mk_tool.proofs.NumberLemmas.{some_same, none_some, number_of-decimal, number_of-written, decimal_digits}
-use Rattle.mk_tool.proofs.PieceLemmas.{HoldsNo, HoldsNo-digits, HoldsNo-join, parted-append, parted-joined}
-use Rattle.mk_tool.proofs.WrittenLemmas.{decimals_hold, path_of-decimal, path_of-written}
+use Rattle.mk_script.specs.Paths.{dot, parted, number_of, path_of}
+use Rattle.mk_script.specs.Targets.{Target, is_name, count_of, with_count, target_of, whole_target, before_rest, target_front}
+use Rattle.mk_script.specs.Written.{IsPath, written_path, IsTarget, written_target}
+use Rattle.mk_script.proofs.NumberLemmas.{some_same, none_some, number_of-decimal, number_of-written, decimal_digits}
+use Rattle.mk_script.proofs.PieceLemmas.{HoldsNo, HoldsNo-digits, HoldsNo-join, parted-append, parted-joined}
+use Rattle.mk_script.proofs.WrittenLemmas.{decimals_hold, path_of-decimal, path_of-written}
 
 -- a value that is read in two steps was read in the first
 pub and_then-some : {A B : Type 0} (f : A → Option B) (o : Option A) (b : B) → option_and_then f o ≡ Some b → (a : A) × (o ≡ Some a) × (f a ≡ Some b)

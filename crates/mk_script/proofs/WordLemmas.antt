@@ -4,15 +4,15 @@ use Rattle.std.proofs.lemmas.Bool.{cases_Bool}
 use Rattle.std.specs.Option.{option_map, option_and_then}
 use Rattle.std.specs.Str.{bytes_eq}
 use Rattle.mk_line.specs.Ascii.{space}
-use Rattle.mk_tool.specs.Paths.{parted, path_of}
-use Rattle.mk_tool.specs.Targets.{Target, is_name, whole_target, target_front}
-use Rattle.mk_tool.specs.Script.{ScriptWord, Adds, Deletes, Renames, Sets, Bodies, Replaces, Inserts, Removes, Wraps, adding, deleting, renaming, setting, word_at, word_with, word_of}
-use Rattle.mk_tool.specs.Written.{IsPath, written_path, written_target, written_place, IsWord, written}
-use Rattle.mk_tool.proofs.NumberLemmas.{some_same, none_some}
-use Rattle.mk_tool.proofs.PieceLemmas.{HoldsNo, parted-append, parted-joined}
-use Rattle.mk_tool.proofs.WrittenLemmas.{path_of-decimal, path_of-written}
-use Rattle.mk_tool.proofs.PieceWords.{named, word_on-parts, placing-written, inserting-written, wrapping-written}
-use Rattle.mk_tool.proofs.TargetLemmas.{and_then-some, map-some, path_holds, whole_target-read, whole_target-written, target_front-read, target_front-written}
+use Rattle.mk_script.specs.Paths.{parted, path_of}
+use Rattle.mk_script.specs.Targets.{Target, is_name, whole_target, target_front}
+use Rattle.mk_script.specs.Script.{ScriptWord, Adds, Deletes, Renames, Sets, Bodies, Replaces, Inserts, Removes, Wraps, adding, deleting, renaming, setting, word_at, word_with, word_of}
+use Rattle.mk_script.specs.Written.{IsPath, written_path, written_target, written_place, IsWord, written}
+use Rattle.mk_script.proofs.NumberLemmas.{some_same, none_some}
+use Rattle.mk_script.proofs.PieceLemmas.{HoldsNo, parted-append, parted-joined}
+use Rattle.mk_script.proofs.WrittenLemmas.{path_of-decimal, path_of-written}
+use Rattle.mk_script.proofs.PieceWords.{named, word_on-parts, placing-written, inserting-written, wrapping-written}
+use Rattle.mk_script.proofs.TargetLemmas.{and_then-some, map-some, path_holds, whole_target-read, whole_target-written, target_front-read, target_front-written}
 
 -- the name of a word that adds a field
 abbrev name_of : Bool → List ℕ

@@ -4,10 +4,10 @@ use Rattle.std.proofs.lemmas.Bool.{cases_Bool, le-leb, leb-true}
 use Rattle.std.specs.List.{join_with_byte}
 use Rattle.std.specs.Option.{option_and_then}
 use Rattle.std.specs.Char.{digit_value}
-use Rattle.mk_tool.specs.Paths.{dot, max_components, pieces_of, number_of, with_number, numbers_of, short_path, path_of}
-use Rattle.mk_tool.specs.Written.{AreComponents, IsPath, written_path}
-use Rattle.mk_tool.proofs.NumberLemmas.{some_same, none_some, number_of-decimal, number_of-written, decimal_digits}
-use Rattle.mk_tool.proofs.PieceLemmas.{AllHoldNo, HoldsNo-digits, pieces_of-join, join-pieces_of, pieces_of-some, HasFirst}
+use Rattle.mk_script.specs.Paths.{dot, max_components, pieces_of, number_of, with_number, numbers_of, short_path, path_of}
+use Rattle.mk_script.specs.Written.{AreComponents, IsPath, written_path}
+use Rattle.mk_script.proofs.NumberLemmas.{some_same, none_some, number_of-decimal, number_of-written, decimal_digits}
+use Rattle.mk_script.proofs.PieceLemmas.{AllHoldNo, HoldsNo-digits, pieces_of-join, join-pieces_of, pieces_of-some, HasFirst}
 
 numbers_of-with : (piece : List ℕ) (pieces : List (List ℕ)) (numbers : List ℕ) (first : Option ℕ) (others : Option (List ℕ))
     → number_of piece ≡ first → ((ns : List ℕ) → others ≡ Some ns → AreComponents ns × (pieces ≡ map decimal ns))

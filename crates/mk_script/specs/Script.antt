@@ -4,8 +4,8 @@ use Rattle.std.specs.Option.{option_map, option_and_then}
 use Rattle.std.specs.Str.{bytes_eq}
 use Rattle.mk_line.specs.Ascii.{space}
 use Rattle.mk_line.specs.Lines.{TextLine, cut}
-use Rattle.mk_tool.specs.Paths.{parted, number_of, path_of}
-use Rattle.mk_tool.specs.Targets.{Target, is_name, count_of, whole_target, target_front}
+use Rattle.mk_script.specs.Paths.{parted, number_of, path_of}
+use Rattle.mk_script.specs.Targets.{Target, is_name, count_of, whole_target, target_front}
 
 -- b'#'
 abbrev pub number_sign : ℕ

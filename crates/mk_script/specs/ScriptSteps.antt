@@ -1,6 +1,6 @@
 -- The steps of a script: its lines, those between `begin` and `end` together; and its faults (own).
 use Rattle.std.specs.Prelude.{◌||◌, ◌++◌, if◌then◌else◌, not, ℕ, Bool, true, false, List, [], ◌∷◌, Option, None, Some, Result, Ok, Err}
-use Rattle.mk_tool.specs.Script.{ScriptWord, ScriptLine, Edits, Undoes, Redoes, Begins, Ends, NumberedLine, lines_of}
+use Rattle.mk_script.specs.Script.{ScriptWord, ScriptLine, Edits, Undoes, Redoes, Begins, Ends, NumberedLine, lines_of}
 
 -- a step: an edit, with the number of its line; edits as a group; or undoing and redoing
 pub data ScriptStep : Type 0 where

@@ -2,20 +2,20 @@
 use Rattle.std.specs.Prelude.{◌≡◌, ℕ, List, Result, Err, map}
 use Rattle.std.specs.Global.{Vec}
 use Rattle.std.specs.Option.{option_map}
-use Rattle.mk_tool.specs.declared.script.Word.{Word}
-use Rattle.mk_tool.specs.declared.script.Word.TheVariants.{Add, Delete, Rename, Set, Body, Replace, Insert, Remove, Wrap}
-use Rattle.mk_tool.specs.declared.script.Said.{Said}
-use Rattle.mk_tool.specs.declared.script.Said.TheVariants.{Edit, Undo, Redo, Begin, End}
-use Rattle.mk_tool.specs.declared.script.NumberedLine.{NumberedLine as NumberedLineIn}
-use Rattle.mk_tool.specs.declared.groups.Step.{Step}
-use Rattle.mk_tool.specs.declared.groups.Step.TheVariants.{Edit as EditAlone, Group, Undo as UndoAt, Redo as RedoAt}
-use Rattle.mk_tool.specs.declared.script.NumberedWord.{NumberedWord}
-use Rattle.mk_tool.specs.declared.groups.ScriptError.{ScriptError}
-use Rattle.mk_tool.specs.declared.groups.ScriptError.TheVariants.{Syntax, Memory}
-use Rattle.mk_tool.specs.declared.targets.Target.{Target as TargetIn}
-use Rattle.mk_tool.specs.Targets.{Target}
-use Rattle.mk_tool.specs.Script.{ScriptWord, Adds, Deletes, Renames, Sets, Bodies, Replaces, Inserts, Removes, Wraps, ScriptLine, Edits, Undoes, Redoes, Begins, Ends, NumberedLine}
-use Rattle.mk_tool.specs.ScriptSteps.{ScriptStep, Makes, Groups, TakesBack, MakesAgain}
+use Rattle.mk_script.specs.declared.script.Word.{Word}
+use Rattle.mk_script.specs.declared.script.Word.TheVariants.{Add, Delete, Rename, Set, Body, Replace, Insert, Remove, Wrap}
+use Rattle.mk_script.specs.declared.script.Said.{Said}
+use Rattle.mk_script.specs.declared.script.Said.TheVariants.{Edit, Undo, Redo, Begin, End}
+use Rattle.mk_script.specs.declared.script.NumberedLine.{NumberedLine as NumberedLineIn}
+use Rattle.mk_script.specs.declared.groups.Step.{Step}
+use Rattle.mk_script.specs.declared.groups.Step.TheVariants.{Edit as EditAlone, Group, Undo as UndoAt, Redo as RedoAt}
+use Rattle.mk_script.specs.declared.script.NumberedWord.{NumberedWord}
+use Rattle.mk_script.specs.declared.groups.ScriptError.{ScriptError}
+use Rattle.mk_script.specs.declared.groups.ScriptError.TheVariants.{Syntax, Memory}
+use Rattle.mk_script.specs.declared.targets.Target.{Target as TargetIn}
+use Rattle.mk_script.specs.Targets.{Target}
+use Rattle.mk_script.specs.Script.{ScriptWord, Adds, Deletes, Renames, Sets, Bodies, Replaces, Inserts, Removes, Wraps, ScriptLine, Edits, Undoes, Redoes, Begins, Ends, NumberedLine}
+use Rattle.mk_script.specs.ScriptSteps.{ScriptStep, Makes, Groups, TakesBack, MakesAgain}
 
 -- the field that a word picks
 abbrev pub picked_by : TargetIn → Target

@@ -5,7 +5,7 @@ use Rattle.std.specs.Option.{option_map, option_and_then}
 use Rattle.std.specs.Str.{bytes_eq}
 use Rattle.mk_line.specs.Ascii.{space}
 use Rattle.mk_line.specs.Lines.{is_nil}
-use Rattle.mk_tool.specs.Paths.{parted, number_of, path_of}
+use Rattle.mk_script.specs.Paths.{parted, number_of, path_of}
 
 -- a field of the section at a path: the k-th of a name
 pub record Target : Type 0 where

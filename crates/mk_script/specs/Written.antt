@@ -2,9 +2,9 @@
 use Rattle.std.specs.Prelude.{◌≡◌, ◌<◌, ◌≤◌, ◌^◌, ◌↔◌, if◌then◌else◌, true, ℕ, List, [], ◌∷◌, ◌++◌, Some, length, map, codes, decimal}
 use Rattle.std.specs.List.{join_with_byte}
 use Rattle.mk_line.specs.Ascii.{space}
-use Rattle.mk_tool.specs.Paths.{dot, max_components}
-use Rattle.mk_tool.specs.Targets.{Target, is_name}
-use Rattle.mk_tool.specs.Script.{ScriptWord, Adds, Deletes, Renames, Sets, Bodies, Replaces, Inserts, Removes, Wraps, ScriptLine, Edits, Undoes, Redoes, Begins, Ends, line_of}
+use Rattle.mk_script.specs.Paths.{dot, max_components}
+use Rattle.mk_script.specs.Targets.{Target, is_name}
+use Rattle.mk_script.specs.Script.{ScriptWord, Adds, Deletes, Renames, Sets, Bodies, Replaces, Inserts, Removes, Wraps, ScriptLine, Edits, Undoes, Redoes, Begins, Ends, line_of}
 
 -- numbers from 1 on that fit 32 bits
 abbrev pub AreComponents : List ℕ → Type 0

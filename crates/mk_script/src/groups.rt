@@ -2,9 +2,9 @@
 
 ghost use Rattle.std.specs.Prelude.{◌≡◌, false, None, map, Ok, IfOk, IfErr};
 ghost use Rattle.std.specs.Option.{option_map};
-ghost use Rattle.mk_tool.specs.ScriptSteps.{first_fault as fault_of, has_end as ends, is_fault as faulty, script_of, steps_from};
-ghost use Rattle.mk_tool.specs.ScriptViews.{line_by, line_in, step_by, Explains};
-ghost use Rattle.mk_tool.specs.declared.groups.ScriptError.TheVariants.{Memory};
+ghost use Rattle.mk_script.specs.ScriptSteps.{first_fault as fault_of, has_end as ends, is_fault as faulty, script_of, steps_from};
+ghost use Rattle.mk_script.specs.ScriptViews.{line_by, line_in, step_by, Explains};
+ghost use Rattle.mk_script.specs.declared.groups.ScriptError.TheVariants.{Memory};
 
 use crate::script::{NumberedLine, NumberedWord, Said, lines};
 use std::alloc::{AllocError, AllocFailed, Global};

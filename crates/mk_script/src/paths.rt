@@ -3,8 +3,8 @@
 ghost use Rattle.std.specs.Prelude.{◌≡◌, ◌<◌, ◌==◌, ◌∷◌, length, option_copied, IfOk, IfSome};
 ghost use Rattle.std.specs.List.{position};
 ghost use Rattle.std.specs.Option.{option_map};
-ghost use Rattle.mk_tool.specs.Paths.{dot, parted as parted_at, pieces_of, pieces_behind, number_of, numbers_of, path_of};
-ghost use Rattle.mk_tool.specs.Targets.{count_of};
+ghost use Rattle.mk_script.specs.Paths.{dot, parted as parted_at, pieces_of, pieces_behind, number_of, numbers_of, path_of};
+ghost use Rattle.mk_script.specs.Targets.{count_of};
 
 use std::alloc::{AllocError, Global};
 

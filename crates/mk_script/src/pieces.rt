@@ -2,10 +2,10 @@
 
 ghost use Rattle.std.specs.Prelude.{◌≡◌, IfOk, IfSome};
 ghost use Rattle.std.specs.Option.{option_map};
-ghost use Rattle.mk_tool.specs.Script.{inserting, piece_of, placing, removing, word_on, wrapping, Bodies, Replaces};
-ghost use Rattle.mk_tool.specs.ScriptViews.{said_by};
+ghost use Rattle.mk_script.specs.Script.{inserting, piece_of, placing, removing, word_on, wrapping, Bodies, Replaces};
+ghost use Rattle.mk_script.specs.ScriptViews.{said_by};
 
-use crate::path::{count, number, parted, path};
+use crate::paths::{count, number, parted, path};
 use crate::script::Word;
 use crate::targets::{SPACE, is_name};
 use std::alloc::{AllocError, Global};

@@ -2,10 +2,10 @@
 
 ghost use Rattle.std.specs.Prelude.{◌≡◌, ◌+◌, map, IfOk};
 ghost use Rattle.std.specs.Option.{option_map};
-ghost use Rattle.mk_tool.specs.Script.{adding, deleting, renaming, setting, word_at, word_with, word_of, line_of, lines_of, is_skipped as skips};
-ghost use Rattle.mk_tool.specs.ScriptViews.{said_by, line_by, line_in};
+ghost use Rattle.mk_script.specs.Script.{adding, deleting, renaming, setting, word_at, word_with, word_of, line_of, lines_of, is_skipped as skips};
+ghost use Rattle.mk_script.specs.ScriptViews.{said_by, line_by, line_in};
 
-use crate::path::{parted, path};
+use crate::paths::{parted, path};
 use crate::pieces::read_on;
 use crate::targets::{SPACE, Target, is_name, target_front, whole_target};
 use mk_line::cut;

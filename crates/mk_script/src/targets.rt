@@ -2,10 +2,10 @@
 
 ghost use Rattle.std.specs.Prelude.{◌≡◌, IfOk};
 ghost use Rattle.std.specs.Option.{option_map};
-ghost use Rattle.mk_tool.specs.ScriptViews.{picked_by};
-ghost use Rattle.mk_tool.specs.Targets.{is_name as names, target_of, whole_target as whole_of, target_front as front_of};
+ghost use Rattle.mk_script.specs.ScriptViews.{picked_by};
+ghost use Rattle.mk_script.specs.Targets.{is_name as names, target_of, whole_target as whole_of, target_front as front_of};
 
-use crate::path::{count, parted, path};
+use crate::paths::{count, parted, path};
 use std::alloc::{AllocError, Global};
 
 /// What parts the words of a line.

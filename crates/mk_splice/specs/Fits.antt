@@ -1,7 +1,6 @@
--- A history kept as the text that stands now, the steps, and how many of them are done.
+-- Steps that fit a text: each finds the bytes that it replaces (own).
 use Rattle.std.specs.Prelude.{◌≤◌, ℕ, List, [], ◌∷◌, length, take, drop}
-use Rattle.mk_edit.specs.Splices.{Splice, forth_step, back_step, GoesForth, GoesBack}
-use Rattle.mk_edit.specs.History.{History}
+use Rattle.mk_splice.specs.Splices.{Splice, forth_step, back_step, GoesForth, GoesBack}
 
 -- steps taken back, from the last to the first
 abbrev pub back_all : List (List Splice) → List ℕ → List ℕ
@@ -13,15 +12,6 @@ abbrev pub forth_all : List (List Splice) → List ℕ → List ℕ
 forth_all [] x = x
 forth_all (s ∷ ss) x = forth_all ss (forth_step s x)
 
--- the texts that steps give, one after another
-abbrev pub texts_behind : List ℕ → List (List Splice) → List (List ℕ)
-texts_behind x [] = []
-texts_behind x (s ∷ ss) = forth_step s x ∷ texts_behind (forth_step s x) ss
-
--- the same with the first text
-abbrev pub texts_from : List ℕ → List (List Splice) → List (List ℕ)
-texts_from x ss = x ∷ texts_behind x ss
-
 -- each step can be taken back, from the last to the first
 abbrev pub AllBack : List (List Splice) → List ℕ → Type 0
 AllBack [] x = Unit {0}
@@ -31,10 +21,6 @@ AllBack (s ∷ ss) x = AllBack ss x × GoesBack s (back_all ss x)
 abbrev pub AllForth : List (List Splice) → List ℕ → Type 0
 AllForth [] x = Unit {0}
 AllForth (s ∷ ss) x = GoesForth s x × AllForth ss (forth_step s x)
-
--- the history of a text and steps of which so many are done
-abbrev pub history_of : List ℕ → List (List Splice) → ℕ → History
-history_of x ss done = record { texts = texts_from (back_all (take done ss) x) ss; steps = ss; place = done }
 
 -- the done steps can be taken back from the text, and the others made
 pub record Fit (x : List ℕ) (ss : List (List Splice)) (done : ℕ) : Type 0 where

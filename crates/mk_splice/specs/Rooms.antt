@@ -1,6 +1,6 @@
 -- How many bytes a step puts in.
 use Rattle.std.specs.Prelude.{◌+◌, ℕ, List, [], ◌∷◌, length}
-use Rattle.mk_edit.specs.Splices.{Splice}
+use Rattle.mk_splice.specs.Splices.{Splice}
 
 -- taken back
 abbrev pub olds : List Splice → ℕ

@@ -1,6 +1,9 @@
 -- Replacing bytes at a place, forth and back (own).
-use Rattle.std.specs.Prelude.{◌≡◌, ◌+◌, ◌≤◌, ℕ, List, [], ◌∷◌, length}
-use Rattle.mk_tree.specs.Splicing.{spliced}
+use Rattle.std.specs.Prelude.{◌≡◌, ◌+◌, ◌≤◌, ◌++◌, ℕ, List, [], ◌∷◌, length, take, drop}
+
+-- a text with `new` in the place of `count` bytes at `place`
+abbrev pub spliced : ℕ → ℕ → List ℕ → List ℕ → List ℕ
+spliced place count new text = take place text ++ (new ++ drop (place + count) text)
 
 -- a place, the old bytes and the new ones
 pub record Splice : Type 0 where
@@ -40,3 +43,10 @@ GoesForth (s ∷ ss) text = Stands s.place s.old text × GoesForth ss (forth_one
 abbrev pub GoesBack : List Splice → List ℕ → Type 0
 GoesBack [] text = Unit {0}
 GoesBack (s ∷ ss) text = GoesBack ss text × Stands s.place s.new (back_step ss text)
+
+-- splices lead from a text to another and back, and each finds the bytes that it replaces, both ways
+pub record LeadsTo (ss : List Splice) (text other : List ℕ) : Type 0 where
+  pub found : GoesForth ss text
+  pub forth : forth_step ss text ≡ other
+  pub found_back : GoesBack ss other
+  pub back : back_step ss other ≡ text

@@ -1,11 +1,10 @@
-//! Replacing bytes of a text in place, and steps of such replacements, forth and back.
-ghost use Rattle.std.specs.Prelude.{◌≡◌, ◌+◌, ◌≤◌, IfOk, OnOk, OnErr, IsOk, IfSome, length, map, take, drop, vec_len, vec_capacity};
-ghost use Rattle.mk_edit.specs.Splices.{back_step, forth_step, GoesBack, GoesForth};
-ghost use Rattle.mk_tree.specs.Splicing.{spliced};
-ghost use Rattle.mk_edit.specs.Rooms.{olds, news};
-ghost use Rattle.mk_edit.specs.Views.{splice_of};
+//! Steps of replacements of a text's bytes, made and taken back.
+ghost use Rattle.std.specs.Prelude.{◌≡◌, ◌+◌, ◌≤◌, IfOk, OnOk, OnErr, IfSome, length, map, take, drop};
+ghost use Rattle.mk_splice.specs.Splices.{back_step, forth_step, GoesBack, GoesForth};
+ghost use Rattle.mk_splice.specs.Rooms.{olds, news};
+ghost use Rattle.mk_splice.specs.Views.{splice_of};
 
-use mk_tree::replace_within;
+use crate::replacing::replace_within;
 use std::alloc::{AllocError, Global};
 
 /// A place in a text, the bytes that stood there and those that took their place.
@@ -13,15 +12,6 @@ use std::alloc::{AllocError, Global};
 pub struct Splice {
     pub place: usize,
     pub old: Vec<u8>,
-    pub new: Vec<u8>,
-}
-
-/// Bytes in the place of others.
-#[derive(Debug, Drop)]
-pub(crate) struct Replacement {
-    /// Where they stand in the document, in bytes from 0.
-    pub place: usize,
-    pub count: usize,
     pub new: Vec<u8>,
 }
 

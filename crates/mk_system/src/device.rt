@@ -2,7 +2,7 @@
 
 ghost use Rattle.std.specs.Prelude.{◌≡◌, ◌<◌};
 
-use mk_mail::{Fault, Sink, Source};
+use mk_mailbox::{Fault, Sink, Source};
 use std::io::{Read, Write};
 
 /// A reader as a source.

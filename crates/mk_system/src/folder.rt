@@ -1,39 +1,16 @@
-//! Folders that files are put into.
+//! Folders of the system.
 
-ghost use Rattle.std.specs.Prelude.{◌≡◌, ℕ, true, Option, None, OnOk, OnErr};
-ghost use Rattle.mk_line.specs.Meters.{ticked};
-ghost use Rattle.mk_mail.specs.GivenNames.{is_safe};
-ghost use Rattle.mk_tool.specs.Folders.{Files as FilesOf, Puts};
+ghost use Rattle.std.specs.Prelude.{◌≡◌, None};
 
 use crate::device::Output;
-use crate::transfer::write_all;
-use mk_mail::Fault;
+use mk_mailbox::Fault;
+use mk_run::{Folder, write_all};
 use std::alloc::{AllocError, Global};
 use std::fs::OpenOptions;
 use std::rt::Files;
 use std::{fs, io};
 
 const SLASH: char = '/';
-
-/// A device that keeps files by their names. It counts its failures; the count stays at the greatest `u64` once it is there.
-pub trait Folder {
-    /// The files that stand in it, where the device tells them: those of a real folder are not known.
-    ghost files: { Self → Option FilesOf };
-
-    ghost failures: { Self → ℕ };
-
-    /// Puts a text under a name, which leads to nothing outside the folder, and answers true. Where a file has the name and
-    /// `over` is false it writes nothing and answers false.
-    fn put(&mut self, name: &[u8], text: &[u8], over: bool) -> Result<bool, Fault>
-        requires { is_safe name.now ≡ true }
-        ensures files { Puts result over (files self.old) (files self.new) name.now text.now }
-        ensures failed { OnErr result (failures self.new ≡ ticked (failures self.old)) }
-        ensures went_well { OnOk result (failures self.new ≡ failures self.old) };
-
-    /// How many times it failed.
-    fn faults(&self) -> u64
-        ensures { result ≡ failures self.now };
-}
 
 /// A folder of the system. It is made at the first file, where it isn't there.
 #[derive(Drop)]

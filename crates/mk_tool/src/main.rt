@@ -1,31 +1,14 @@
 //! `mimetool`: an editor for Internet messages with exact undo.
 #![tactic(auto)]
 
-mod answers;
-mod device;
-mod engine;
-mod fields;
-mod filtering;
-mod folder;
-mod groups;
-pub mod laws;
 mod letters;
 mod options;
-mod packing;
-mod parts;
-mod path;
-mod pieces;
 mod program;
-mod report;
-mod script;
-mod showing;
-mod status;
-mod steps;
-mod targets;
-mod transfer;
-mod unpacking;
 
-use device::{Input, Output};
+pub use mk_run::{
+    Folder, Status, laws, run_edit, run_extract, run_field, run_pack, run_sections, unpack,
+};
+use mk_system::{Input, Output};
 use std::process::ExitCode;
 
 fn main(rt: HostRuntime) -> ExitCode {

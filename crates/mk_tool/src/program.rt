@@ -1,24 +1,20 @@
 //! The program: from its command line to its exit status.
 
-use crate::device::Input;
-use crate::engine::{give_up, run_edit};
-use crate::filtering::run_field;
-use crate::folder::Directory;
-use crate::letters::letters;
+use crate::letters::letter_words;
 use crate::options::{
     BOUNDARY, DIR, EACH, EDIT, EXTRACT, FIELD, OVER, PACK, PATH, PIECE, SCRIPT, SECTIONS, SILENT,
     SPEC, TEXTS, UNPACK, command,
 };
-use crate::packing::run_pack;
-use crate::parts::Spec;
-use crate::path::numbers;
-use crate::showing::{run_extract, run_sections};
-use crate::status::{Cause, Status};
-use crate::transfer::{Stop, read_all, write_all};
-use crate::unpacking::unpack;
 use clap::ArgMatches;
 use clap::error::ErrorKind;
 use mk_mail::{Attach, Sink, Source};
+use mk_run::{
+    Cause, Spec, Status, Stop, give_up, read_all, run_edit, run_extract, run_field, run_pack,
+    run_sections, unpack, write_all,
+};
+use mk_script::numbers;
+use mk_system::{Directory, Input};
+use std::alloc::Global;
 use std::rt::{Env, Files};
 use std::{env, fs, io};
 
@@ -27,21 +23,15 @@ const USAGE: &[u8] = b"mimetool: usage\n";
 /// The folder that files are written to where none is named.
 const WORKING_FOLDER: &str = ".";
 
-/// Does what the command line says and answers the exit status.
-pub fn run<R: Env + Files + Print + Eprint + AllocGlobal, S: Source, O: Sink, E: Sink>(
+/// Does what the command line says and answers the exit status. A command line that isn't text as a whole is a usage fault.
+pub fn run<R: Env + Files + AllocGlobal, S: Source, O: Sink, E: Sink>(
     rt: &R,
     input: &mut S,
     out: &mut O,
     err: &mut E,
 ) -> Status {
     match words(rt) {
-        Ok(words) => match command(rt.alloc()) {
-            Ok(command) => match command.try_get_matches_from(words.as_slice()) {
-                Ok(matches) => run_matches(rt, &matches, input, out, err),
-                Err(error) => refuse(rt, &error, err),
-            },
-            Err(_) => give_up(err, Cause::Memory),
-        },
+        Ok(words) => obey(rt, &words, input, out, err),
         Err(error) => match error.kind() {
             io::ErrorKind::OutOfMemory => give_up(err, Cause::Memory),
             _ => usage(err),
@@ -49,28 +39,49 @@ pub fn run<R: Env + Files + Print + Eprint + AllocGlobal, S: Source, O: Sink, E:
     }
 }
 
-// The words of the command line. Those that are not text as a whole are an error.
+// The words of the command line, the program's name first. Those that are not text as a whole are an error.
 fn words<R: Env + AllocGlobal>(rt: &R) -> io::Result<Vec<String>> {
     let words = env::args(rt)?.collect(rt.alloc())?;
     Ok(words)
 }
 
-// Prints what clap says: help or the version, or why it refuses the command line.
-fn refuse<R: Print + Eprint, E: Sink>(rt: &R, error: &clap::Error, err: &mut E) -> Status {
+/// Does what these words say, the program's name first, and answers the exit status. What clap says goes to the errors;
+/// help and the version go to the output.
+pub fn obey<R: Files + AllocGlobal, S: Source, O: Sink, E: Sink>(
+    rt: &R,
+    words: &[String],
+    input: &mut S,
+    out: &mut O,
+    err: &mut E,
+) -> Status {
+    let Ok(command) = command(rt.alloc()) else {
+        return give_up(err, Cause::Memory);
+    };
+    match command.try_get_matches_from(words) {
+        Ok(matches) => run_matches(rt, &matches, input, out, err),
+        Err(error) => show(rt.alloc(), &error, out, err),
+    }
+}
+
+// Writes what clap says: help or the version, or why it refuses the command line.
+fn show<O: Sink, E: Sink>(alloc: Global, error: &clap::Error, out: &mut O, err: &mut E) -> Status {
     if error.kind() == ErrorKind::OutOfMemory {
         return give_up(err, Cause::Memory);
     }
-    let printed = error.print(rt);
+    let Ok(text) = format!(in alloc; "{error}") else {
+        return give_up(err, Cause::Memory);
+    };
     if error.use_stderr() {
+        let _ = write_all(err, text.as_bytes());
         Status::Usage
-    } else if printed.is_ok() {
+    } else if write_all(out, text.as_bytes()).is_ok() {
         Status::Well
     } else {
         give_up(err, Cause::Write)
     }
 }
 
-// Says that the command line is no use. Where that fails too, nothing more is tried.
+// Says that the command line is invalid. Where that fails too, nothing more is tried.
 fn usage<E: Sink>(err: &mut E) -> Status {
     let _ = write_all(err, USAGE);
     Status::Usage
@@ -192,7 +203,7 @@ fn field<R: AllocGlobal, S: Source, O: Sink, E: Sink>(
     out: &mut O,
     err: &mut E,
 ) -> Status {
-    match letters(rt.alloc(), matches) {
+    match letter_words(matches).letters(rt.alloc()) {
         Ok(Some(letters)) => {
             if letters.ok() {
                 let each = matches.get_flag(EACH);

@@ -12,7 +12,8 @@ use Rattle.mk_tree.specs.Spans.{size}
 use Rattle.mk_tree.specs.Places.{append_parts, placed, put}
 use Rattle.mk_tree.specs.Sections.{preamble_lines}
 use Rattle.mk_tree.specs.Equal.{entity_eq}
-use Rattle.mk_tree.specs.Splicing.{spliced, part_count, ChangesFields, SectionBecomes, HasBody, HasText, HasPart, LacksPart, PartGoes}
+use Rattle.mk_splice.specs.Splices.{spliced}
+use Rattle.mk_tree.specs.Splicing.{part_count, ChangesFields, SectionBecomes, HasBody, HasText, HasPart, LacksPart, PartGoes}
 use Rattle.mk_tree.proofs.Equals.{entity_same}
 use Rattle.mk_tree.proofs.Kept.{text_kept}
 use Rattle.mk_tree.proofs.Stability.{read_stable}

@@ -1,26 +1,16 @@
 -- A text without the line ending at its end, as lines whose last has lost its ending.
-use Rattle.std.proofs.Common.{◌≡◌, ◌≢◌, ◌==◌, if◌then◌else◌, ℕ, Bool, true, false, List, [], ◌∷◌, ◌++◌, refl, ap, sym, ◌∙◌, inl, inr, append_assoc}
+use Rattle.std.proofs.Common.{◌≡◌, ◌≢◌, ◌==◌, ℕ, false, List, [], ◌∷◌, ◌++◌, refl, ap, sym, ◌∙◌, inl, inr, append_assoc}
 use Rattle.std.proofs.lemmas.Bool.Decides.{eqb_tells}
 use Rattle.std.proofs.lemmas.Bool.{cases_Bool, eqb-true}
 use Rattle.mk_line.specs.declared.cutting.Ending.{Ending}
 use Rattle.mk_line.specs.declared.cutting.Ending.TheVariants.{Crlf, Lf, Missing}
-use Rattle.mk_line.specs.Lines.{TextLine, text_line, printed_line, text_of, with_byte, onto_first, cut}
-use Rattle.mk_line.proofs.Cuts.{text_cut}
+use Rattle.mk_line.specs.Lines.{TextLine, text_line, text_of, with_byte, onto_first, cut}
+use Rattle.mk_line.proofs.Cuts.{printed_with, text_cut}
 use Rattle.mk_tree.specs.Sections.{unended}
 
 -- the bytes of lines whose last has lost its ending
 abbrev ended_text : List TextLine → List ℕ
 ended_text ls = text_of (unended ls)
-
-printed_if : (t : Bool) (byte : ℕ) → (t ≡ true → byte ≡ 13) → printed_line (if t then text_line [] Crlf else text_line (byte ∷ []) Lf) ≡ byte ∷ 10 ∷ []
-printed_if true byte h = ap (λ b. b ∷ 10 ∷ []) (sym (h refl))
-printed_if false byte h = refl
-
-printed_with : (byte : ℕ) (content : List ℕ) (e : Ending) → printed_line (with_byte byte (text_line content e)) ≡ byte ∷ printed_line (text_line content e)
-printed_with byte content Crlf = refl
-printed_with byte [] Lf = printed_if (byte == 13) byte (eqb-true byte 13)
-printed_with byte (next ∷ bytes) Lf = refl
-printed_with byte content Missing = refl
 
 -- a byte before lines stands before what is left of them, but for a CR before a lone line feed
 last_with : (byte : ℕ) (content : List ℕ) (e : Ending) → (byte ≡ 13 → text_line content e ∷ [] ≡ text_line [] Lf ∷ [] → ⊥) → ended_text (with_byte byte (text_line content e) ∷ []) ≡ byte ∷ ended_text (text_line content e ∷ [])

@@ -1,6 +1,5 @@
 -- A document where the fields of a section are changed, in bytes.
-use Rattle.std.proofs.Common.{◌≡◌, ◌≤◌, ◌+◌, ◌-◌, ◌++◌, ℕ, false, Option, List, ap, sym, ◌∙◌, length, take, drop, arith, length-append, length-drop}
-use Rattle.std.proofs.lemmas.List.{length-take-le}
+use Rattle.std.proofs.Common.{◌≡◌, ◌≤◌, ◌+◌, ◌-◌, ◌++◌, ℕ, false, Option, List, ap, sym, ◌∙◌, length, arith}
 use Rattle.mk_line.specs.Lines.{TextLine}
 use Rattle.mk_head.specs.Split.{option_line}
 use Rattle.mk_tree.specs.Tree.{Entity, print, field_lines, with_fields}
@@ -8,17 +7,14 @@ use Rattle.mk_tree.specs.Documents.{Document, IsStable, levels, printed}
 use Rattle.mk_tree.specs.Spans.{size}
 use Rattle.mk_tree.specs.Reading.{IsWellRead}
 use Rattle.mk_tree.specs.Places.{Frame, plug, put, lines_before, lines_after}
-use Rattle.mk_tree.specs.Splicing.{spliced, ChangesFields}
+use Rattle.mk_tree.specs.Splicing.{ChangesFields}
+use Rattle.mk_splice.proofs.Bytes.{length-spliced}
 use Rattle.mk_tree.proofs.WellRead.{well_of}
 use Rattle.mk_tree.proofs.Plugs.{print_plug}
 use Rattle.mk_tree.proofs.Stability.{stable_kept, parts_read}
 use Rattle.mk_tree.proofs.Descent.{size_append}
 use Rattle.mk_tree.proofs.Placed.{place_plug}
 use Rattle.mk_tree.proofs.OwnFields.{size_entity, rest_same, fields_are}
-
-pub length-spliced : (place n : ℕ) (new x : List ℕ) → place + n ≤ length x → length (spliced place n new x) + n ≡ length x + length new
-length-spliced place n new x h =
-    omega (arith, length-append (take place x) (new ++ drop (place + n) x), length-append new (drop (place + n) x), length-take-le place x (omega arith), length-drop (place + n) x)
 
 -- what is stable is read back level by level
 pub stable_well : (envelope : Option TextLine) (fs : List Frame) (e : Entity) → IsStable (put envelope fs e) → IsWellRead levels false (plug fs e)

@@ -13,11 +13,13 @@ use Rattle.mk_tree.specs.Spans.{size}
 use Rattle.mk_tree.specs.Sections.{body_lines}
 use Rattle.mk_tree.specs.Reading.{IsWellRead}
 use Rattle.mk_tree.specs.Places.{Frame, put, left_at, default_at, lines_before, lines_after, placed}
-use Rattle.mk_tree.specs.Splicing.{spliced, ChangesFields}
+use Rattle.mk_splice.specs.Splices.{spliced}
+use Rattle.mk_tree.specs.Splicing.{ChangesFields}
 use Rattle.mk_tree.proofs.Plugs.{print_plug, own_of}
 use Rattle.mk_tree.proofs.Stability.{stable_kept}
 use Rattle.mk_tree.proofs.Heads.{lines_front}
-use Rattle.mk_tree.proofs.FieldsChanged.{stable_well, around_is, field_sizes, length-spliced}
+use Rattle.mk_tree.proofs.FieldsChanged.{stable_well, around_is, field_sizes}
+use Rattle.mk_splice.proofs.Bytes.{length-spliced}
 
 -- a run of fields is read as it is
 run_again : (inside : Bool) (ls : List TextLine) → IsRun inside ls → fields_from inside ls ≡ ls

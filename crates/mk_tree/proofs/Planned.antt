@@ -15,7 +15,8 @@ use Rattle.mk_tree.specs.Reading.{IsWellRead}
 use Rattle.mk_tree.specs.Sections.{Placed, raw_of, body_lines, preamble_lines, has_part, has_tail, parts_placed, children, children_of}
 use Rattle.mk_tree.specs.Places.{append_parts}
 use Rattle.mk_tree.specs.Changed.{own_changed, redelimited, with_span, without_span, span_count}
-use Rattle.mk_tree.specs.Splicing.{spliced, part_count, HasBody, HasText}
+use Rattle.mk_splice.specs.Splices.{spliced}
+use Rattle.mk_tree.specs.Splicing.{part_count, HasBody, HasText}
 use Rattle.mk_tree.specs.Planning.{IsBehindParts, Makes, MakesAll}
 use Rattle.mk_tree.proofs.Counting.{counted_none}
 use Rattle.mk_tree.proofs.Descent.{size_append}

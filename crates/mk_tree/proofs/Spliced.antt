@@ -15,7 +15,8 @@ use Rattle.mk_tree.specs.Reading.{IsWellRead}
 use Rattle.mk_tree.specs.Sections.{Placed, section_at, head_text, raw_of}
 use Rattle.mk_tree.specs.Places.{Frame, below, left_at, default_at, lines_before, lines_after, place_at, step_to, placed, put}
 use Rattle.mk_tree.specs.Changed.{FitsOwn, LeadsTo, own_changed, respan}
-use Rattle.mk_tree.specs.Splicing.{spliced, ChangesFields, IsDigestOf, DigestsAt, DigestsBelow, SectionBecomes, LacksPart, PartGoes}
+use Rattle.mk_splice.specs.Splices.{spliced}
+use Rattle.mk_tree.specs.Splicing.{ChangesFields, IsDigestOf, DigestsAt, DigestsBelow, SectionBecomes, LacksPart, PartGoes}
 use Rattle.mk_tree.specs.Planning.{Makes, MakesAll, Puts}
 use Rattle.mk_tree.proofs.Kept.{text_kept}
 use Rattle.mk_tree.proofs.Descent.{size_append}
@@ -26,7 +27,8 @@ use Rattle.mk_tree.proofs.Stability.{stable_kept}
 use Rattle.mk_tree.proofs.OwnFields.{size_entity, own_fields, fields_fit}
 use Rattle.mk_tree.proofs.Respans.{Grows, respan_place}
 use Rattle.mk_tree.proofs.Leads.{leads_place}
-use Rattle.mk_tree.proofs.FieldsChanged.{field_sizes, around_is as fields_around, length-spliced, size_put, stable_well}
+use Rattle.mk_tree.proofs.FieldsChanged.{field_sizes, around_is as fields_around, size_put, stable_well}
+use Rattle.mk_splice.proofs.Bytes.{length-spliced}
 use Rattle.mk_tree.proofs.HeadChanged.{apart, spliced_middle, text_apart, fields_after, head_after, behind_fields, entity_lines, changed_lines}
 
 some_same : (p q : Placed) → ◌≡◌ {A = Option Placed} (Some p) (Some q) → p ≡ q

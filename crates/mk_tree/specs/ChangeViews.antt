@@ -3,7 +3,8 @@ use Rattle.std.specs.Prelude.{◌≡◌, ℕ, List}
 use Rattle.mk_tree.specs.declared.splicing.Change.{Change}
 use Rattle.mk_tree.specs.declared.splicing.Change.TheVariants as change
 use Rattle.mk_tree.specs.Documents.{Document, printed}
-use Rattle.mk_tree.specs.Splicing.{spliced, ChangesFields, SectionBecomes, HasBody, HasText, HasPart, PartGoes}
+use Rattle.mk_splice.specs.Splices.{spliced}
+use Rattle.mk_tree.specs.Splicing.{ChangesFields, SectionBecomes, HasBody, HasText, HasPart, PartGoes}
 
 -- a change of the section at a path leads from a document to another, which is stable
 abbrev pub ChangesTo : List ℕ → Change → Document → Document → Type 0

@@ -12,7 +12,8 @@ use Rattle.mk_tree.specs.Spans.{size, span_of}
 use Rattle.mk_tree.specs.Sections.{Placed, raw_of}
 use Rattle.mk_tree.specs.Changed.{FitsOwn, LeadsTo, own_changed, respan}
 use Rattle.mk_tree.specs.Places.{append_parts}
-use Rattle.mk_tree.specs.Splicing.{spliced, part_count, HasBody, HasText, HasPart, LacksPart}
+use Rattle.mk_splice.specs.Splices.{spliced}
+use Rattle.mk_tree.specs.Splicing.{part_count, HasBody, HasText, HasPart, LacksPart}
 
 -- what a section becomes
 abbrev pub Becomes : SectionChange → Entity → Entity → Type 0

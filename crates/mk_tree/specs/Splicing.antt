@@ -1,17 +1,14 @@
 -- Changing a section of a document in place.
-use Rattle.std.specs.Prelude.{◌≡◌, ◌≤◌, ◌+◌, ◌-◌, ◌++◌, ℕ, suc, Bool, false, Option, None, Some, List, [], ◌∷◌, take, drop}
+use Rattle.std.specs.Prelude.{◌≡◌, ◌≤◌, ◌+◌, ◌-◌, ◌++◌, ℕ, suc, Bool, false, Option, None, Some, List, [], ◌∷◌}
 use Rattle.mk_line.specs.Lines.{TextLine, cut, text_of}
 use Rattle.mk_head.specs.Split.{Head, head_lines, fields_from}
+use Rattle.mk_splice.specs.Splices.{spliced}
 use Rattle.mk_tree.specs.Kinds.{kind, is_digest}
 use Rattle.mk_tree.specs.Tree.{Entity, leaf, message, multi, Parts, no_parts, part, print, entity_head, field_lines, with_fields}
 use Rattle.mk_tree.specs.Documents.{Document, IsStable, printed}
 use Rattle.mk_tree.specs.Spans.{size}
 use Rattle.mk_tree.specs.Sections.{Placed, section_at, head_text}
 use Rattle.mk_tree.specs.Places.{Frame, append_parts, place_at, put, placed}
-
--- a text with `new` in the place of `count` bytes at `place`
-abbrev pub spliced : ℕ → ℕ → List ℕ → List ℕ → List ℕ
-spliced place count new text = take place text ++ (new ++ drop (place + count) text)
 
 -- `new` in the place of `count` bytes at `place`, among the fields of the section at a path, gives that section these
 -- fields, and the document that comes of it is stable

@@ -125,8 +125,8 @@ fn is_identity(encoding: Encoding) -> bool
     }
 }
 
-// The encoding that the fields in front of a text say.
-fn encoding_in(alloc: Global, head: &[u8]) -> Result<Encoding, AllocError>
+/// The transfer encoding that the fields in front of a text say.
+pub(crate) fn encoding_in(alloc: Global, head: &[u8]) -> Result<Encoding, AllocError>
     ensures { IfOk result (λ e. e ≡ header_encoding (fields_from false (lines_of head.now))) }
 {
     match value_in(alloc, head, b"Content-Transfer-Encoding")? {

@@ -21,7 +21,4 @@ pub use describing::{Described, describe};
 pub use doc::{Doc, LEVELS};
 pub use section::Section;
 pub use shapes::Kind;
-pub use splicing::{Change, replace, replace_within};
-
-#[cfg(test)]
-mod tests;
+pub use splicing::Change;

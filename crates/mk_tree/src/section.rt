@@ -4,10 +4,10 @@ ghost use Rattle.mk_line.specs.Lines.{cut as lines_of, text_of};
 ghost use Rattle.mk_tree.specs.Sections.{unended as unended_lines};
 
 use crate::children::Children;
-use crate::describing::value_in;
+use crate::describing::{encoding_in, value_in};
 use crate::node::Node;
 use crate::shapes::Kind;
-use mk_head::{Field, Fields, each_field};
+use mk_head::{Encoding, Field, Fields, each_field};
 use std::alloc::{AllocError, Global};
 use std::marker::Model;
 
@@ -48,7 +48,7 @@ impl<'a> Section<'a> {
     ghost use Rattle.mk_line.specs.Lines.{text_of};
     ghost use Rattle.mk_head.specs.Fields.{counted, find_field};
     ghost use Rattle.mk_head.specs.Split.{head_lines};
-    ghost use Rattle.mk_head.specs.Types.{field_value};
+    ghost use Rattle.mk_head.specs.Types.{field_value, header_encoding};
     ghost use Rattle.mk_head.specs.Views.{field_view};
     ghost use Rattle.mk_tree.specs.Forms.{form_digest, form_in, kind_in};
     ghost use Rattle.mk_tree.specs.Spans.{size};
@@ -221,6 +221,14 @@ impl<'a> Section<'a> {
     {
         let (head, _) = self.raw.split_at(self.node.fields);
         value_in(alloc, head, name)
+    }
+
+    /// Its transfer encoding; without a Content-Transfer-Encoding field it has none.
+    pub fn encoding(&self, alloc: Global) -> Result<Encoding, AllocError>
+        ensures { IfOk result (λ encoding. encoding ≡ header_encoding (field_lines self.now.entity)) }
+    {
+        let (head, _) = self.raw.split_at(self.node.fields);
+        encoding_in(alloc, head)
     }
 
     /// The sections directly below it, in order: the parts of a multipart, or the one message of a message.

@@ -1,10 +1,11 @@
 //! Changing a document in place.
-ghost use Rattle.std.specs.Prelude.{◌≡◌, ◌+◌, ◌-◌, ◌≤◌, false, length, vec_len, vec_capacity, IfOk, IfErr, OnOk, OnErr, IsOk};
+ghost use Rattle.std.specs.Prelude.{◌≡◌, ◌+◌, ◌-◌, ◌≤◌, false, length, IfOk, IfErr, OnOk, OnErr};
 ghost use Rattle.mk_head.specs.Split.{fields_from};
 ghost use Rattle.mk_line.specs.Lines.{cut as lines_of};
 ghost use Rattle.mk_tree.specs.Documents.{tree};
 ghost use Rattle.mk_tree.specs.Sections.{head_text};
-ghost use Rattle.mk_tree.specs.Splicing.{changed_fields, spliced, ChangesFields, IsDigestOf};
+ghost use Rattle.mk_tree.specs.Splicing.{changed_fields, ChangesFields, IsDigestOf};
+ghost use Rattle.mk_splice.specs.Splices.{spliced};
 
 use crate::changing::Own;
 use crate::describing::{Described, describe};
@@ -12,6 +13,7 @@ use crate::doc::Doc;
 use crate::planning::{Plan, SectionChange, levels_below, plan_change};
 use crate::section::Section;
 use crate::shapes::Kind;
+use mk_splice::{replace, replace_within};
 use std::alloc::{AllocError, Global};
 
 /// A change of a section of a document.
@@ -42,50 +44,6 @@ pub enum Change {
     NoPart,
 }
 
-/// Puts `text` in the place of `count` bytes at `place`. Where there is no memory, nothing changes.
-pub fn replace(
-    items: &mut Vec<u8>,
-    place: usize,
-    count: usize,
-    text: &[u8],
-) -> Result<(), AllocError>
-    requires { place + count ≤ vec_len items.old }
-    ensures ok { OnOk result (items.new.items ≡ spliced place count text.now items.old.items) }
-    ensures err { OnErr result (items.new.items ≡ items.old.items) }
-    ensures succeeds { vec_len items.old + length text.now ≤ vec_capacity items.old + count → IsOk result }
-    ensures capacity { vec_capacity items.old ≤ vec_capacity items.new }
-{
-    let size = items.len();
-    if count < text.len() {
-        items.extend_from_slice(&text[count..])?;
-        items.copy_within(place + count..size, place + text.len());
-    } else if text.len() < count {
-        items.copy_within(place + count..size, place + text.len());
-        items.truncate(size - (count - text.len()));
-    }
-    overwrite(items, place, text);
-    Ok(())
-}
-
-/// The same where there is room.
-pub fn replace_within(items: &mut Vec<u8>, place: usize, count: usize, text: &[u8])
-    requires inside { place + count ≤ vec_len items.old }
-    requires room { vec_len items.old + length text.now ≤ vec_capacity items.old + count }
-    ensures items { items.new.items ≡ spliced place count text.now items.old.items }
-    ensures capacity { vec_capacity items.old ≤ vec_capacity items.new }
-{
-    let _room = replace(items, place, count, text);
-}
-
-// Writes `text` over as many bytes at `place`.
-fn overwrite(items: &mut Vec<u8>, place: usize, text: &[u8])
-    requires { place + length text.now ≤ vec_len items.old }
-    ensures items { items.new.items ≡ spliced place (length text.now) text.now items.old.items }
-    ensures capacity { vec_capacity items.new ≡ vec_capacity items.old }
-{
-    items[place..place + text.len()].copy_from_slice(text);
-}
-
 // Whether a missing type means a message in a section's parts, where `text` stands in the place of `count` bytes at `from`
 // in its head.
 fn digest_after(
@@ -114,7 +72,8 @@ fn digest_after(
 impl Doc {
     ghost use Rattle.std.specs.Prelude.{◌≡◌, ◌+◌, ◌≤◌, length, IfOk, IfErr, OnOk, OnErr};
     ghost use Rattle.mk_tree.specs.Documents.{Document, tree, printed};
-    ghost use Rattle.mk_tree.specs.Splicing.{spliced, ChangesFields, DigestsBelow, SectionBecomes};
+    ghost use Rattle.mk_splice.specs.Splices.{spliced};
+    ghost use Rattle.mk_tree.specs.Splicing.{ChangesFields, DigestsBelow, SectionBecomes};
     ghost use Rattle.mk_tree.specs.ChangeViews.{Changes, ChangesTo};
     ghost use Rattle.mk_tree.specs.Planning.{Becomes, Puts};
 

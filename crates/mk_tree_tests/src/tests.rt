@@ -5,7 +5,7 @@ ghost use Rattle.std.specs.Prelude.{◌≡◌};
 mod changes;
 mod rows;
 
-use super::*;
+use mk_tree::{Doc, Kind, Section};
 use rows::{MIXED, Place, ROWS};
 use std::alloc::{AllocError, Global};
 use std::process::Abort;

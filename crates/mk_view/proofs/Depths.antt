@@ -3,7 +3,7 @@ use Rattle.std.proofs.Common.{◌+◌, ◌<◌, ℕ, suc, Bool, List, [], ◌∷
 use Rattle.mk_tree.specs.Spans.{size}
 use Rattle.mk_tree.specs.Tree.{Entity, leaf, message, multi, Parts, no_parts, part, print}
 use Rattle.mk_tree.specs.Sections.{Placed, parts_placed, children_of, children}
-use Rattle.mk_mail.specs.Listed.{depth, deepest}
+use Rattle.mk_view.specs.Listed.{depth, deepest}
 
 -- all of some sections have fewer levels than a number
 abbrev pub AreLower : ℕ → List Placed → Type 0

@@ -13,9 +13,9 @@ use Rattle.mk_tree.proofs.Descent.{size_append}
 use Rattle.mk_tree.proofs.Heads.{lines_front}
 use Rattle.mk_tree.proofs.Kept.{lines_kept}
 use Rattle.std.specs.List.{flat_map}
-use Rattle.mk_mail.specs.Listed.{along, listed_from}
-use Rattle.mk_mail.specs.Listing.{listing_line}
-use Rattle.mk_mail.proofs.Sections.{listed_one}
+use Rattle.mk_view.specs.Listed.{along, listed_from}
+use Rattle.mk_view.specs.Listing.{listing_line}
+use Rattle.mk_view.proofs.Sections.{listed_one}
 
 pub head_and_body : (e : Entity) → print e ≡ head_lines (entity_head e) ++ body_lines e
 head_and_body (leaf h ls) = refl

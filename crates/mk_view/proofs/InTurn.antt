@@ -1,11 +1,11 @@
 -- Names that are given in turn, one more at the end.
 use Rattle.std.proofs.Common.{◌≡◌, ◌++◌, ℕ, Option, List, [], ◌∷◌, refl, sym, ap, subst, ◌∙◌, map}
 use Rattle.std.proofs.lemmas.List.{map-append}
-use Rattle.mk_mail.specs.declared.storing.Leaf.{Leaf}
-use Rattle.mk_mail.specs.FileNames.{Named}
-use Rattle.mk_mail.specs.GivenNames.{AreGiven, IsGiven, given_after}
-use Rattle.mk_mail.specs.LeafViews.{leaf_view}
-use Rattle.mk_mail.specs.Taken.{Knows}
+use Rattle.mk_view.specs.declared.storing.Leaf.{Leaf}
+use Rattle.mk_view.specs.FileNames.{Named}
+use Rattle.mk_view.specs.GivenNames.{AreGiven, IsGiven, given_after}
+use Rattle.mk_view.specs.LeafViews.{leaf_view}
+use Rattle.mk_view.specs.Taken.{Knows}
 
 after_more : (names : List (List ℕ)) (gs : List Named) (g : Named) → given_after names (gs ++ g ∷ []) ≡ g.1 ∷ given_after names gs
 after_more names [] g = refl

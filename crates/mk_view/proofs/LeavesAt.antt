@@ -3,8 +3,8 @@ use Rattle.std.proofs.Common.{◌≡◌, ◌+◌, ◌==◌, ◌++◌, if◌then�
 use Rattle.mk_head.specs.Fields.{counted}
 use Rattle.mk_tree.specs.Documents.{Document}
 use Rattle.mk_tree.specs.Sections.{Placed, children, root_of, section_at, section_below}
-use Rattle.mk_mail.specs.declared.storing.Leaf.{Leaf}
-use Rattle.mk_mail.specs.LeafViews.{AreAt, IsAt}
+use Rattle.mk_view.specs.declared.storing.Leaf.{Leaf}
+use Rattle.mk_view.specs.LeafViews.{AreAt, IsAt}
 
 one_below : (p q r : Placed) (n : ℕ) → ◌≡◌ {A = Option Placed} (Some p) (Some q) → counted n (children q) ≡ Some r → counted n (children p) ≡ Some r
 one_below p q r n h c = let same : p ≡ q = cc in ap (λ s. counted n (children s)) same ∙ c

@@ -3,10 +3,10 @@ use Rattle.std.proofs.Common.{◌≡◌, false, [], ◌∷◌, refl, map, codes}
 use Rattle.std.specs.Fmt.{digits}
 use Rattle.mk_tree.specs.Kinds.{kind}
 use Rattle.mk_tree.specs.Documents.{tree}
-use Rattle.mk_mail.specs.Listed.{listed_from}
-use Rattle.mk_mail.specs.Listing.{path_text, listing_line, listing}
-use Rattle.mk_mail.specs.FileNames.{cleaned, stored, all_stored}
-use Rattle.mk_mail.specs.GivenNames.{numbered}
+use Rattle.mk_view.specs.Listed.{listed_from}
+use Rattle.mk_view.specs.Listing.{path_text, listing_line, listing}
+use Rattle.mk_view.specs.FileNames.{cleaned, stored, all_stored}
+use Rattle.mk_view.specs.GivenNames.{numbered}
 
 one_leaf : listing (tree (codes "A: b\r\n\r\nx\ry\nz")) ≡ codes "1 leaf text/plain identity 0 8 13 1 2\n"
 unfolding kind listed_from listing_line digits

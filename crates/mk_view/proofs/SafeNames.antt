@@ -10,11 +10,11 @@ use Rattle.mk_head.specs.Values.{MediaType}
 use Rattle.mk_tree.specs.declared.shapes.Kind.{Kind}
 use Rattle.mk_tree.specs.declared.shapes.Kind.TheVariants.{Leaf, Multi, Message}
 use Rattle.mk_tree.specs.Forms.{kind_in}
-use Rattle.mk_mail.specs.Ascii.{dot, slash}
-use Rattle.mk_mail.specs.Listed.{Listed}
-use Rattle.mk_mail.specs.Listing.{dotted, path_text, type_of}
-use Rattle.mk_mail.specs.FileNames.{Named, raw_name, behind_last, plain, leading, led, cleaned, part_name, name_or, name_by, is_stored_by, stored_by, stored}
-use Rattle.mk_mail.specs.GivenNames.{numbered, is_taken, IsGivenBy, AreGiven, AreDistinct, has_no_slash, is_safe, AreSafe}
+use Rattle.mk_line.specs.Ascii.{full_stop, slash}
+use Rattle.mk_view.specs.Listed.{Listed}
+use Rattle.mk_view.specs.Listing.{dotted, path_text, type_of}
+use Rattle.mk_view.specs.FileNames.{Named, raw_name, behind_last, plain, leading, led, cleaned, part_name, name_or, name_by, is_stored_by, stored_by, stored}
+use Rattle.mk_view.specs.GivenNames.{numbered, is_taken, IsGivenBy, AreGiven, AreDistinct, has_no_slash, is_safe, AreSafe}
 
 and_parts : (a b : Bool) → (a && b) ≡ true → (a ≡ true) × (b ≡ true)
 and_parts true b h = (refl, h)
@@ -55,11 +55,11 @@ path_slashless (n ∷ ns) = slashless_both (decimal n) (flat_map dotted ns) (dec
 part_safe : (path : List ℕ) → is_safe (part_name path) ≡ true
 part_safe path = path_slashless path
 
--- a byte that may stand in a name is no slash, and one that it may begin with is no dot
+-- a byte that may stand in a name is no slash, and one that it may begin with is no full stop
 plain_slashless : (byte : ℕ) → not (plain byte == slash) ≡ true
 plain_slashless byte = grind (arith, nat_tests)
 
-leading_dotless : (byte : ℕ) → not (leading byte == dot) ≡ true
+leading_dotless : (byte : ℕ) → not (leading byte == full_stop) ≡ true
 leading_dotless byte = grind (arith, nat_tests)
 
 leading_slashless : (byte : ℕ) → not (byte == slash) ≡ true → not (leading byte == slash) ≡ true
@@ -73,7 +73,7 @@ front_slashless (suc n) (x ∷ xs) = and_made (not (plain x == slash)) (has_no_s
 taken_safe : (xs : List ℕ) → is_nil (take 100 (led (map plain xs))) ≡ false → is_safe (take 100 (led (map plain xs))) ≡ true
 taken_safe [] h = absurd (cc)
 taken_safe (x ∷ xs) h =
-    and_made (not (leading (plain x) == dot)) (not (leading (plain x) == slash) && has_no_slash (take 99 (map plain xs))) (leading_dotless (plain x))
+    and_made (not (leading (plain x) == full_stop)) (not (leading (plain x) == slash) && has_no_slash (take 99 (map plain xs))) (leading_dotless (plain x))
     (and_made (not (leading (plain x) == slash)) (has_no_slash (take 99 (map plain xs))) (leading_slashless (plain x) (plain_slashless x)) (front_slashless 99 xs))
 
 or_safe : (path name : List ℕ) → (is_nil name ≡ false → is_safe name ≡ true) → is_safe (name_or (part_name path) name) ≡ true
@@ -107,8 +107,8 @@ stored_safe texts (s ∷ ss) = both_safe _ _ (one_safe texts (kind_in s.section.
 pub numbered_safe : (name : List ℕ) (number : ℕ) → is_safe name ≡ true → is_safe (numbered name number) ≡ true
 numbered_safe [] number h = absurd (cc)
 numbered_safe (x ∷ xs) number h =
-    let parts = and_parts (not (x == dot)) (has_no_slash (x ∷ xs)) h in
-    and_made (not (x == dot)) (has_no_slash (x ∷ xs ++ dotted number)) parts.0 (slashless_both (x ∷ xs) (dotted number) parts.1 (decimal_slashless number))
+    let parts = and_parts (not (x == full_stop)) (has_no_slash (x ∷ xs)) h in
+    and_made (not (x == full_stop)) (has_no_slash (x ∷ xs ++ dotted number)) parts.0 (slashless_both (x ∷ xs) (dotted number) parts.1 (decimal_slashless number))
 
 given_by : (b : Bool) (names : List (List ℕ)) (own given : List ℕ) → is_taken names own ≡ b → IsGivenBy b names own given → is_safe own ≡ true → (is_safe given ≡ true) × (is_taken names given ≡ false)
 given_by false names own given e h s = (ap is_safe h ∙ s, ap (is_taken names) h ∙ e)

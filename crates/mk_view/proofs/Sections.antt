@@ -3,8 +3,8 @@ use Rattle.std.proofs.Common.{◌≡◌, ◌+◌, ◌++◌, ◌<◌, ◌≤◌, 
 use Rattle.std.specs.List.{flat_map}
 use Rattle.std.proofs.lemmas.Grind.{common_steps, flat_map-append}
 use Rattle.mk_tree.specs.Sections.{Placed, children}
-use Rattle.mk_mail.specs.Listed.{Listed, depth, greatest_number, along, listed_within, listed_from}
-use Rattle.mk_mail.proofs.Depths.{AreLower, are_lower, has_level}
+use Rattle.mk_view.specs.Listed.{Listed, depth, greatest_number, along, listed_within, listed_from}
+use Rattle.mk_view.proofs.Depths.{AreLower, are_lower, has_level}
 
 onto : (s : Listed) (ss ts : List Listed) → ss ≡ ts → s ∷ ss ≡ s ∷ ts
 onto s ss ts e = ap (λ (ls : List Listed). s ∷ ls) e

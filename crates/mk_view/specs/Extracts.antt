@@ -8,9 +8,9 @@ use Rattle.mk_tree.specs.declared.shapes.Kind.{Kind}
 use Rattle.mk_tree.specs.declared.shapes.Kind.TheVariants.{Leaf, Multi, Message}
 use Rattle.mk_tree.specs.Forms.{kind_in}
 use Rattle.mk_tree.specs.Sections.{Placed, content_text}
-use Rattle.mk_mail.specs.declared.extracting.ExtractError.{ExtractError}
-use Rattle.mk_mail.specs.declared.extracting.ExtractError.TheVariants.{NoSuchSection, BadBase64, UnknownEncoding, Memory}
-use Rattle.mk_mail.specs.Listing.{encoding_in}
+use Rattle.mk_view.specs.declared.extracting.ExtractError.{ExtractError}
+use Rattle.mk_view.specs.declared.extracting.ExtractError.TheVariants.{NoSuchSection, BadBase64, UnknownEncoding, Memory}
+use Rattle.mk_view.specs.Listing.{encoding_in}
 
 -- the bytes that the content of a section of a kind stands for: only that of a leaf is encoded
 abbrev pub IsContentBy : Kind → Encoding → List ℕ → List ℕ → Type 0

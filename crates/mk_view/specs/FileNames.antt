@@ -5,7 +5,8 @@ use Rattle.std.specs.List.{flat_map}
 use Rattle.std.specs.Str.{bytes_eq}
 use Rattle.mk_line.specs.Ascii.{hyphen}
 use Rattle.mk_line.specs.Lines.{is_nil}
-use Rattle.mk_head.specs.Values.{MediaType, backslash, content_type_of, param_of}
+use Rattle.mk_head.specs.Values.{MediaType, content_type_of, param_of}
+use Rattle.mk_line.specs.Ascii.{backslash}
 use Rattle.mk_head.specs.Types.{field_value}
 use Rattle.mk_tree.specs.declared.shapes.Kind.{Kind}
 use Rattle.mk_tree.specs.declared.shapes.Kind.TheVariants.{Leaf, Multi, Message}
@@ -13,9 +14,9 @@ use Rattle.mk_tree.specs.Tree.{field_lines}
 use Rattle.mk_tree.specs.Forms.{kind_in}
 use Rattle.mk_tree.specs.Sections.{Placed}
 use Rattle.mk_tree.specs.Documents.{Document}
-use Rattle.mk_mail.specs.Ascii.{dot, slash, underscore}
-use Rattle.mk_mail.specs.Listed.{Listed, listed}
-use Rattle.mk_mail.specs.Listing.{path_text, type_of}
+use Rattle.mk_line.specs.Ascii.{full_stop, slash, underscore}
+use Rattle.mk_view.specs.Listed.{Listed, listed}
+use Rattle.mk_view.specs.Listing.{path_text, type_of}
 
 -- the parameter of a disposition, where there is one
 abbrev pub disposed_name : Option (List ℕ) → Option (List ℕ)
@@ -42,15 +43,15 @@ behind_last kept (byte ∷ bytes) = if is_divider byte then behind_last bytes by
 
 -- letters, digits, dots, underscores and hyphens stay in a name, and an underscore stands for any other byte
 abbrev pub is_plain_byte : ℕ → Bool
-is_plain_byte byte = is_ascii_alphanumeric byte || byte == dot || byte == underscore || byte == hyphen
+is_plain_byte byte = is_ascii_alphanumeric byte || byte == full_stop || byte == underscore || byte == hyphen
 
 -- a byte, or `_` for one that no name may have
 abbrev pub plain : ℕ → ℕ
 plain byte = if is_plain_byte byte then byte else underscore
 
--- the first byte of a name is no dot and no hyphen
+-- the first byte of a name is no full stop and no hyphen
 abbrev pub leading : ℕ → ℕ
-leading byte = if byte == dot || byte == hyphen then underscore else byte
+leading byte = if byte == full_stop || byte == hyphen then underscore else byte
 
 -- bytes of which the first may begin a name
 abbrev pub led : List ℕ → List ℕ

@@ -2,12 +2,12 @@
 use Rattle.std.specs.Prelude.{◌≡◌, ◌==◌, ◌<◌, ◌≤◌, ◌&&◌, ◌++◌, ℕ, Bool, true, false, not, List, [], ◌∷◌, decimal}
 use Rattle.std.specs.List.{list_all, list_any}
 use Rattle.std.specs.Str.{bytes_eq}
-use Rattle.mk_mail.specs.Ascii.{dot, slash}
-use Rattle.mk_mail.specs.FileNames.{Named}
+use Rattle.mk_line.specs.Ascii.{full_stop, slash}
+use Rattle.mk_view.specs.FileNames.{Named}
 
 -- a name with a number behind it
 abbrev pub numbered : List ℕ → ℕ → List ℕ
-numbered name number = name ++ dot ∷ decimal number
+numbered name number = name ++ full_stop ∷ decimal number
 
 -- whether one of the names is this
 abbrev pub is_taken : List (List ℕ) → List ℕ → Bool
@@ -49,10 +49,10 @@ AreDistinct names (g ∷ gs) = (is_taken names g.1 ≡ false) × AreDistinct (g.
 abbrev pub has_no_slash : List ℕ → Bool
 has_no_slash bytes = list_all (λ byte. not (byte == slash)) bytes
 
--- a name of a file in a folder that isn't hidden: it is not empty, has no slash, and begins with no dot
+-- a name of a file in a folder that isn't hidden: it is not empty, has no slash, and begins with no full stop
 abbrev pub is_safe : List ℕ → Bool
 is_safe [] = false
-is_safe (byte ∷ bytes) = not (byte == dot) && has_no_slash (byte ∷ bytes)
+is_safe (byte ∷ bytes) = not (byte == full_stop) && has_no_slash (byte ∷ bytes)
 
 -- all of the names are such names
 abbrev pub AreSafe : List Named → Type 0

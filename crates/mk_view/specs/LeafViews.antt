@@ -2,8 +2,8 @@
 use Rattle.std.specs.Prelude.{◌≡◌, Some, List, [], ◌∷◌}
 use Rattle.mk_tree.specs.Documents.{Document}
 use Rattle.mk_tree.specs.Sections.{section_at}
-use Rattle.mk_mail.specs.declared.storing.Leaf.{Leaf}
-use Rattle.mk_mail.specs.FileNames.{Named}
+use Rattle.mk_view.specs.declared.storing.Leaf.{Leaf}
+use Rattle.mk_view.specs.FileNames.{Named}
 
 -- a leaf as its path and its name
 abbrev pub leaf_view : Leaf → Named

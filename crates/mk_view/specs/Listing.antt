@@ -15,12 +15,12 @@ use Rattle.mk_tree.specs.Tree.{print, entity_head, field_lines}
 use Rattle.mk_tree.specs.Forms.{kind_in}
 use Rattle.mk_tree.specs.Sections.{Placed, head_text, body_text}
 use Rattle.mk_tree.specs.Documents.{Document}
-use Rattle.mk_mail.specs.Ascii.{dot, slash}
-use Rattle.mk_mail.specs.Listed.{Listed, listed}
+use Rattle.mk_line.specs.Ascii.{full_stop, slash}
+use Rattle.mk_view.specs.Listed.{Listed, listed}
 
 -- a number of a path behind another
 abbrev pub dotted : ℕ → List ℕ
-dotted number = dot ∷ decimal number
+dotted number = full_stop ∷ decimal number
 
 -- a path as it is written: its numbers, joined by dots
 abbrev pub path_text : List ℕ → List ℕ

@@ -1,7 +1,7 @@
 -- Paths with names in memory as what they say.
 use Rattle.std.specs.Prelude.{ℕ}
 use Rattle.std.specs.Global.{Vec}
-use Rattle.mk_mail.specs.FileNames.{Named}
+use Rattle.mk_view.specs.FileNames.{Named}
 
 -- a path and a name in memory as their bytes
 abbrev pub named_view : Vec ℕ × Vec ℕ → Named

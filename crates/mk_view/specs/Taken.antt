@@ -4,7 +4,7 @@ use Rattle.std.specs.BTreeMap.{BTreeMap, get_by}
 use Rattle.std.specs.Cmp.Lexicographic.{slice_cmp}
 use Rattle.std.specs.Global.{Vec}
 use Rattle.std.specs.Ordering.{nat_cmp}
-use Rattle.mk_mail.specs.GivenNames.{is_taken, numbered}
+use Rattle.mk_view.specs.GivenNames.{is_taken, numbered}
 
 -- the number that is tried first behind a name, where the name was given
 abbrev pub number_at : BTreeMap (Vec ℕ) ℕ → List ℕ → Option ℕ

@@ -2,9 +2,8 @@
 ghost use Rattle.std.specs.Prelude.{◌≡◌, ◌↔◌, Err, None, Some, IfErr, IfOk};
 ghost use Rattle.mk_tree.specs.Documents.{tree};
 ghost use Rattle.mk_tree.specs.Sections.{section_at};
-ghost use Rattle.mk_mail.specs.Extracts.{IsContentOf, IsExtract, IsExtractRefused, IsRefusedOf, extract_reason};
+ghost use Rattle.mk_view.specs.Extracts.{IsContentOf, IsExtract, IsExtractRefused, IsRefusedOf, extract_reason};
 
-use crate::typing::transfer_encoding;
 use mk_code::{CodeError, decode};
 use mk_tree::{Doc, Kind, Section};
 use std::alloc::Global;
@@ -58,7 +57,7 @@ fn content_of(alloc: Global, section: &Section<'_>) -> Result<Vec<u8>, CodeError
 {
     match section.kind() {
         Kind::Leaf => {
-            let encoding = transfer_encoding(alloc, section)?;
+            let encoding = section.encoding(alloc)?;
             decode(alloc, encoding, section.content())
         }
         Kind::Multi | Kind::Message => Ok(Vec::from_slice(alloc, section.content())?),

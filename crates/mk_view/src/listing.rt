@@ -4,10 +4,10 @@ ghost use Rattle.std.specs.List.{flat_map};
 ghost use Rattle.mk_line.specs.Lines.{AreLines, cut as lines_of};
 ghost use Rattle.mk_tree.specs.Documents.{tree};
 ghost use Rattle.mk_tree.specs.Sections.{body_lines, body_text};
-ghost use Rattle.mk_mail.specs.Listed.{Listed, listed_from};
-ghost use Rattle.mk_mail.specs.Listing.{encoding_name as name_of_encoding, kind_name as name_of_kind, line_counts, listing, listing_line, nature, places};
+ghost use Rattle.mk_view.specs.Listed.{Listed, listed_from};
+ghost use Rattle.mk_view.specs.Listing.{encoding_name as name_of_encoding, kind_name as name_of_kind, line_counts, listing, listing_line, nature, places};
 
-use crate::typing::{push_type, transfer_encoding};
+use crate::typing::push_type;
 use crate::writing::{push_column, push_number_column, push_path};
 use mk_head::Encoding;
 use mk_line::cut;
@@ -129,7 +129,7 @@ fn push_nature(alloc: Global, lines: &mut Vec<u8>, section: &Section<'_>) -> Res
     push_column(lines, kind_name(section.kind()))?;
     lines.push(SPACE)?;
     push_type(alloc, lines, section)?;
-    push_column(lines, encoding_name(transfer_encoding(alloc, section)?))
+    push_column(lines, encoding_name(section.encoding(alloc)?))
 }
 
 fn push_places(lines: &mut Vec<u8>, section: &Section<'_>) -> Result<(), AllocError>

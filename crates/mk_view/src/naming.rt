@@ -5,8 +5,8 @@ ghost use Rattle.mk_head.specs.Types.{field_value};
 ghost use Rattle.mk_head.specs.Values.{param_of};
 ghost use Rattle.mk_head.specs.ValueViews.{media_type_of};
 ghost use Rattle.mk_tree.specs.Tree.{field_lines};
-ghost use Rattle.mk_mail.specs.Listing.{type_of};
-ghost use Rattle.mk_mail.specs.FileNames.{behind_last, cleaned as cleaned_of, is_divider as divides, is_stored_by, leading as leading_of, name_by, part_name as name_of_part, plain as plain_of, raw_name as raw_name_of, disposed_name};
+ghost use Rattle.mk_view.specs.Listing.{type_of};
+ghost use Rattle.mk_view.specs.FileNames.{behind_last, cleaned as cleaned_of, is_divider as divides, is_stored_by, leading as leading_of, name_by, part_name as name_of_part, plain as plain_of, raw_name as raw_name_of, disposed_name};
 
 use crate::writing::push_path;
 use mk_head::{ContentType, content_type};

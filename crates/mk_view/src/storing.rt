@@ -4,12 +4,12 @@ ghost use Rattle.std.specs.List.{flat_map};
 ghost use Rattle.mk_tree.specs.declared.shapes.Kind.TheVariants.{Leaf as leaf};
 ghost use Rattle.mk_tree.specs.Documents.{Document, tree};
 ghost use Rattle.mk_tree.specs.Sections.{section_at};
-ghost use Rattle.mk_mail.specs.GivenNames.{AreDistinct, AreGiven, AreSafe};
-ghost use Rattle.mk_mail.specs.LeafViews.{AreAt, leaf_view};
-ghost use Rattle.mk_mail.specs.Listed.{listed_from};
-ghost use Rattle.mk_mail.specs.Listing.{type_of};
-ghost use Rattle.mk_mail.specs.FileNames.{all_stored, raw_name as raw_name_of, stored, stored_by};
-ghost use Rattle.mk_mail.specs.NameViews.{named_view};
+ghost use Rattle.mk_view.specs.GivenNames.{AreDistinct, AreGiven, AreSafe};
+ghost use Rattle.mk_view.specs.LeafViews.{AreAt, leaf_view};
+ghost use Rattle.mk_view.specs.Listed.{listed_from};
+ghost use Rattle.mk_view.specs.Listing.{type_of};
+ghost use Rattle.mk_view.specs.FileNames.{all_stored, raw_name as raw_name_of, stored, stored_by};
+ghost use Rattle.mk_view.specs.NameViews.{named_view};
 
 use crate::giving::give_all;
 use crate::listing::path_below;

@@ -2,9 +2,9 @@
 ghost use Rattle.std.specs.Prelude.{◌≡◌, ◌++◌, [], IfOk, OnOk};
 ghost use Rattle.mk_head.specs.Types.{default_type as type_by_default};
 ghost use Rattle.mk_head.specs.ValueViews.{media_type_of};
-ghost use Rattle.mk_mail.specs.Listing.{encoding_in, type_of, type_text};
+ghost use Rattle.mk_view.specs.Listing.{type_of, type_text};
 
-use mk_head::{ContentType, Encoding, content_type, encoding};
+use mk_head::{ContentType, content_type};
 use mk_tree::Section;
 use std::alloc::{AllocError, Global};
 
@@ -52,17 +52,4 @@ fn media(alloc: Global, main: &[u8], sub: &[u8]) -> Result<ContentType, AllocErr
         sub,
         params: Vec::new(alloc),
     })
-}
-
-/// The transfer encoding of a section; without a Content-Transfer-Encoding field it has none.
-pub(crate) fn transfer_encoding(
-    alloc: Global,
-    section: &Section<'_>,
-) -> Result<Encoding, AllocError>
-    ensures { IfOk result (λ encoding. encoding ≡ encoding_in section.now) }
-{
-    match section.value(alloc, b"Content-Transfer-Encoding")? {
-        Some(value) => Ok(encoding(&value)),
-        None => Ok(Encoding::Identity),
-    }
 }

@@ -1,6 +1,6 @@
 //! Numbers, paths and columns, written behind a text.
 ghost use Rattle.std.specs.Prelude.{◌≡◌, ◌++◌, decimal, OnOk};
-ghost use Rattle.mk_mail.specs.Listing.{column, path_text};
+ghost use Rattle.mk_view.specs.Listing.{column, path_text};
 
 use itoa::Buffer;
 use std::alloc::AllocError;

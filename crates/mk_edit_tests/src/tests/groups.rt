@@ -1,31 +1,31 @@
 //! Groups of edits: what they leave, and what of them is told where one is refused.
 
 use super::{Asked, check_state, edit_at, session_over};
-use crate::{Command, Edit, EditError, GroupError, Reply, Session};
+use mk_edit::{Command, Edit, EditError, GroupError, Reply, Session};
 use mk_line::Meter;
 use std::alloc::{AllocError, Global};
 use std::process::Abort;
 use std::test::Fail;
 
-const ADD: Asked = Asked::AddField {
+const ADD: Asked<'static> = Asked::AddField {
     top: false,
     text: b"A: b\n",
 };
 
-const ADD_OTHER: Asked = Asked::AddField {
+const ADD_OTHER: Asked<'static> = Asked::AddField {
     top: false,
     text: b"C: d\n",
 };
 
-const REMOVE: Asked = Asked::RemoveField { name: b"A", k: 1 };
+const REMOVE: Asked<'static> = Asked::RemoveField { name: b"A", k: 1 };
 
-const REMOVE_NONE: Asked = Asked::RemoveField { name: b"Z", k: 1 };
+const REMOVE_NONE: Asked<'static> = Asked::RemoveField { name: b"Z", k: 1 };
 
 /// A group of edits of the root of an empty message, and what must come of it: the text behind it, or the number of the
 /// refused edit and the reason.
 struct Row {
     shows: &'static str,
-    asked: &'static [Asked],
+    asked: &'static [Asked<'static>],
     after: Result<&'static [u8], (usize, EditError)>,
 }
 
@@ -60,7 +60,7 @@ pub fn reason(error: GroupError) -> EditError {
     }
 }
 
-fn edits(alloc: Global, asked: &[Asked]) -> Result<Vec<Edit>, AllocError> {
+fn edits(alloc: Global, asked: &[Asked<'_>]) -> Result<Vec<Edit>, AllocError> {
     let mut all = Vec::with_capacity(alloc, asked.len())?;
     for one in asked {
         all.push(edit_at(alloc, &[1], *one)?)?;

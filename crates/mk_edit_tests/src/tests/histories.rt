@@ -2,7 +2,7 @@
 
 use super::groups::reason;
 use super::{Asked, MIXED, PART, check_state, edit_at, session_over};
-use crate::{Command, EditError, Reply, Session};
+use mk_edit::{Command, EditError, Reply, Session};
 use mk_line::Meter;
 use std::alloc::{AllocError, Global};
 use std::process::Abort;
@@ -11,7 +11,7 @@ use std::test::Fail;
 /// What is asked of a session.
 #[derive(Clone, Copy, Debug)]
 enum Order {
-    Do(&'static [u32], Asked),
+    Do(&'static [u32], Asked<'static>),
     Undo,
     Redo,
 }

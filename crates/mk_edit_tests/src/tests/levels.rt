@@ -1,7 +1,7 @@
 //! Edits where no more levels may stand below.
 
 use super::{Asked, edit_at, session_over};
-use crate::EditError;
+use mk_edit::EditError;
 use mk_line::Meter;
 use mk_tree::Kind;
 use std::alloc::{AllocError, Global};
@@ -13,7 +13,7 @@ const LAST: u16 = 100;
 
 const MULTIPART: &[u8] = b"Content-Type: multipart/mixed; boundary=c\n\n--c\n\nx\n";
 
-const MESSAGE_FIELD: Asked = Asked::AddField {
+const MESSAGE_FIELD: Asked<'static> = Asked::AddField {
     top: true,
     text: b"Content-Type: message/rfc822\n",
 };
@@ -41,7 +41,7 @@ fn kind_after(
     rt: &impl Abort,
     alloc: Global,
     around: u16,
-    asked: Asked,
+    asked: Asked<'static>,
     after: &[u8],
 ) -> Result<Option<Kind>, Fail> {
     let path = path_below(alloc, around)?;

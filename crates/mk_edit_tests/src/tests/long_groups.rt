@@ -1,7 +1,7 @@
 //! Groups of many edits of the root's fields in a row. What comes of them is worked out by hand.
 
 use super::{Asked, check_state, edit_at, session_over};
-use crate::{Edit, EditError, GroupError};
+use mk_edit::{Edit, EditError, GroupError};
 use mk_line::Meter;
 use std::alloc::{AllocError, Global};
 use std::process::Abort;
@@ -10,36 +10,36 @@ use std::test::Fail;
 /// How often lines stand in a message, and how often they are edited.
 const TIMES: usize = 20;
 
-const REMOVE_X: Asked = Asked::RemoveField { name: b"X", k: 1 };
+const REMOVE_X: Asked<'static> = Asked::RemoveField { name: b"X", k: 1 };
 
-const REMOVE_LATER_X: Asked = Asked::RemoveField { name: b"x", k: 2 };
+const REMOVE_LATER_X: Asked<'static> = Asked::RemoveField { name: b"x", k: 2 };
 
-const REMOVE_Y: Asked = Asked::RemoveField { name: b"Y", k: 1 };
+const REMOVE_Y: Asked<'static> = Asked::RemoveField { name: b"Y", k: 1 };
 
-const REMOVE_TYPE: Asked = Asked::RemoveField {
+const REMOVE_TYPE: Asked<'static> = Asked::RemoveField {
     name: b"content-type",
     k: 1,
 };
 
-const TYPE_X: Asked = Asked::RenameField {
+const TYPE_X: Asked<'static> = Asked::RenameField {
     name: b"X",
     k: 1,
     to: b"Content-Type",
 };
 
-const RENAME_X: Asked = Asked::RenameField {
+const RENAME_X: Asked<'static> = Asked::RenameField {
     name: b"X",
     k: 1,
     to: b"Old-X",
 };
 
-const RENAME_BADLY: Asked = Asked::RenameField {
+const RENAME_BADLY: Asked<'static> = Asked::RenameField {
     name: b"Old-X",
     k: 1,
     to: b"X Y",
 };
 
-const ADD_Z: Asked = Asked::AddField {
+const ADD_Z: Asked<'static> = Asked::AddField {
     top: true,
     text: b"Z: z\n",
 };
@@ -60,8 +60,8 @@ body\n";
 struct Row {
     shows: &'static str,
     text: (&'static [u8], &'static [u8]),
-    asked: Asked,
-    then: &'static [Asked],
+    asked: Asked<'static>,
+    then: &'static [Asked<'static>],
     after: Result<(&'static [u8], &'static [u8]), (usize, EditError)>,
 }
 

@@ -2,13 +2,13 @@
 
 use super::groups::reason;
 use super::{Asked, MIXED, PART, edit_at};
-use crate::{Command, EditError, Reply, Session};
+use mk_edit::{Command, EditError, Reply, Session};
 use mk_line::Meter;
 use std::alloc::{AllocError, Global};
 use std::process::Abort;
 
 /// An edit of each kind that is accepted, one behind another.
-const ASKED: [(&[u32], Asked); 9] = [
+const ASKED: [(&[u32], Asked<'static>); 9] = [
     (
         &[1, 1],
         Asked::AddField {

@@ -10,7 +10,7 @@ const PARTS: u32 = 1_000;
 
 const FRONT: &[u8] = b"Content-Type: multipart/mixed; boundary=\"b\"\n\n";
 
-const FIELD: Asked = Asked::AddField {
+const FIELD: Asked<'static> = Asked::AddField {
     top: false,
     text: b"X: y\n",
 };
@@ -18,7 +18,7 @@ const FIELD: Asked = Asked::AddField {
 /// An edit, and how often it may look at most.
 struct Limit {
     path: &'static [u32],
-    asked: Asked,
+    asked: Asked<'static>,
     most: u64,
 }
 

@@ -4,7 +4,7 @@ use super::flat::{Item, What, below, flattened, item_of};
 use super::looks::{ending_of, first_line_of, has_mark, is_name, is_one_field, name_of, named};
 use super::wrapping::Wrapped;
 use super::{Asked, read};
-use crate::EditError;
+use mk_edit::EditError;
 use mk_tree::Kind;
 use std::alloc::{AllocError, Global};
 
@@ -17,7 +17,7 @@ pub fn answer(
     alloc: Global,
     text: &[u8],
     path: &[u32],
-    asked: Asked,
+    asked: Asked<'_>,
 ) -> Result<Vec<u8>, EditError> {
     let doc = read(alloc, text)?;
     let Some(section) = doc.section(path) else {

@@ -2,7 +2,7 @@
 use super::flat::{Item, What, below, item_of};
 use super::looks::{is_boundary, is_of_content, is_token, named};
 use super::plain::judge;
-use crate::EditError;
+use mk_edit::EditError;
 use mk_tree::Kind;
 use std::alloc::{AllocError, Global};
 

@@ -1,46 +1,83 @@
 //! Mailboxes, read in pieces of every size and with a failure at every read.
 ghost use Rattle.std.specs.Prelude.{◌≡◌, ◌<◌, Some};
 
-use crate::{Fault, MailFault, Mailbox, Source};
+use mk_mail::{Fault, MailFault, Mailbox, Source};
+use mk_rows::{Row, rows};
 use std::alloc::Global;
+use std::process::Abort;
 use std::test::Fail;
 
 const THREE: &[u8] = b"From a\nA: 1\n\nx\n\nFrom b\nA: 2\n\ny\nFrom z\n\nFrom c\nA: 3\n\n";
 
-// A mailbox and its messages.
-const MAILBOXES: [(&[u8], &[&[u8]]); 12] = [
-    (
-        THREE,
-        &[
-            b"From a\nA: 1\n\nx\n\n",
-            b"From b\nA: 2\n\ny\nFrom z\n\n",
-            b"From c\nA: 3\n\n",
-        ],
-    ),
-    (b"", &[]),
-    // The first message needs no From-line.
-    (b"A: 1\n\nFrom b\n\n", &[b"A: 1\n\n", b"From b\n\n"]),
-    (b"\nFrom b\n", &[b"\n", b"From b\n"]),
-    (b"\n\n\nFrom b\n", &[b"\n\n\n", b"From b\n"]),
-    (
-        b"From a\r\n\r\nFrom b\r\n\r\n",
-        &[b"From a\r\n\r\n", b"From b\r\n\r\n"],
-    ),
-    // An open line begins a message too.
-    (b"A: 1\n\nFrom x", &[b"A: 1\n\n", b"From x"]),
-    (b"A: 1\n\nFrom", &[b"A: 1\n\nFrom"]),
-    // A line of blanks isn't empty, and no more is one of a CR alone.
-    (b"a\n \nFrom b\n", &[b"a\n \nFrom b\n"]),
-    (b"a\n\r\r\nFrom b\n", &[b"a\n\r\r\nFrom b\n"]),
-    // A field of this name is no From-line.
-    (b"a\n\nFrom : b\n", &[b"a\n\nFrom : b\n"]),
-    (
-        b"From a\n\nFrom b\n\nFrom c\n\n",
-        &[b"From a\n\n", b"From b\n\n", b"From c\n\n"],
-    ),
-];
+/// A mailbox and its messages.
+const MAILBOXES: &str = r#"
+== three messages, and a line that only looks like a From-line
+mailbox: From a\nA: 1\n\nx\n\nFrom b\nA: 2\n\ny\nFrom z\n\nFrom c\nA: 3\n\n
+message: From a\nA: 1\n\nx\n\n
+message: From b\nA: 2\n\ny\nFrom z\n\n
+message: From c\nA: 3\n\n
 
-// A source that gives a text, so many bytes at once. The read of one number, counted from 0, fails, and those behind it
+== nothing
+mailbox:
+
+== the first message needs no From-line
+mailbox: A: 1\n\nFrom b\n\n
+message: A: 1\n\n
+message: From b\n\n
+
+== an empty line, and a message
+mailbox: \nFrom b\n
+message: \n
+message: From b\n
+
+== three empty lines, and a message
+mailbox: \n\n\nFrom b\n
+message: \n\n\n
+message: From b\n
+
+== lines that end in CR LF
+mailbox: From a\r\n\r\nFrom b\r\n\r\n
+message: From a\r\n\r\n
+message: From b\r\n\r\n
+
+== an open line begins a message too
+mailbox: A: 1\n\nFrom x
+message: A: 1\n\n
+message: From x
+
+== an open line that is too short
+mailbox: A: 1\n\nFrom
+message: A: 1\n\nFrom
+
+== a line of blanks isn't empty
+mailbox: a\n \nFrom b\n
+message: a\n \nFrom b\n
+
+== a line of a carriage return isn't empty
+mailbox: a\n\r\r\nFrom b\n
+message: a\n\r\r\nFrom b\n
+
+== a field of this name isn't a From-line
+mailbox: a\n\nFrom : b\n
+message: a\n\nFrom : b\n
+
+== messages of one line and an empty one
+mailbox: From a\n\nFrom b\n\nFrom c\n\n
+message: From a\n\n
+message: From b\n\n
+message: From c\n\n
+"#;
+
+/// The same of three messages, which are read with failures.
+const THREES: &str = r#"
+== three messages, and a line that only looks like a From-line
+mailbox: From a\nA: 1\n\nx\n\nFrom b\nA: 2\n\ny\nFrom z\n\nFrom c\nA: 3\n\n
+message: From a\nA: 1\n\nx\n\n
+message: From b\nA: 2\n\ny\nFrom z\n\n
+message: From c\nA: 3\n\n
+"#;
+
+// A source that gives a text, so many bytes at once. The read of one number, counted from 0, fails, and those after it
 // go on.
 #[derive(Drop)]
 struct Bytes<'a> {
@@ -97,23 +134,25 @@ impl Source for Bytes<'_> {
     }
 }
 
-// Whether a mailbox gives these messages, and then none twice. An error is met at most once.
-fn gives(alloc: Global, source: &mut Bytes<'_>, want: &[&[u8]]) -> bool {
+// Whether a mailbox gives the messages of a row, and then none twice. An error is met at most once.
+fn gives(alloc: Global, source: &mut Bytes<'_>, row: &Row) -> bool {
     let mut mailbox = Mailbox::new(alloc);
-    for message in want {
-        match next(&mut mailbox, source) {
-            Ok(Some(piece)) => {
-                if piece.as_slice() != *message {
-                    return false;
-                }
-            }
-            _ => return false,
+    for cell in &row.cells {
+        if cell.key == "message" && !gives_next(&mut mailbox, source, &cell.bytes) {
+            return false;
         }
     }
     is_over(&mut mailbox, source) && is_over(&mut mailbox, source)
 }
 
-// What a call answers, or the one behind it where it met an error.
+fn gives_next(mailbox: &mut Mailbox, source: &mut Bytes<'_>, message: &[u8]) -> bool {
+    match next(mailbox, source) {
+        Ok(Some(piece)) => piece.as_slice() == message,
+        _ => false,
+    }
+}
+
+// What a call answers, or the one after it where it met an error.
 fn next(mailbox: &mut Mailbox, source: &mut Bytes<'_>) -> Result<Option<Vec<u8>>, MailFault> {
     match mailbox.next(source) {
         Err(_) => mailbox.next(source),
@@ -125,29 +164,39 @@ fn is_over(mailbox: &mut Mailbox, source: &mut Bytes<'_>) -> bool {
     matches!(next(mailbox, source), Ok(None))
 }
 
-#[test]
-fn a_mailbox_is_cut_however_it_is_read(rt: HostRuntime) {
-    for (text, want) in MAILBOXES {
-        for size in 1..=text.len() + 1 {
-            assert!(rt;
-                gives(rt.alloc(), &mut Bytes::new(text, size), want),
-                "{text:?} by {size}"
-            );
-        }
+// Reads the mailbox of a row in pieces of each size.
+fn check_sizes(rt: &impl Abort, alloc: Global, row: &Row) {
+    let text = row.bytes("mailbox");
+    for size in 1..=text.len().saturating_add(1) {
+        let mut source = Bytes::new(text, size);
+        assert!(rt; gives(alloc, &mut source, row), "{} by {size}", row.shows);
     }
 }
 
 #[test]
-fn nothing_is_lost_after_a_failure(rt: HostRuntime) {
-    for size in [1, 4, 15, 100] {
-        for failing in 0..58 {
-            let mut source = Bytes::failing(THREE, size, failing);
-            assert!(rt;
-                gives(rt.alloc(), &mut source, MAILBOXES[0].1),
-                "{size}, {failing}"
-            );
+fn a_mailbox_is_cut_however_it_is_read(rt: HostRuntime) -> Result<(), Fail> {
+    for row in &rows(rt.alloc(), MAILBOXES)? {
+        check_sizes(&rt, rt.alloc(), row);
+    }
+    Ok(())
+}
+
+// Reads the mailbox of a row with a failure at each read.
+fn check_failures(rt: &impl Abort, alloc: Global, row: &Row, size: usize) {
+    for failing in 0..58 {
+        let mut source = Bytes::failing(row.bytes("mailbox"), size, failing);
+        assert!(rt; gives(alloc, &mut source, row), "{size}, {failing}");
+    }
+}
+
+#[test]
+fn nothing_is_lost_after_a_failure(rt: HostRuntime) -> Result<(), Fail> {
+    for row in &rows(rt.alloc(), THREES)? {
+        for size in [1, 4, 15, 100] {
+            check_failures(&rt, rt.alloc(), row, size);
         }
     }
+    Ok(())
 }
 
 #[test]
@@ -194,5 +243,12 @@ fn messages_larger_than_a_chunk(rt: HostRuntime) -> Result<(), Fail> {
 // A growth that is refused is an error, after which the same call gives the message.
 #[test]
 fn memory_next(rt: HostRuntime) {
-    assert!(rt; gives(rt.alloc(), &mut Bytes::new(THREE, 7), MAILBOXES[0].1));
+    // Where the test itself gets no memory, there is nothing to see.
+    let Ok(all) = rows(rt.alloc(), THREES) else {
+        return;
+    };
+    for row in &all {
+        let mut source = Bytes::new(row.bytes("mailbox"), 7);
+        assert!(rt; gives(rt.alloc(), &mut source, row));
+    }
 }

@@ -1,19 +1,13 @@
 //! Runs in which an allocation may be refused: `rt try --test --fail-alloc N` refuses the N-th of
-//! each test. Each test then sees the defined answer, or want of memory with all as before.
+//! each test. Each test then sees the defined answer, or runs out of memory with all as before.
 
 use super::devices::{Page, Text};
-use super::filtered::{FILTERED, MAILBOX, ONLY, letters};
+use super::filtered::{FILTERED, MAILBOX};
+use super::letters::only;
 use super::shelf::Slot;
-use crate::engine::run_edit;
-use crate::filtering::run_field;
-use crate::groups::{ScriptError, steps};
-use crate::packing::run_pack;
-use crate::parts::Spec;
-use crate::path::path;
-use crate::status::Status;
-use crate::transfer::{Stop, read_all};
-use crate::unpacking::unpack;
 use mk_mail::Attach;
+use mk_run::{Spec, Status, Stop, read_all, run_edit, run_field, run_pack, unpack};
+use mk_script::{ScriptError, path, steps};
 use std::alloc::Global;
 use std::process::Abort;
 
@@ -74,7 +68,7 @@ fn memory_for_a_run(rt: HostRuntime) {
     check_run(&rt, alloc, out, err);
 }
 
-// The run is the defined one, or it is given up for want of memory.
+// The run is the defined one, or it is given up when memory runs out.
 fn check_run(rt: &impl Abort, alloc: Global, mut out: Page, mut err: Page) {
     let pieces = Vec::new(alloc);
     let mut input = Text::new(MESSAGE, SIZE);
@@ -144,7 +138,7 @@ fn memory_for_packing(rt: HostRuntime) {
     }
 }
 
-// The message goes out, or the run is given up for want of memory.
+// The message goes out, or the run is given up when memory runs out.
 fn check_packing(rt: &impl Abort, alloc: Global, mut out: Page, mut err: Page, part: Attach) {
     let mut input = Text::new(b"A: b", SIZE);
     let status = run_pack(alloc, &mut input, &mut out, &mut err, b"b", &[part]);
@@ -169,7 +163,7 @@ fn memory_for_filtering(rt: HostRuntime) {
 
 // All messages are filtered, or a front of them.
 fn check_filtering(rt: &impl Abort, alloc: Global, mut out: Page, mut err: Page) {
-    let Ok(letters) = letters(alloc, &ONLY) else {
+    let Ok(letters) = only(alloc, b"A: 9") else {
         return;
     };
     if !letters.ok() {

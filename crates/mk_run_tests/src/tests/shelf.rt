@@ -1,11 +1,11 @@
 //! Folders in memory: one that tells its files and fails when it is told to, and one that takes no memory once it is made.
 
 ghost use Rattle.std.specs.Prelude.{◌≡◌, None, Some, true, false, OnErr, OnOk};
-ghost use Rattle.mk_tool.specs.Folders.{Gets, IsFree, IsThere};
-ghost use Rattle.mk_tool.specs.Kept.{texts_in};
+ghost use Rattle.mk_run.specs.Folders.{Gets, IsFree, IsThere};
+ghost use Rattle.mk_run_tests.specs.Kept.{texts_in};
 
-use crate::folder::Folder;
 use mk_mail::Fault;
+use mk_run::Folder;
 use std::alloc::{AllocError, Global};
 use std::collections::BTreeMap;
 

@@ -1,6 +1,7 @@
 //! A folder of the system: it is made at the first file, and no link in it is followed.
 
-use crate::folder::{Directory, Folder};
+use mk_run::Folder;
+use mk_system::Directory;
 use std::fs;
 use std::os::unix::fs::symlink;
 use std::test::Fail;

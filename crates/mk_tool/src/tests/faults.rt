@@ -1,121 +1,95 @@
-//! A device fails at each of its reads or writes in turn.
+//! Devices that fail under the program: the line of the fault, and the status.
 
-use super::devices::{Page, Text};
-use crate::engine::run_edit;
-use crate::status::Status;
-use mk_mail::{Sink, Source};
-use std::alloc::Global;
-use std::process::Abort;
+use super::devices::{Broken, Page};
+use crate::program::obey;
+use mk_run::Status;
+use mk_system::Input;
+use std::alloc::{AllocError, Global};
 use std::test::Fail;
 
-const MESSAGE: &[u8] = b"A: b\n\nx\n";
+/// Commands that read a message and print something.
+const COMMANDS: [&[&str]; 4] = [
+    &["mimetool", "sections"],
+    &["mimetool", "extract", "-s", "1"],
+    &["mimetool", "field", "-A", "A: b"],
+    &["mimetool", "field", "-s", "-A", "A: b"],
+];
 
-const SCRIPT: &[u8] = b"undo\nadd 1 C: d\nredo\n";
+const MESSAGE: &[u8] = b"From a\nA: b\n\nx\n";
 
-const OUTPUT: &[u8] = b"A: b\nC: d\n\nx\n";
-
-const ERRORS: &[u8] = b"line 1: NothingToUndo\nline 3: NothingToRedo\n";
-
-const WRITE_FAULT: &[u8] = b"mimetool: write fault\n";
-
-/// The devices give and take so many bytes at once.
-const SIZE: usize = 5;
-
-/// More reads or writes than the run makes.
-const MORE: u64 = 20;
+fn listed(alloc: Global, words: &[&str]) -> Result<Vec<String>, AllocError> {
+    let mut list = Vec::new(alloc);
+    for word in words {
+        list.push(word.to_string(alloc)?)?;
+    }
+    Ok(list)
+}
 
 #[test]
-fn the_input_fails(rt: HostRuntime) -> Result<(), Fail> {
+fn a_read_that_fails_is_named(rt: HostRuntime) -> Result<(), Fail> {
     let alloc = rt.alloc();
-    let pieces = Vec::new(alloc);
-    for good in 0..3u64 {
-        let mut input = Text::failing(MESSAGE, SIZE, good);
-        let mut out = Page::new(alloc, SIZE)?;
-        let mut err = Page::new(alloc, SIZE)?;
-        let status = run_edit(alloc, &mut input, &mut out, &mut err, SCRIPT, &pieces);
-        assert_eq!(rt; status, Status::Fault);
-        assert_eq!(rt; input.reads(), good + 1);
-        assert_eq!(rt; input.faults(), 1);
-        assert_eq!(rt; out.bytes(), b"".as_slice());
-        assert_eq!(rt; err.bytes(), b"mimetool: read fault\n".as_slice());
+    for words in COMMANDS {
+        let list = listed(alloc, words)?;
+        let mut output = Page::new(alloc);
+        let mut errors = Page::new(alloc);
+        let status = obey(&rt, &list, &mut Broken::new(), &mut output, &mut errors);
+        assert_eq!(rt; status, Status::Fault, "{words:?}");
+        assert_eq!(rt; output.bytes(), b"".as_slice(), "{words:?}");
+        assert_eq!(rt;
+            errors.bytes(),
+            b"mimetool: read fault\n".as_slice(),
+            "{words:?}"
+        );
     }
     Ok(())
 }
 
 #[test]
-fn the_output_fails(rt: HostRuntime) -> Result<(), Fail> {
+fn a_write_that_fails_is_named(rt: HostRuntime) -> Result<(), Fail> {
     let alloc = rt.alloc();
-    for good in 0..MORE {
-        let mut out = Page::failing(alloc, SIZE, good)?;
-        let mut err = Page::new(alloc, SIZE)?;
-        let status = run(alloc, &mut out, &mut err);
-        check_failed_output(&rt, status, &out, &err);
+    for words in COMMANDS {
+        let list = listed(alloc, words)?;
+        let mut errors = Page::new(alloc);
+        let mut input = Input::new(MESSAGE);
+        let status = obey(&rt, &list, &mut input, &mut Broken::new(), &mut errors);
+        assert_eq!(rt; status, Status::Fault, "{words:?}");
+        assert_eq!(rt;
+            errors.bytes(),
+            b"mimetool: write fault\n".as_slice(),
+            "{words:?}"
+        );
     }
     Ok(())
 }
 
 #[test]
-fn the_output_takes_nothing(rt: HostRuntime) -> Result<(), Fail> {
+fn help_that_can_t_be_printed_is_a_fault(rt: HostRuntime) -> Result<(), Fail> {
     let alloc = rt.alloc();
-    let mut out = Page::new(alloc, 0)?;
-    let mut err = Page::new(alloc, SIZE)?;
-    let status = run(alloc, &mut out, &mut err);
+    let list = listed(alloc, &["mimetool", "--help"])?;
+    let mut errors = Page::new(alloc);
+    let mut input = Input::new(MESSAGE);
+    let status = obey(&rt, &list, &mut input, &mut Broken::new(), &mut errors);
     assert_eq!(rt; status, Status::Fault);
-    assert_eq!(rt; out.faults(), 1);
-    check_failed_output(&rt, status, &out, &err);
+    assert_eq!(rt; errors.bytes(), b"mimetool: write fault\n".as_slice());
     Ok(())
 }
 
 #[test]
-fn the_errors_fail(rt: HostRuntime) -> Result<(), Fail> {
+fn errors_that_can_t_be_printed_keep_the_status(rt: HostRuntime) -> Result<(), Fail> {
     let alloc = rt.alloc();
-    for good in 0..MORE {
-        let mut out = Page::new(alloc, SIZE)?;
-        let mut err = Page::failing(alloc, SIZE, good)?;
-        let status = run(alloc, &mut out, &mut err);
-        assert!(rt; ERRORS.starts_with(err.bytes()), "after {good} writes");
-        if err.faults() == 0 {
-            assert_eq!(rt; status, Status::Refused);
-            assert_eq!(rt; out.bytes(), OUTPUT);
-            assert_eq!(rt; err.bytes(), ERRORS);
-        } else {
-            // The line that says so fails as well, and nothing more is tried.
-            assert_eq!(rt; status, Status::Fault);
-            assert_eq!(rt; err.faults(), 2);
-            assert_eq!(rt; out.bytes(), b"".as_slice());
-        }
-    }
+    let list = listed(alloc, &["mimetool", "list"])?;
+    let mut output = Page::new(alloc);
+    let mut input = Input::new(MESSAGE);
+    let status = obey(&rt, &list, &mut input, &mut output, &mut Broken::new());
+    assert_eq!(rt; status, Status::Usage);
     Ok(())
 }
 
 #[test]
-fn the_errors_take_nothing(rt: HostRuntime) -> Result<(), Fail> {
-    let alloc = rt.alloc();
-    let mut out = Page::new(alloc, SIZE)?;
-    let mut err = Page::new(alloc, 0)?;
-    let status = run(alloc, &mut out, &mut err);
-    assert_eq!(rt; status, Status::Fault);
-    assert_eq!(rt; err.bytes(), b"".as_slice());
-    assert_eq!(rt; out.bytes(), b"".as_slice());
-    Ok(())
-}
-
-// Runs the script on the message, which is read without a fault.
-fn run(alloc: Global, out: &mut Page, err: &mut Page) -> Status {
-    let mut input = Text::new(MESSAGE, SIZE);
-    let pieces = Vec::new(alloc);
-    run_edit(alloc, &mut input, out, err, SCRIPT, &pieces)
-}
-
-// A front of the output went out, and where it is not the whole the errors say so.
-fn check_failed_output(rt: &impl Abort, status: Status, out: &Page, err: &Page) {
-    assert!(rt; OUTPUT.starts_with(out.bytes()));
-    if out.faults() == 0 {
-        assert_eq!(rt; status, Status::Refused);
-        assert_eq!(rt; out.bytes(), OUTPUT);
-        assert_eq!(rt; err.bytes(), ERRORS);
-    } else {
-        assert_eq!(rt; status, Status::Fault);
-        assert_eq!(rt; err.bytes().strip_prefix(ERRORS), Some(WRITE_FAULT));
-    }
+fn statuses_are_exit_codes(rt: HostRuntime) {
+    assert_eq!(rt; Status::Well.code(), 0);
+    assert_eq!(rt; Status::Refused.code(), 1);
+    assert_eq!(rt; Status::Usage.code(), 2);
+    assert_eq!(rt; Status::Fault.code(), 3);
+    assert_eq!(rt; Status::Memory.code(), 4);
 }

@@ -3,7 +3,7 @@ ghost use Rattle.mk_tree.specs.Documents.{tree};
 ghost use Rattle.mk_tree.specs.ChangeViews.{Changes};
 
 use super::{LEVELS, read};
-use crate::{Change, Section};
+use mk_tree::{Change, Section};
 use std::alloc::Global;
 use std::process::Abort;
 use std::test::Fail;

@@ -1,6 +1,6 @@
 //! What texts are read as: their sections and where these are. Offsets are in bytes from 0.
 
-use crate::Kind;
+use mk_tree::Kind;
 
 pub const MIXED: &[u8] =
     b"Subject: t\nContent-Type: multipart/mixed; boundary=\"b\"\n\npre\n--b\n\none\n--b \t\nContent-Type: text/html\n\ntwo\n--b--\nepi\n";

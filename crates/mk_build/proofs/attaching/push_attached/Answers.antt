@@ -1,9 +1,9 @@
 use Rattle.std.proofs.Common.{ap, ◌∙◌, ◌++◌}
 use Rattle.mk_line.specs.Lines.{ending_bytes}
-use Rattle.mk_mail.specs.BuildViews.{attached_of}
-use Rattle.mk_mail.specs.Building.{disposition_line, encoded, encoding_line, type_line}
-use Rattle.mk_mail.proofs.Joined.{on_ok, joined}
-use Rattle.mk_mail.proofs.attaching.push_attached.Goals as goal
+use Rattle.mk_build.specs.BuildViews.{attached_of}
+use Rattle.mk_build.specs.Building.{disposition_line, encoded, encoding_line, type_line}
+use Rattle.mk_line.proofs.Joined.{on_ok, joined}
+use Rattle.mk_build.proofs.attaching.push_attached.Goals as goal
 
 pub returns : goal.returns
 returns c =
@@ -16,4 +16,4 @@ returns c =
     joined c.args.text.now.items (type_line eol a) (disposition_line eol a.name ++ (encoding_line eol a.base64 ++ (ending_bytes eol ++ bytes))) c.push_type.new.text.items last c.in_ok-push_type.ensures
     (joined c.push_type.new.text.items (disposition_line eol a.name) (encoding_line eol a.base64 ++ (ending_bytes eol ++ bytes)) c.push_disposition.new.text.items last c.in_ok-push_disposition.ensures
     (joined c.push_disposition.new.text.items (encoding_line eol a.base64) (ending_bytes eol ++ bytes) c.push_encoding.new.text.items last c.in_ok-push_encoding.ensures
-    (joined c.push_encoding.new.text.items (ending_bytes eol) bytes c.extend_from_slice.new.self.items last (c.in_ok-extend_from_slice.ensures.items ∙ ap (λ x. c.push_encoding.new.text.items ++ x) c.bytes_of.ensures) h))))
+    (joined c.push_encoding.new.text.items (ending_bytes eol) bytes c.extend_from_slice.new.self.items last (c.in_ok-extend_from_slice.ensures.items ∙ ap (λ x. c.push_encoding.new.text.items ++ x) c.bytes.ensures) h))))

@@ -1,7 +1,7 @@
 use Rattle.std.proofs.Common.{ap, sym, ◌∙◌, ◌+◌, map, drop, arith}
-use Rattle.mk_mail.specs.Building.{first_failing, is_free_field}
-use Rattle.mk_mail.proofs.Failing.{passes, fails, from_index}
-use Rattle.mk_mail.proofs.building.bad_field.Goals as goal
+use Rattle.mk_build.specs.Building.{first_failing, is_free_field}
+use Rattle.mk_build.proofs.Failing.{passes, fails, from_index}
+use Rattle.mk_build.proofs.building.bad_field.Goals as goal
 
 pub loop-index-preserved : goal.loop-index-preserved
 loop-index-preserved c =

@@ -1,8 +1,8 @@
 use Rattle.std.proofs.Common.{sym, ◌∙◌, ◌+◌, map, drop, arith}
-use Rattle.mk_mail.specs.BuildViews.{attached_of}
-use Rattle.mk_mail.specs.Building.{first_failing, is_name_or_none}
-use Rattle.mk_mail.proofs.Failing.{passes, fails, from_index}
-use Rattle.mk_mail.proofs.building.bad_name.Goals as goal
+use Rattle.mk_build.specs.BuildViews.{attached_of}
+use Rattle.mk_build.specs.Building.{first_failing, is_name_or_none}
+use Rattle.mk_build.proofs.Failing.{passes, fails, from_index}
+use Rattle.mk_build.proofs.building.bad_name.Goals as goal
 
 pub loop-index-preserved : goal.loop-index-preserved
 loop-index-preserved c =

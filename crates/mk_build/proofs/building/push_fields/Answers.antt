@@ -1,7 +1,7 @@
 use Rattle.std.proofs.Common.{ap, ◌∙◌, ◌+◌, ◌++◌, map, drop, arith}
-use Rattle.mk_mail.specs.Building.{closed_field}
-use Rattle.mk_mail.proofs.Failing.{from_index, written_one}
-use Rattle.mk_mail.proofs.building.push_fields.Goals as goal
+use Rattle.mk_build.specs.Building.{closed_field}
+use Rattle.mk_build.proofs.Failing.{from_index, written_one}
+use Rattle.mk_build.proofs.building.push_fields.Goals as goal
 
 pub loop-field-preserved : goal.loop-field-preserved
 loop-field-preserved c =

@@ -1,7 +1,7 @@
 use Rattle.std.proofs.Common.{ap, ◌∙◌, ◌++◌, codes}
 use Rattle.mk_line.specs.Lines.{ending_bytes}
-use Rattle.mk_mail.proofs.Joined.{on_ok, written, joined}
-use Rattle.mk_mail.proofs.building.push_head.Goals as goal
+use Rattle.mk_line.proofs.Joined.{on_ok, written, joined}
+use Rattle.mk_build.proofs.building.push_head.Goals as goal
 
 pub returns : goal.returns
 returns c =
@@ -14,12 +14,12 @@ returns c =
     let five = c.extend_from_slice-5.new.self.items in
     let six = c.extend_from_slice-6.new.self.items in
     let last = c.extend_from_slice-7.new.self.items in
-    on_ok c.extend_from_slice-7.result _ _ (written c.extend_from_slice-7.result six c.bytes_of-ending.result.now last c.extend_from_slice-7.ensures.items)
+    on_ok c.extend_from_slice-7.result _ _ (written c.extend_from_slice-7.result six c.bytes-ending.result.now last c.extend_from_slice-7.ensures.items)
     (λ h.
     joined c.args.text.now.items (codes "MIME-Version: 1.0") (end ++ (codes "Content-Type: multipart/mixed; boundary=\"" ++ (b ++ (codes "\"" ++ (end ++ end))))) one last c.in_ok-extend_from_slice.ensures.items
-    (joined one end (codes "Content-Type: multipart/mixed; boundary=\"" ++ (b ++ (codes "\"" ++ (end ++ end)))) two last (c.in_ok-extend_from_slice-2.ensures.items ∙ ap (λ x. one ++ x) c.bytes_of-ending.ensures)
+    (joined one end (codes "Content-Type: multipart/mixed; boundary=\"" ++ (b ++ (codes "\"" ++ (end ++ end)))) two last (c.in_ok-extend_from_slice-2.ensures.items ∙ ap (λ x. one ++ x) c.bytes-ending.ensures)
     (joined two (codes "Content-Type: multipart/mixed; boundary=\"") (b ++ (codes "\"" ++ (end ++ end))) three last c.in_ok-extend_from_slice-3.ensures.items
     (joined three b (codes "\"" ++ (end ++ end)) four last c.in_ok-extend_from_slice-4.ensures.items
     (joined four (codes "\"") (end ++ end) five last c.in_ok-extend_from_slice-5.ensures.items
-    (joined five end end six last (c.in_ok-extend_from_slice-6.ensures.items ∙ ap (λ x. five ++ x) c.bytes_of-ending.ensures)
-    (h ∙ ap (λ x. six ++ x) c.bytes_of-ending.ensures)))))))
+    (joined five end end six last (c.in_ok-extend_from_slice-6.ensures.items ∙ ap (λ x. five ++ x) c.bytes-ending.ensures)
+    (h ∙ ap (λ x. six ++ x) c.bytes-ending.ensures)))))))

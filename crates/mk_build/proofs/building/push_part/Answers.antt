@@ -1,9 +1,9 @@
 use Rattle.std.proofs.Common.{ap, ◌∙◌, ◌++◌, codes}
 use Rattle.mk_line.specs.Lines.{ending_bytes}
-use Rattle.mk_mail.specs.BuildViews.{attached_of}
-use Rattle.mk_mail.specs.Building.{attached}
-use Rattle.mk_mail.proofs.Joined.{on_ok, written, joined}
-use Rattle.mk_mail.proofs.building.push_part.Goals as goal
+use Rattle.mk_build.specs.BuildViews.{attached_of}
+use Rattle.mk_build.specs.Building.{attached}
+use Rattle.mk_line.proofs.Joined.{on_ok, written, joined}
+use Rattle.mk_build.proofs.building.push_part.Goals as goal
 
 pub returns : goal.returns
 returns c =
@@ -15,9 +15,9 @@ returns c =
     let three = c.extend_from_slice-3.new.self.items in
     let four = c.push_attached.new.text.items in
     let last = c.extend_from_slice-4.new.self.items in
-    on_ok c.extend_from_slice-4.result _ _ (written c.extend_from_slice-4.result four c.bytes_of-2.result.now last c.extend_from_slice-4.ensures.items)
+    on_ok c.extend_from_slice-4.result _ _ (written c.extend_from_slice-4.result four c.bytes-2.result.now last c.extend_from_slice-4.ensures.items)
     (λ h.
     joined c.args.text.now.items (codes "--") (b ++ (end ++ (a ++ end))) one last c.in_ok-extend_from_slice.ensures.items
     (joined one b (end ++ (a ++ end)) two last c.in_ok-extend_from_slice-2.ensures.items
-    (joined two end (a ++ end) three last (c.in_ok-extend_from_slice-3.ensures.items ∙ ap (λ x. two ++ x) c.bytes_of.ensures)
-    (joined three a end four last c.in_ok-push_attached.ensures (h ∙ ap (λ x. four ++ x) c.bytes_of-2.ensures)))))
+    (joined two end (a ++ end) three last (c.in_ok-extend_from_slice-3.ensures.items ∙ ap (λ x. two ++ x) c.bytes.ensures)
+    (joined three a end four last c.in_ok-push_attached.ensures (h ∙ ap (λ x. four ++ x) c.bytes-2.ensures)))))

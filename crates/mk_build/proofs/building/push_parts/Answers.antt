@@ -1,8 +1,8 @@
 use Rattle.std.proofs.Common.{◌+◌, map, drop, arith}
-use Rattle.mk_mail.specs.BuildViews.{attached_of}
-use Rattle.mk_mail.specs.Building.{built_part}
-use Rattle.mk_mail.proofs.Failing.{from_index, written_one}
-use Rattle.mk_mail.proofs.building.push_parts.Goals as goal
+use Rattle.mk_build.specs.BuildViews.{attached_of}
+use Rattle.mk_build.specs.Building.{built_part}
+use Rattle.mk_build.proofs.Failing.{from_index, written_one}
+use Rattle.mk_build.proofs.building.push_parts.Goals as goal
 
 pub loop-part-preserved : goal.loop-part-preserved
 loop-part-preserved c =

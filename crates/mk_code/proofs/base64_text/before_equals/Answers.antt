@@ -1,6 +1,6 @@
 use Rattle.std.proofs.Common.{◌∙◌, ap, sym, not, ◌==◌}
 use Rattle.std.specs.List.{take_while}
-use Rattle.mk_code.specs.Ascii.{equals_sign}
+use Rattle.mk_line.specs.Ascii.{equals_sign}
 use Rattle.mk_code.proofs.Base64Letters.{before_found, before_unfound}
 use Rattle.mk_code.proofs.base64_text.before_equals.Goals as goal
 

@@ -1,7 +1,6 @@
 use Rattle.std.proofs.Common.{◌≡◌, ◌++◌, length}
 use Rattle.std.specs.List.{filter}
-use Rattle.mk_code.specs.Ascii.{is_letter}
-use Rattle.mk_code.specs.Base64Text.{letters}
+use Rattle.mk_code.specs.Base64Text.{letters, is_letter}
 use Rattle.mk_code.proofs.base64_text.letters.Given as goal
 
 abbrev pub invariant-loop-rest : goal.invariant-loop-rest

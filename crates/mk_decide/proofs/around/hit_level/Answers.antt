@@ -1,7 +1,7 @@
 use Rattle.std.proofs.Common.{◌∙◌, sym, arith, drop, length-drop}
 use Rattle.mk_line.specs.Lines.{cut as lines_of}
-use Rattle.mk_edit.proofs.SectionsAround.{hit_now}
-use Rattle.mk_edit.proofs.around.hit_level.Goals as goal
+use Rattle.mk_decide.proofs.SectionsAround.{hit_now}
+use Rattle.mk_decide.proofs.around.hit_level.Goals as goal
 
 pub returns-then-is_hit : goal.returns-then-is_hit
 returns-then-is_hit c =

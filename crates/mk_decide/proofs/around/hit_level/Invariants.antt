@@ -2,8 +2,8 @@ use Rattle.std.proofs.Common.{◌≡◌, ◌+◌, drop}
 use Rattle.mk_line.specs.Lines.{cut as lines_of}
 use Rattle.mk_tree.specs.Documents.{tree}
 use Rattle.mk_tree.specs.Sections.{root_of}
-use Rattle.mk_edit.specs.Around.{hit_below}
-use Rattle.mk_edit.proofs.around.hit_level.Given as goal
+use Rattle.mk_decide.specs.Around.{hit_below}
+use Rattle.mk_decide.proofs.around.hit_level.Given as goal
 
 abbrev pub invariant-loop-number : goal.invariant-loop-number
 invariant-loop-number l = record {

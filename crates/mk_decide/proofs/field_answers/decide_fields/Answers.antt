@@ -1,7 +1,7 @@
 use Rattle.std.proofs.Common.{arith}
-use Rattle.mk_edit.proofs.FieldAnswers.{behind_is, found_ok, found_err, missing_err}
-use Rattle.mk_edit.proofs.LineCounts.{found_most}
-use Rattle.mk_edit.proofs.field_answers.decide_fields.Goals as goal
+use Rattle.mk_decide.proofs.FieldAnswers.{behind_is, found_ok, found_err, missing_err}
+use Rattle.mk_decide.proofs.LineCounts.{found_most}
+use Rattle.mk_decide.proofs.field_answers.decide_fields.Goals as goal
 
 pub returns-in-Some-clause-ok : goal.returns-in-Some-clause-ok
 returns-in-Some-clause-ok c = found_ok c.args.doc.now c.args.path.now _ c.args.edit.now c.in-Some.section c.section.result c.decide_at.result c.section.ensures c.in-Some.is (behind_is c.args.path.now) c.decide_at.ensures.ok

@@ -1,7 +1,7 @@
 use Rattle.std.proofs.Common.{ap, ◌∙◌, arith}
-use Rattle.mk_edit.specs.FieldPuts.{placed_field, raw_size}
-use Rattle.mk_edit.proofs.FieldPlaces.{fields_within}
-use Rattle.mk_edit.proofs.field_edits.field_at.Goals as goal
+use Rattle.mk_decide.specs.FieldPuts.{placed_field, raw_size}
+use Rattle.mk_decide.proofs.FieldPlaces.{fields_within}
+use Rattle.mk_decide.proofs.field_edits.field_at.Goals as goal
 
 pub loop-field-init : goal.loop-field-init
 loop-field-init c =

@@ -1,10 +1,10 @@
 use Rattle.std.proofs.Common.{Ok, refl, sym, ◌∙◌}
 use Rattle.mk_line.specs.Lines.{cut}
 use Rattle.mk_head.specs.Fields.{is_one_field}
-use Rattle.mk_edit.specs.Edits.{BadField}
-use Rattle.mk_edit.specs.FieldPuts.{add_put, adds}
-use Rattle.mk_edit.proofs.FieldPutting.{put_by, may_put, put_add}
-use Rattle.mk_edit.proofs.field_edits.put_more.Goals as goal
+use Rattle.mk_decide.specs.Edits.{BadField}
+use Rattle.mk_decide.specs.FieldPuts.{add_put, adds}
+use Rattle.mk_decide.proofs.FieldPutting.{put_by, may_put, put_add}
+use Rattle.mk_decide.proofs.field_edits.put_more.Goals as goal
 
 pub returns-clause-ok : goal.returns-clause-ok
 returns-clause-ok c =

@@ -1,11 +1,12 @@
 use Rattle.std.proofs.Common.{Ok, not, ◌++◌, refl, ap, sym, ◌∙◌}
 use Rattle.mk_line.specs.Lines.{cut}
 use Rattle.mk_head.specs.Views.{field_view}
-use Rattle.mk_edit.specs.Edits.{BadName}
-use Rattle.mk_edit.specs.FieldEdits.{is_name, field_at}
-use Rattle.mk_edit.specs.FieldPuts.{name_put, put_unless, renames}
-use Rattle.mk_edit.proofs.FieldPutting.{put_by, may_put, found_put, put_renamed}
-use Rattle.mk_edit.proofs.field_edits.put_name.Goals as goal
+use Rattle.mk_decide.specs.Edits.{BadName}
+use Rattle.mk_line.specs.Kinds.{is_name}
+use Rattle.mk_decide.specs.FieldEdits.{field_at}
+use Rattle.mk_decide.specs.FieldPuts.{name_put, put_unless, renames}
+use Rattle.mk_decide.proofs.FieldPutting.{put_by, may_put, found_put, put_renamed}
+use Rattle.mk_decide.proofs.field_edits.put_name.Goals as goal
 
 pub returns-in_ok-extend_from_slice-in-Some-clause-ok : goal.returns-in_ok-extend_from_slice-in-Some-clause-ok
 returns-in_ok-extend_from_slice-in-Some-clause-ok c =

@@ -2,11 +2,11 @@ use Rattle.std.proofs.Common.{Ok, not, length, refl, ap, sym, ◌∙◌}
 use Rattle.mk_line.specs.Lines.{cut}
 use Rattle.mk_line.proofs.Cuts.{text_cut}
 use Rattle.mk_head.specs.Fields.{is_one_field}
-use Rattle.mk_edit.specs.Edits.{BadField}
-use Rattle.mk_edit.specs.FieldEdits.{field_at}
-use Rattle.mk_edit.specs.FieldPuts.{set_put, put_unless, sets}
-use Rattle.mk_edit.proofs.FieldPutting.{put_by, may_put, found_put, put_set}
-use Rattle.mk_edit.proofs.field_edits.put_other.Goals as goal
+use Rattle.mk_decide.specs.Edits.{BadField}
+use Rattle.mk_decide.specs.FieldEdits.{field_at}
+use Rattle.mk_decide.specs.FieldPuts.{set_put, put_unless, sets}
+use Rattle.mk_decide.proofs.FieldPutting.{put_by, may_put, found_put, put_set}
+use Rattle.mk_decide.proofs.field_edits.put_other.Goals as goal
 
 pub returns-in_ok-from_slice-in-Some-clause-ok : goal.returns-in_ok-from_slice-in-Some-clause-ok
 returns-in_ok-from_slice-in-Some-clause-ok c =

@@ -1,7 +1,7 @@
 use Rattle.std.proofs.Common.{◌≡◌, ◌≤◌, ◌+◌}
 use Rattle.mk_tree.specs.Sections.{children}
-use Rattle.mk_edit.specs.KindsKept.{all_keep, lines_of_others}
-use Rattle.mk_edit.proofs.kinds_kept.parts_keep_kinds.Given as goal
+use Rattle.mk_decide.specs.KindsKept.{all_keep, lines_of_others}
+use Rattle.mk_decide.proofs.kinds_kept.parts_keep_kinds.Given as goal
 
 abbrev pub invariant-loop-part : goal.invariant-loop-part
 invariant-loop-part l = record {

@@ -1,7 +1,7 @@
 use Rattle.std.proofs.Common.{◌≡◌, ◌+◌, ◌-◌, ◌≤◌, length, drop, take}
 use Rattle.mk_line.specs.Lines.{cut as lines_of}
 use Rattle.mk_line.specs.Views.{BeginsLine}
-use Rattle.mk_edit.proofs.looking.copied_lines.Given as goal
+use Rattle.mk_decide.proofs.looking.copied_lines.Given as goal
 
 abbrev pub invariant-each : goal.invariant-each
 invariant-each l = record {

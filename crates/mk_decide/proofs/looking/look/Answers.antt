@@ -1,6 +1,6 @@
 use Rattle.mk_line.specs.Views.{line_of}
-use Rattle.mk_edit.proofs.LineLooks.{next_is, end_is}
-use Rattle.mk_edit.proofs.looking.look.Goals as goal
+use Rattle.mk_decide.proofs.LineLooks.{next_is, end_is}
+use Rattle.mk_decide.proofs.looking.look.Goals as goal
 
 pub returns-in-Some-clause-some : goal.returns-in-Some-clause-some
 returns-in-Some-clause-some c = next_is c.args.text.now c.args.place c.size-size.result (line_of c.in-Some.line) c.requires c.in-Some.ensures.line c.size-size.ensures

@@ -1,10 +1,10 @@
 use Rattle.std.proofs.Common.{◌∙◌, refl, sym}
-use Rattle.mk_edit.specs.Edits.{InsertPart}
-use Rattle.mk_edit.specs.LocalAnswers.{behind_first}
-use Rattle.mk_edit.specs.SectionAnswers.{insertion_answer}
-use Rattle.mk_edit.proofs.InsertionFits.{insertion_answers}
-use Rattle.mk_edit.proofs.Decisions.{told_ok, told_err, told_none}
-use Rattle.mk_edit.proofs.part_edits.decide_insertion.Goals as goal
+use Rattle.mk_decide.specs.Edits.{InsertPart}
+use Rattle.mk_decide.specs.LocalAnswers.{behind_first}
+use Rattle.mk_decide.specs.SectionAnswers.{insertion_answer}
+use Rattle.mk_decide.proofs.InsertionFits.{insertion_answers}
+use Rattle.mk_decide.proofs.Decisions.{told_ok, told_err, told_none}
+use Rattle.mk_decide.proofs.part_edits.decide_insertion.Goals as goal
 
 pub returns-in-Some-clause-ok : goal.returns-in-Some-clause-ok
 returns-in-Some-clause-ok c =

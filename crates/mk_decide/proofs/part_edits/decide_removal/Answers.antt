@@ -1,11 +1,11 @@
 use Rattle.std.proofs.Common.{◌∙◌, refl, sym}
 use Rattle.mk_tree.specs.Documents.{tree}
 use Rattle.mk_tree.specs.Sections.{section_at}
-use Rattle.mk_edit.specs.Edits.{RemovePart}
-use Rattle.mk_edit.specs.SectionAnswers.{outer_path, last_number, removal_answer}
-use Rattle.mk_edit.proofs.RemovalFits.{removal_answers}
-use Rattle.mk_edit.proofs.Decisions.{told_ok, told_err, told_none}
-use Rattle.mk_edit.proofs.part_edits.decide_removal.Goals as goal
+use Rattle.mk_decide.specs.Edits.{RemovePart}
+use Rattle.mk_decide.specs.SectionAnswers.{outer_path, last_number, removal_answer}
+use Rattle.mk_decide.proofs.RemovalFits.{removal_answers}
+use Rattle.mk_decide.proofs.Decisions.{told_ok, told_err, told_none}
+use Rattle.mk_decide.proofs.part_edits.decide_removal.Goals as goal
 
 pub returns-in-Some-clause-ok : goal.returns-in-Some-clause-ok
 returns-in-Some-clause-ok c =

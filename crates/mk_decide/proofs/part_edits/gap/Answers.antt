@@ -1,6 +1,6 @@
 use Rattle.std.proofs.Common.{length, arith, ap}
-use Rattle.mk_edit.proofs.Gaps.{preamble_within, print_apart, first_gap}
-use Rattle.mk_edit.proofs.part_edits.gap.Goals as goal
+use Rattle.mk_decide.proofs.Gaps.{preamble_within, print_apart, first_gap}
+use Rattle.mk_decide.proofs.part_edits.gap.Goals as goal
 
 pub overflow_sub-behind : goal.overflow_sub-behind
 overflow_sub-behind c = omega (arith, preamble_within c.args.section.now.entity, ap length c.preamble.ensures, ap length c.body.ensures)

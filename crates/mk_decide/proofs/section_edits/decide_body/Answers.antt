@@ -1,10 +1,10 @@
 use Rattle.std.proofs.Common.{◌∙◌, refl, sym}
-use Rattle.mk_edit.specs.Edits.{SetBody}
-use Rattle.mk_edit.specs.LocalAnswers.{behind_first}
-use Rattle.mk_edit.specs.SectionAnswers.{body_answer}
-use Rattle.mk_edit.proofs.BodyFits.{body_answers}
-use Rattle.mk_edit.proofs.Decisions.{told_ok, told_err, told_none}
-use Rattle.mk_edit.proofs.section_edits.decide_body.Goals as goal
+use Rattle.mk_decide.specs.Edits.{SetBody}
+use Rattle.mk_decide.specs.LocalAnswers.{behind_first}
+use Rattle.mk_decide.specs.SectionAnswers.{body_answer}
+use Rattle.mk_decide.proofs.BodyFits.{body_answers}
+use Rattle.mk_decide.proofs.Decisions.{told_ok, told_err, told_none}
+use Rattle.mk_decide.proofs.section_edits.decide_body.Goals as goal
 
 pub returns-in-Some-clause-ok : goal.returns-in-Some-clause-ok
 returns-in-Some-clause-ok c =

@@ -1,12 +1,12 @@
 use Rattle.std.proofs.Common.{◌∙◌, refl, sym}
 use Rattle.mk_tree.specs.Documents.{tree}
 use Rattle.mk_tree.specs.Sections.{section_at}
-use Rattle.mk_edit.specs.Edits.{SetSection}
-use Rattle.mk_edit.specs.LocalAnswers.{behind_first}
-use Rattle.mk_edit.specs.SectionAnswers.{outer_path, section_answer}
-use Rattle.mk_edit.proofs.SectionFits.{section_answers}
-use Rattle.mk_edit.proofs.Decisions.{told_ok, told_err, told_none}
-use Rattle.mk_edit.proofs.section_edits.decide_section.Goals as goal
+use Rattle.mk_decide.specs.Edits.{SetSection}
+use Rattle.mk_decide.specs.LocalAnswers.{behind_first}
+use Rattle.mk_decide.specs.SectionAnswers.{outer_path, section_answer}
+use Rattle.mk_decide.proofs.SectionFits.{section_answers}
+use Rattle.mk_decide.proofs.Decisions.{told_ok, told_err, told_none}
+use Rattle.mk_decide.proofs.section_edits.decide_section.Goals as goal
 
 pub returns-in-Some-clause-ok : goal.returns-in-Some-clause-ok
 returns-in-Some-clause-ok c =

@@ -1,7 +1,7 @@
 use Rattle.std.proofs.Common.{length, arith, ap}
-use Rattle.mk_edit.proofs.Gaps.{print_apart}
-use Rattle.mk_edit.proofs.SiteLines.{section_within}
-use Rattle.mk_edit.proofs.section_edits.leaf_in_place.Goals as goal
+use Rattle.mk_decide.proofs.Gaps.{print_apart}
+use Rattle.mk_decide.proofs.SiteLines.{section_within}
+use Rattle.mk_decide.proofs.section_edits.leaf_in_place.Goals as goal
 
 pub opens_early-requires : goal.opens_early-requires
 opens_early-requires c = omega (arith, section_within c.args.doc.now c.args.path.now c.args.section.now c.requires, print_apart c.args.section.now.entity, ap length c.text.ensures, ap length c.body-count.ensures, c.body_start-place.ensures)

@@ -1,7 +1,7 @@
 use Rattle.std.proofs.Common.{◌∙◌, ◌-◌, ap, sym}
-use Rattle.mk_edit.specs.WrapAnswers.{all_fit}
-use Rattle.mk_edit.proofs.WrapPieces.{fit_children}
-use Rattle.mk_edit.proofs.wrap_edits.+fits_levels.Goals as goal
+use Rattle.mk_decide.specs.WrapAnswers.{all_fit}
+use Rattle.mk_decide.proofs.WrapPieces.{fit_children}
+use Rattle.mk_decide.proofs.wrap_edits.+fits_levels.Goals as goal
 
 pub loop-child-init : goal.loop-child-init
 loop-child-init t c =

@@ -1,6 +1,6 @@
 use Rattle.std.proofs.Common.{◌≡◌, ◌-◌}
-use Rattle.mk_edit.specs.WrapAnswers.{fits_levels, all_fit}
-use Rattle.mk_edit.proofs.wrap_edits.+fits_levels.Given as goal
+use Rattle.mk_decide.specs.WrapAnswers.{fits_levels, all_fit}
+use Rattle.mk_decide.proofs.wrap_edits.+fits_levels.Given as goal
 
 abbrev pub decreases-fits_levels : goal.decreases-fits_levels
 decreases-fits_levels l = l.left

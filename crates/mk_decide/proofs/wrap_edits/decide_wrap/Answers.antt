@@ -1,11 +1,11 @@
 use Rattle.std.proofs.Common.{◌∙◌, arith, refl, sym}
-use Rattle.mk_edit.specs.Edits.{Wrap}
-use Rattle.mk_edit.specs.LocalAnswers.{behind_first}
-use Rattle.mk_edit.specs.WrapAnswers.{wrap_answer}
-use Rattle.mk_edit.proofs.Decisions.{told_ok, told_err, told_none}
-use Rattle.mk_edit.proofs.WrapCounts.{looked_most}
-use Rattle.mk_edit.proofs.WrapFits.{wrap_answers}
-use Rattle.mk_edit.proofs.wrap_edits.decide_wrap.Goals as goal
+use Rattle.mk_decide.specs.Edits.{Wrap}
+use Rattle.mk_decide.specs.LocalAnswers.{behind_first}
+use Rattle.mk_decide.specs.WrapAnswers.{wrap_answer}
+use Rattle.mk_decide.proofs.Decisions.{told_ok, told_err, told_none}
+use Rattle.mk_decide.proofs.WrapCounts.{looked_most}
+use Rattle.mk_decide.proofs.WrapFits.{wrap_answers}
+use Rattle.mk_decide.proofs.wrap_edits.decide_wrap.Goals as goal
 
 pub returns-in-Some-clause-ok : goal.returns-in-Some-clause-ok
 returns-in-Some-clause-ok c =

@@ -1,7 +1,7 @@
 use Rattle.std.proofs.Common.{◌∙◌, sym}
-use Rattle.mk_edit.proofs.FieldAnswers.{behind_is}
-use Rattle.mk_edit.proofs.WrapAnswered.{in_ok, in_err}
-use Rattle.mk_edit.proofs.wrap_edits.wrap.Goals as goal
+use Rattle.mk_decide.proofs.FieldAnswers.{behind_is}
+use Rattle.mk_decide.proofs.WrapAnswered.{in_ok, in_err}
+use Rattle.mk_decide.proofs.wrap_edits.wrap.Goals as goal
 
 pub returns-clause-ok : goal.returns-clause-ok
 returns-clause-ok c =

@@ -2,11 +2,11 @@ use Rattle.std.proofs.Common.{◌≡◌, ◌+◌, ◌∙◌, ap, sym, length}
 use Rattle.mk_line.specs.Lines.{cut, eol_of, is_nil}
 use Rattle.mk_tree.specs.Documents.{tree}
 use Rattle.mk_tree.specs.Sections.{root_of, head_text}
-use Rattle.mk_edit.specs.Around.{hit_below}
-use Rattle.mk_edit.specs.Outcomes.{has_mark, or_own}
-use Rattle.mk_edit.specs.WrapAnswers.{made_bytes, other_part, wrap_opens, wrap_fits}
-use Rattle.mk_edit.proofs.WrapAnswered.{AreSteps, nil_told, lines_are, bytes_are, wrapped_in}
-use Rattle.mk_edit.proofs.wrap_edits.wrap_in_place.Goals as goal
+use Rattle.mk_decide.specs.Around.{hit_below}
+use Rattle.mk_decide.specs.Outcomes.{has_mark, or_own}
+use Rattle.mk_decide.specs.WrapAnswers.{made_bytes, other_part, wrap_opens, wrap_fits}
+use Rattle.mk_decide.proofs.WrapAnswered.{AreSteps, nil_told, lines_are, bytes_are, wrapped_in}
+use Rattle.mk_decide.proofs.wrap_edits.wrap_in_place.Goals as goal
 
 pub returns-clause-ok : goal.returns-clause-ok
 returns-clause-ok c =

@@ -1,7 +1,7 @@
 use Rattle.std.proofs.Common.{◌≡◌, ◌++◌, false}
 use Rattle.mk_line.specs.Lines.{cut as lines_of, text_of}
-use Rattle.mk_edit.specs.Wrapping.{content_fields, other_fields}
-use Rattle.mk_edit.proofs.wrapped_text.divide.Given as goal
+use Rattle.mk_decide.specs.Wrapping.{content_fields, other_fields}
+use Rattle.mk_decide.proofs.wrapped_text.divide.Given as goal
 
 abbrev pub invariant-loop-line : goal.invariant-loop-line
 invariant-loop-line l = record {

@@ -1,8 +1,8 @@
 use Rattle.std.proofs.Common.{◌≡◌, ◌∙◌, ◌++◌, ap, length}
 use Rattle.mk_tree.specs.Sections.{head_text, body_text}
-use Rattle.mk_edit.specs.WrapAnswers.{separator_text}
-use Rattle.mk_edit.proofs.WrapPieces.{raw_apart, front_apart, rest_apart, front_size, rest_within, front_within}
-use Rattle.mk_edit.proofs.wrapped_text.take_apart.Goals as goal
+use Rattle.mk_decide.specs.WrapAnswers.{separator_text}
+use Rattle.mk_decide.proofs.WrapPieces.{raw_apart, front_apart, rest_apart, front_size, rest_within, front_within}
+use Rattle.mk_decide.proofs.wrapped_text.take_apart.Goals as goal
 
 pub split_at-requires : goal.split_at-requires
 split_at-requires c =

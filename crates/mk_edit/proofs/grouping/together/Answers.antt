@@ -1,14 +1,15 @@
 use Rattle.std.proofs.Common.{◌∙◌, [], ◌∷◌, Err, ap, sym, arith, map, get_or, subst}
 use Rattle.std.proofs.lemmas.List.{map-append}
 use Rattle.mk_tree.specs.Documents.{tree}
-use Rattle.mk_edit.specs.Answers.{refusal_of, IsRefusedBy}
+use Rattle.mk_decide.specs.Answers.{refusal_of, IsRefusedBy}
 use Rattle.mk_edit.specs.Drafts.{text_in}
-use Rattle.mk_edit.specs.Edits.{Member}
+use Rattle.mk_decide.specs.Edits.{Member}
 use Rattle.mk_edit.specs.Groups.{together as defined}
 use Rattle.mk_edit.specs.Histories.{grouped_by}
 use Rattle.mk_edit.specs.Made.{IsMade}
-use Rattle.mk_edit.specs.Outcomes.{edited}
-use Rattle.mk_edit.specs.Views.{edit_of, splice_of}
+use Rattle.mk_decide.specs.Outcomes.{edited}
+use Rattle.mk_decide.specs.Views.{edit_of}
+use Rattle.mk_splice.specs.Views.{splice_of}
 use Rattle.mk_edit.proofs.GroupsMade.{told_next, goes_next, text_next, told_refused}
 use Rattle.mk_edit.proofs.grouping.together.Goals as goal
 

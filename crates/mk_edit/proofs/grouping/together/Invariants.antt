@@ -2,8 +2,9 @@ use Rattle.std.proofs.Common.{◌≡◌, ◌≤◌, length, map, drop, vec_len, 
 use Rattle.mk_tree.specs.Documents.{tree}
 use Rattle.mk_edit.specs.Drafts.{text_in}
 use Rattle.mk_edit.specs.Groups.{behind, together}
-use Rattle.mk_edit.specs.Splices.{forth_step, GoesForth}
-use Rattle.mk_edit.specs.Views.{edit_of, splice_of}
+use Rattle.mk_splice.specs.Splices.{forth_step, GoesForth}
+use Rattle.mk_decide.specs.Views.{edit_of}
+use Rattle.mk_splice.specs.Views.{splice_of}
 use Rattle.mk_edit.proofs.grouping.together.Given as goal
 
 abbrev pub invariant-loop-edit : goal.invariant-loop-edit

@@ -1,4 +1,4 @@
-use Rattle.mk_edit.proofs.EditsLead.{splices_lead_lem}
+use Rattle.mk_decide.proofs.EditsLead.{splices_lead_lem}
 use Rattle.mk_edit.proofs.laws.splices_lead.Goals as goal
 
 pub returns : goal.returns

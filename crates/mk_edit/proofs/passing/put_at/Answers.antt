@@ -1,8 +1,8 @@
 use Rattle.std.proofs.Common.{◌∙◌, ap, arith, refl, sym, false, subst}
 use Rattle.mk_line.specs.Lines.{cut}
 use Rattle.mk_head.specs.Splits.{IsRun}
-use Rattle.mk_edit.specs.Answers.{refusal_of, IsRefusedBy}
-use Rattle.mk_edit.specs.FieldPuts.{puts, IsPut}
+use Rattle.mk_decide.specs.Answers.{refusal_of, IsRefusedBy}
+use Rattle.mk_decide.specs.FieldPuts.{puts, IsPut}
 use Rattle.mk_edit.specs.SilentEdits.{numbered}
 use Rattle.mk_edit.proofs.PassedFields.{passed_within, behind_is, put_later, refused_later, later_fits}
 use Rattle.mk_edit.proofs.passing.put_at.Goals as goal

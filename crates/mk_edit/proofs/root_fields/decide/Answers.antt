@@ -1,5 +1,5 @@
 use Rattle.std.proofs.Common.{◌+◌, ◌∙◌, ap, arith, sym}
-use Rattle.mk_edit.specs.LocalAnswers.{opens_at, plain_splice}
+use Rattle.mk_decide.specs.LocalAnswers.{opens_at, plain_splice}
 use Rattle.mk_edit.specs.SilentEdits.{numbered}
 use Rattle.mk_edit.proofs.RootEdits.{root_fit, put_root, opens_root}
 use Rattle.mk_edit.proofs.root_fields.decide.Goals as goal

@@ -1,8 +1,8 @@
 use Rattle.std.proofs.Common.{false, subst, sym, IfOk, IfErr}
 use Rattle.mk_line.specs.Lines.{cut}
 use Rattle.mk_head.specs.Splits.{IsRun}
-use Rattle.mk_edit.specs.Answers.{refusal_of, IsRefusedBy}
-use Rattle.mk_edit.specs.FieldPuts.{puts, IsPut}
+use Rattle.mk_decide.specs.Answers.{refusal_of, IsRefusedBy}
+use Rattle.mk_decide.specs.FieldPuts.{puts, IsPut}
 use Rattle.mk_edit.specs.RootFields.{HasPassed}
 use Rattle.mk_edit.specs.SilentEdits.{numbered}
 use Rattle.mk_edit.proofs.RootEdits.{root_run, refused_by}

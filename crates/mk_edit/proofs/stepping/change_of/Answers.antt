@@ -1,5 +1,5 @@
 use Rattle.std.proofs.Common.{sym, subst, inl, inr}
-use Rattle.mk_edit.specs.Views.{edit_of}
+use Rattle.mk_decide.specs.Views.{edit_of}
 use Rattle.mk_edit.proofs.FieldsMade.{IsOfFields, fields_made}
 use Rattle.mk_edit.proofs.stepping.change_of.Goals as goal
 

@@ -1,7 +1,7 @@
 use Rattle.std.proofs.Common.{◌∙◌, ap, take, drop}
-use Rattle.mk_tree.specs.Splicing.{spliced}
-use Rattle.mk_edit.specs.LocalAnswers.{plain_splice}
-use Rattle.mk_edit.specs.Views.{edit_of}
+use Rattle.mk_splice.specs.Splices.{spliced}
+use Rattle.mk_decide.specs.LocalAnswers.{plain_splice}
+use Rattle.mk_decide.specs.Views.{edit_of}
 use Rattle.mk_edit.proofs.GroupsMade.{made_so}
 use Rattle.mk_edit.proofs.stepping.make.Goals as goal
 

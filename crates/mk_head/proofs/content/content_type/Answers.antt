@@ -1,6 +1,8 @@
 use Rattle.std.proofs.Common.{◌∙◌, ap}
 use Rattle.std.proofs.lemmas.Result.{IfOk-weaker}
-use Rattle.mk_head.specs.Values.{Plain, pieces, stripped, before, behind, slash, typed_as, type_of_pieces}
+use Rattle.mk_line.specs.Ascii.{slash}
+use Rattle.mk_line.specs.Parting.{before, behind}
+use Rattle.mk_head.specs.Values.{Plain, pieces, stripped, typed_as, type_of_pieces}
 use Rattle.mk_head.proofs.Parts.{typed_parts}
 use Rattle.mk_head.proofs.content.content_type.Goals as goal
 

@@ -3,4 +3,4 @@ use Rattle.mk_head.proofs.Parts.{stripped_at}
 use Rattle.mk_head.proofs.content.strip.Goals as goal
 
 pub returns : goal.returns
-returns c = c.trimmed.ensures ∙ stripped_at c.args.text.now c.blank_front.result c.blank_front.ensures.front
+returns c = c.trimmed.ensures ∙ stripped_at c.args.text.now c.leading_blanks.result c.leading_blanks.ensures.front

@@ -1,7 +1,7 @@
 use Rattle.std.proofs.Common.{ap, sym, ◌∙◌, [], unwrap_or}
 use Rattle.std.specs.List.{list_all}
 use Rattle.mk_line.specs.Ascii.{colon, is_blank}
-use Rattle.mk_head.proofs.Parts.{found, unfound}
+use Rattle.mk_line.proofs.FirstBytes.{found, unfound}
 use Rattle.mk_mail.proofs.filtering.is_bare.Goals as goal
 
 pub returns-in-Some : goal.returns-in-Some

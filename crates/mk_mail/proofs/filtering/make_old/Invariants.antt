@@ -1,5 +1,5 @@
 use Rattle.std.proofs.Common.{◌≡◌, ◌++◌, map}
-use Rattle.mk_edit.specs.Edits.{RenameField}
+use Rattle.mk_decide.specs.Edits.{RenameField}
 use Rattle.mk_mail.specs.Letters.{old_name, replaced, root_path, those}
 use Rattle.mk_mail.specs.LetterWork.{plain_edits, texts_of}
 use Rattle.mk_mail.proofs.filtering.make_old.Given as goal

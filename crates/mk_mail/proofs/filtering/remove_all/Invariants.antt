@@ -1,5 +1,5 @@
 use Rattle.std.proofs.Common.{◌≡◌, ◌++◌, map}
-use Rattle.mk_edit.specs.Edits.{RemoveField}
+use Rattle.mk_decide.specs.Edits.{RemoveField}
 use Rattle.mk_mail.specs.Letters.{others, root_path, those}
 use Rattle.mk_mail.specs.LetterWork.{plain_edits, texts_of}
 use Rattle.mk_mail.proofs.filtering.remove_all.Given as goal

@@ -1,7 +1,7 @@
 use Rattle.std.proofs.Common.{◌≡◌, ◌∙◌, ◌∷◌, ◌++◌, ◌&&◌, ◌||◌, [], true, false, ap, sym, drop, map}
 use Rattle.std.proofs.lemmas.List.{map-append}
 use Rattle.std.specs.List.{list_any}
-use Rattle.mk_edit.specs.Edits.{RemoveField}
+use Rattle.mk_decide.specs.Edits.{RemoveField}
 use Rattle.mk_mail.specs.Letters.{root_path, same_name, those, with_first}
 use Rattle.mk_mail.specs.LetterWork.{plain_edits, texts_of}
 use Rattle.mk_mail.proofs.FieldNames.{any_on, both_true, edits_more, first_gone, first_kept, later_gone, later_kept, there_still}

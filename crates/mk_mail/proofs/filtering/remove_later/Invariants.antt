@@ -1,6 +1,6 @@
 use Rattle.std.proofs.Common.{◌≡◌, ◌++◌, drop, map}
 use Rattle.std.specs.List.{list_any}
-use Rattle.mk_edit.specs.Edits.{RemoveField}
+use Rattle.mk_decide.specs.Edits.{RemoveField}
 use Rattle.mk_mail.specs.Letters.{root_path, same_name, those, with_first}
 use Rattle.mk_mail.specs.LetterWork.{plain_edits, texts_of}
 use Rattle.mk_mail.proofs.filtering.remove_later.Given as goal

@@ -1,5 +1,5 @@
 use Rattle.std.proofs.Common.{◌≡◌, ◌++◌, map}
-use Rattle.mk_edit.specs.Edits.{RenameField}
+use Rattle.mk_decide.specs.Edits.{RenameField}
 use Rattle.mk_mail.specs.Letters.{replaced, root_path, those}
 use Rattle.mk_mail.specs.LetterWork.{plain_edits, texts_of}
 use Rattle.mk_mail.proofs.filtering.rename_all.Given as goal

@@ -1,5 +1,5 @@
 use Rattle.mk_mail.proofs.FilteredMail.{filtered_apart}
-use Rattle.mk_mail.proofs.letter_laws.filtered_stay_apart.Goals as goal
+use Rattle.mk_mail.proofs.laws.filtered_stay_apart.Goals as goal
 
 pub returns : goal.returns
 returns c = filtered_apart

@@ -1,5 +1,5 @@
-use Rattle.mk_mail.proofs.LineBytes.{ended_before, ended_without}
-use Rattle.mk_mail.proofs.gathering.content_of.Goals as goal
+use Rattle.mk_mailbox.proofs.LineBytes.{ended_before, ended_without}
+use Rattle.mk_mailbox.proofs.gathering.content_of.Goals as goal
 
 pub returns-in-Some : goal.returns-in-Some
 returns-in-Some c = ended_before c.args.bytes.now c.in-Some.content.now c.in-Some.ensures

@@ -1,5 +1,5 @@
-use Rattle.mk_mail.proofs.LineBytes.{line_to_feed, line_without}
-use Rattle.mk_mail.proofs.intake.line_end.Goals as goal
+use Rattle.mk_mailbox.proofs.LineBytes.{line_to_feed, line_without}
+use Rattle.mk_mailbox.proofs.intake.line_end.Goals as goal
 
 pub returns-in-Some-clause-line : goal.returns-in-Some-clause-line
 returns-in-Some-clause-line c = line_to_feed c.args.bytes.now c.in-Some.end c.in-Some.ensures

@@ -1,5 +1,5 @@
-use Rattle.mk_mail.proofs.Intaking.{taken_over}
-use Rattle.mk_mail.proofs.intake.take_from.Goals as goal
+use Rattle.mk_mailbox.proofs.Intaking.{taken_over}
+use Rattle.mk_mailbox.proofs.intake.take_from.Goals as goal
 
 pub returns-clause-ok : goal.returns-clause-ok
 returns-clause-ok c =

@@ -1,11 +1,11 @@
 use Rattle.std.proofs.Common.{Err, sym, subst}
-use Rattle.mk_tool.specs.RunClauses.{held, LeavesSteps}
-use Rattle.mk_tool.specs.Runs.{run_of}
-use Rattle.mk_tool.specs.ScriptSteps.{script_of}
-use Rattle.mk_tool.specs.ScriptViews.{texts_of}
-use Rattle.mk_tool.proofs.RunLemmas.{Leaves-given_up}
-use Rattle.mk_tool.proofs.ScriptTurns.{texts_length}
-use Rattle.mk_tool.proofs.engine.run_edit.Goals as goal
+use Rattle.mk_run.specs.RunClauses.{held, LeavesSteps}
+use Rattle.mk_run.specs.Runs.{run_of}
+use Rattle.mk_script.specs.ScriptSteps.{script_of}
+use Rattle.mk_script.specs.ScriptViews.{texts_of}
+use Rattle.mk_run.proofs.RunLemmas.{Leaves-given_up}
+use Rattle.mk_script.proofs.ScriptTurns.{texts_length}
+use Rattle.mk_run.proofs.engine.run_edit.Goals as goal
 
 pub returns-in-Err-clause-leaves : goal.returns-in-Err-clause-leaves
 returns-in-Err-clause-leaves g c =

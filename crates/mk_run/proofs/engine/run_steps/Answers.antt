@@ -1,11 +1,11 @@
 use Rattle.std.proofs.Common.{◌≡◌, if◌then◌else◌, map}
 use Rattle.std.proofs.KnownBytes.{Keeps-refl}
-use Rattle.mk_tool.specs.declared.status.Status.TheVariants.{Well, Refused}
-use Rattle.mk_tool.specs.RunClauses.{held}
-use Rattle.mk_tool.specs.ScriptViews.{step_by, texts_of}
-use Rattle.mk_tool.proofs.RunLemmas.{AppendsFront-none, Leaves-done, WritesFronts-unsent}
-use Rattle.mk_tool.proofs.engine.run_steps.Goals as goal
-use Rattle.mk_tool.proofs.engine.run_steps.Goals.{then-refused, else-refused}
+use Rattle.mk_run.specs.declared.status.Status.TheVariants.{Well, Refused}
+use Rattle.mk_run.specs.RunClauses.{held}
+use Rattle.mk_script.specs.ScriptViews.{step_by, texts_of}
+use Rattle.mk_run.proofs.RunLemmas.{AppendsFront-none, Leaves-done, WritesFronts-unsent}
+use Rattle.mk_run.proofs.engine.run_steps.Goals as goal
+use Rattle.mk_run.proofs.engine.run_steps.Goals.{then-refused, else-refused}
 
 pub returns-in-Ok-send-clause-leaves : goal.returns-in-Ok-send-clause-leaves
 returns-in-Ok-send-clause-leaves g c =

@@ -1,8 +1,8 @@
 use Rattle.std.proofs.Common.{◌∙◌, ap}
 use Rattle.mk_tree.specs.Sections.{head_text}
-use Rattle.mk_tool.specs.Filtering.{behind_colon}
-use Rattle.mk_tool.proofs.FilterLemmas.{given_begun}
-use Rattle.mk_tool.proofs.fields.contents.Goals as goal
+use Rattle.mk_run.specs.Filtering.{behind_colon}
+use Rattle.mk_run.proofs.FilterLemmas.{given_begun}
+use Rattle.mk_run.proofs.fields.contents.Goals as goal
 
 pub loop-field-init : goal.loop-field-init
 loop-field-init c =

@@ -1,10 +1,10 @@
 use Rattle.std.proofs.Common.{◌≡◌, ◌∙◌, ap, map}
 use Rattle.mk_edit.specs.Histories.{text_now}
-use Rattle.mk_edit.specs.Views.{edit_of}
+use Rattle.mk_decide.specs.Views.{edit_of}
 use Rattle.mk_mail.specs.LetterViews.{letters_of}
 use Rattle.mk_mail.specs.Letters.{edits_of}
-use Rattle.mk_tool.proofs.FilterLemmas.{edited_refused, edited_well}
-use Rattle.mk_tool.proofs.fields.edit.Goals as goal
+use Rattle.mk_run.proofs.FilterLemmas.{edited_refused, edited_well}
+use Rattle.mk_run.proofs.fields.edit.Goals as goal
 
 pub returns-in-Ok-clause-edited : goal.returns-in-Ok-clause-edited
 returns-in-Ok-clause-edited c = λ text begun.

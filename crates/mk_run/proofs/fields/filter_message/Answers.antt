@@ -1,19 +1,21 @@
+use Rattle.std.proofs.lemmas.Result.{err_from_is_err_and}
 use Rattle.mk_mail.specs.LetterViews.{letters_of}
-use Rattle.mk_tool.specs.FilterClauses.{SaysSome}
-use Rattle.mk_tool.proofs.FilterLemmas.{given_all, given_none, given_some, on_err}
-use Rattle.mk_tool.proofs.fields.filter_message.Goals as goal
+use Rattle.mk_run.specs.FilterClauses.{SaysSome}
+use Rattle.mk_run.proofs.FilterLemmas.{given_all, given_none, given_some, on_err}
+use Rattle.mk_run.proofs.fields.filter_message.Goals as goal
 
-pub returns-in-Ok-send-clause-all : goal.returns-in-Ok-send-clause-all
-returns-in-Ok-send-clause-all g c =
+pub returns-in-Ok-Some-clause-all : goal.returns-in-Ok-Some-clause-all
+returns-in-Ok-Some-clause-all g c =
     let l = letters_of c.args.letters.now in
     let given = rw (c.in-Ok-Some.field-0-is, c.doc.ensures, c.in-Ok.ensures.ok) at c.in-Ok-Some.ensures in
-    given_all l c.args.number c.args.message.items c.in-Ok-Some.text.items _ _ _ given (rw c.deref.ensures.value at c.in-Ok-send.ensures.whole)
+    given_all l c.args.number c.args.message.items c.in-Ok-Some.text.items _ _ _ given (rw c.deref.ensures.value at c.in_ok-send-in-Ok-Some.ensures.whole)
 
-pub returns-in-Ok-Some-clause-some : goal.returns-in-Ok-Some-clause-some
-returns-in-Ok-Some-clause-some g c =
+pub returns-in_err-send-in-Ok-Some-clause-some : goal.returns-in_err-send-in-Ok-Some-clause-some
+returns-in_err-send-in-Ok-Some-clause-some g c =
+    let stopped = err_from_is_err_and c.from_residual.result c.from_residual.ensures.1 in
     let l = letters_of c.args.letters.now in
     let given = rw (c.in-Ok-Some.field-0-is, c.doc.ensures, c.in-Ok.ensures.ok) at c.in-Ok-Some.ensures in
-    given_some l c.args.number c.args.message.items c.in-Ok-Some.text.items _ _ _ given (rw c.deref.ensures.value at c.in-Err-send.ensures.front)
+    rw stopped.1 (given_some l c.args.number c.args.message.items c.in-Ok-Some.text.items _ _ _ given (rw c.deref.ensures.value at c.in_err-send-in-Ok-Some.ensures.front))
 
 pub returns-in-Ok-None-clause-some : goal.returns-in-Ok-None-clause-some
 returns-in-Ok-None-clause-some g c =

@@ -2,8 +2,8 @@ use Rattle.std.proofs.Common.{◌∙◌, ◌++◌, ◌∷◌, [], refl, sym, sub
 use Rattle.std.proofs.KnownBytes.{Consumes-nil, Consumes-trans}
 use Rattle.std.specs.Io.KnownBytes.{IsAtEnd}
 use Rattle.mk_mail.specs.LetterViews.{letters_of}
-use Rattle.mk_tool.proofs.FilterLemmas.{all_out, counted_on, no_silence, none_out, one_out, stopped_between, stopped_here, stopped_within}
-use Rattle.mk_tool.proofs.filtering.filter_each.Goals as goal
+use Rattle.mk_run.proofs.FilterLemmas.{all_out, counted_on, no_silence, none_out, one_out, stopped_between, stopped_here, stopped_within}
+use Rattle.mk_run.proofs.filtering.filter_each.Goals as goal
 
 pub loop-turn-init : goal.loop-turn-init
 loop-turn-init g c = record {

@@ -1,11 +1,11 @@
 use Rattle.std.proofs.Common.{◌≡◌, ◌≤◌, ◌+◌, ◌*◌, ◌⊎◌, ℕ, List, true, length}
 use Rattle.std.specs.Io.KnownBytes.{Consumes, IsAtEnd}
-use Rattle.mk_mail.specs.Devices.{IsFull}
+use Rattle.mk_mailbox.specs.Devices.{IsFull}
 use Rattle.mk_mail.specs.LetterViews.{letters_of}
-use Rattle.mk_mail.specs.Mailboxes.{chunk_bytes}
-use Rattle.mk_tool.specs.RunClauses.{SameFailures, counts}
-use Rattle.mk_tool.proofs.FilterLemmas.{AreOut}
-use Rattle.mk_tool.proofs.filtering.filter_each.Given as goal
+use Rattle.mk_mailbox.specs.Mailboxes.{chunk_bytes}
+use Rattle.mk_run.specs.RunClauses.{SameFailures, counts}
+use Rattle.mk_run.proofs.FilterLemmas.{AreOut}
+use Rattle.mk_run.proofs.filtering.filter_each.Given as goal
 
 abbrev pub invariant-loop-turn : goal.invariant-loop-turn
 invariant-loop-turn g l = record {

@@ -1,7 +1,7 @@
 use Rattle.mk_mail.specs.LetterViews.{letters_of}
-use Rattle.mk_tool.specs.Filtering.{messages_of, said_from}
-use Rattle.mk_tool.proofs.FilterLemmas.{Filters-refused, Filters-well}
-use Rattle.mk_tool.proofs.filtering.run_field.Goals as goal
+use Rattle.mk_run.specs.Filtering.{messages_of, said_from}
+use Rattle.mk_run.proofs.FilterLemmas.{Filters-refused, Filters-well}
+use Rattle.mk_run.proofs.filtering.run_field.Goals as goal
 
 pub returns-in-Ok-true-clause-leaves : goal.returns-in-Ok-true-clause-leaves
 returns-in-Ok-true-clause-leaves g c =

@@ -1,7 +1,7 @@
 use Rattle.std.proofs.Common.{map, ap, ◌∙◌}
-use Rattle.mk_mail.specs.BuildViews.{attached_of}
-use Rattle.mk_tool.proofs.PackLemmas.{packed_well}
-use Rattle.mk_tool.proofs.packing.message.Goals as goal
+use Rattle.mk_build.specs.BuildViews.{attached_of}
+use Rattle.mk_run.proofs.PackLemmas.{packed_well}
+use Rattle.mk_run.proofs.packing.message.Goals as goal
 
 pub returns-in-Ok : goal.returns-in-Ok
 returns-in-Ok c =

@@ -1,9 +1,9 @@
 use Rattle.std.proofs.Common.{map, subst}
-use Rattle.mk_mail.specs.BuildViews.{attached_of}
-use Rattle.mk_tool.specs.Packing.{IsPacked}
-use Rattle.mk_tool.specs.Shown.{run_of_answer}
-use Rattle.mk_tool.proofs.ShownLemmas.{Shows-written}
-use Rattle.mk_tool.proofs.packing.run_pack.Goals as goal
+use Rattle.mk_build.specs.BuildViews.{attached_of}
+use Rattle.mk_run.specs.Packing.{IsPacked}
+use Rattle.mk_run.specs.Shown.{run_of_answer}
+use Rattle.mk_run.proofs.ShownLemmas.{Shows-written}
+use Rattle.mk_run.proofs.packing.run_pack.Goals as goal
 
 pub returns-in-Ok-message-clause-leaves : goal.returns-in-Ok-message-clause-leaves
 returns-in-Ok-message-clause-leaves g c =

@@ -1,7 +1,7 @@
 use Rattle.std.proofs.Common.{sym, ◌∙◌}
-use Rattle.mk_head.specs.Values.{slash}
-use Rattle.mk_tool.proofs.PackLemmas.{last_behind, last_whole}
-use Rattle.mk_tool.proofs.parts.file_name.Goals as goal
+use Rattle.mk_line.specs.Ascii.{slash}
+use Rattle.mk_run.proofs.PackLemmas.{last_behind, last_whole}
+use Rattle.mk_run.proofs.parts.file_name.Goals as goal
 
 pub each-preserved : goal.each-preserved
 each-preserved c = sym (last_behind slash c.each.name.now _ (sym c.in-Some.ensures.parts)) ∙ c.each.invariant

@@ -1,8 +1,8 @@
 use Rattle.std.proofs.Common.{◌≡◌, length}
-use Rattle.mk_head.specs.Values.{slash}
-use Rattle.mk_tool.specs.Paths.{pieces_of}
-use Rattle.mk_tool.specs.Parts.{last_of}
-use Rattle.mk_tool.proofs.parts.file_name.Given as goal
+use Rattle.mk_line.specs.Ascii.{slash}
+use Rattle.mk_script.specs.Paths.{pieces_of}
+use Rattle.mk_run.specs.Parts.{last_of}
+use Rattle.mk_run.proofs.parts.file_name.Given as goal
 
 abbrev pub invariant-each : goal.invariant-each
 invariant-each l = last_of (pieces_of slash l.name) ≡ last_of (pieces_of slash l.path)

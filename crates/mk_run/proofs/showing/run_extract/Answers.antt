@@ -1,6 +1,6 @@
-use Rattle.mk_tool.specs.Shown.{IsTaken, run_of_answer}
-use Rattle.mk_tool.proofs.ShownLemmas.{Shows-written}
-use Rattle.mk_tool.proofs.showing.run_extract.Goals as goal
+use Rattle.mk_run.specs.Shown.{IsTaken, run_of_answer}
+use Rattle.mk_run.proofs.ShownLemmas.{Shows-written}
+use Rattle.mk_run.proofs.showing.run_extract.Goals as goal
 
 pub returns-in-Ok-content-clause-leaves : goal.returns-in-Ok-content-clause-leaves
 returns-in-Ok-content-clause-leaves g c = (

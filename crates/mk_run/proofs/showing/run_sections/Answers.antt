@@ -1,6 +1,6 @@
-use Rattle.mk_tool.specs.Shown.{IsListed, run_of_answer}
-use Rattle.mk_tool.proofs.ShownLemmas.{Shows-written}
-use Rattle.mk_tool.proofs.showing.run_sections.Goals as goal
+use Rattle.mk_run.specs.Shown.{IsListed, run_of_answer}
+use Rattle.mk_run.proofs.ShownLemmas.{Shows-written}
+use Rattle.mk_run.proofs.showing.run_sections.Goals as goal
 
 pub returns-in-Ok-sections-clause-leaves : goal.returns-in-Ok-sections-clause-leaves
 returns-in-Ok-sections-clause-leaves g c = (

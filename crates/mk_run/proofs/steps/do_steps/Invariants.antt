@@ -2,9 +2,9 @@ use Rattle.std.proofs.Common.{◌≡◌, map, not, List, ℕ, ◌++◌}
 use Rattle.std.specs.Vec.Iter.{into_iter_items}
 use Rattle.std.specs.Io.KnownBytes.{Appends}
 use Rattle.mk_line.specs.Lines.{is_nil}
-use Rattle.mk_tool.specs.Runs.{history_after, errors_of}
-use Rattle.mk_tool.specs.ScriptViews.{step_by, texts_of}
-use Rattle.mk_tool.proofs.steps.do_steps.Given as goal
+use Rattle.mk_run.specs.Runs.{history_after, errors_of}
+use Rattle.mk_script.specs.ScriptViews.{step_by, texts_of}
+use Rattle.mk_run.proofs.steps.do_steps.Given as goal
 
 abbrev pub invariant-loop-step : goal.invariant-loop-step
 invariant-loop-step g l = record {

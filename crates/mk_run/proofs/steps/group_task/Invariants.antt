@@ -1,9 +1,9 @@
 use Rattle.std.proofs.Common.{◌≡◌, ◌++◌, map}
 use Rattle.std.specs.Vec.Iter.{into_iter_items}
-use Rattle.mk_edit.specs.Views.{edit_of}
-use Rattle.mk_tool.specs.Runs.{edit_by}
-use Rattle.mk_tool.specs.ScriptViews.{numbered, texts_of}
-use Rattle.mk_tool.proofs.steps.group_task.Given as goal
+use Rattle.mk_decide.specs.Views.{edit_of}
+use Rattle.mk_run.specs.Runs.{edit_by}
+use Rattle.mk_script.specs.ScriptViews.{numbered, texts_of}
+use Rattle.mk_run.proofs.steps.group_task.Given as goal
 
 abbrev pub invariant-loop-number : goal.invariant-loop-number
 invariant-loop-number l = record {

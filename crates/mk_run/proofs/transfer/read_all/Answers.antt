@@ -1,6 +1,6 @@
 use Rattle.std.proofs.lemmas.Result.{err_from_is_err_and}
 use Rattle.std.proofs.KnownBytes.{Consumes-trans}
-use Rattle.mk_tool.proofs.transfer.read_all.Goals as goal
+use Rattle.mk_run.proofs.transfer.read_all.Goals as goal
 
 pub returns-in_err-extend_from_slice-in-Ok-clause-front : goal.returns-in_err-extend_from_slice-in-Ok-clause-front
 returns-in_err-extend_from_slice-in-Ok-clause-front g c =

@@ -1,7 +1,7 @@
 use Rattle.std.proofs.Common.{◌≡◌, ◌≤◌, ◌⊎◌, ◌+◌}
 use Rattle.std.specs.Io.KnownBytes.{Consumes}
-use Rattle.mk_mail.specs.Devices.{IsFull}
-use Rattle.mk_tool.proofs.transfer.read_all.Given as goal
+use Rattle.mk_mailbox.specs.Devices.{IsFull}
+use Rattle.mk_run.proofs.transfer.read_all.Given as goal
 
 abbrev pub invariant-loop-read : goal.invariant-loop-read
 invariant-loop-read g l = record {

@@ -1,7 +1,7 @@
 use Rattle.std.proofs.Common.{◌++◌, take, rules}
 use Rattle.std.proofs.KnownBytes.{Appends-trans}
-use Rattle.mk_tool.proofs.Slices.{append-take-drop}
-use Rattle.mk_tool.proofs.transfer.write_all.Goals as goal
+use Rattle.mk_run.proofs.Slices.{append-take-drop}
+use Rattle.mk_run.proofs.transfer.write_all.Goals as goal
 
 pub loop-rest-preserved : goal.loop-rest-preserved
 loop-rest-preserved g c =

@@ -1,7 +1,7 @@
 use Rattle.std.proofs.Common.{◌≡◌, ◌<◌, ℕ, false}
-use Rattle.mk_tool.specs.Folders.{IsThere}
-use Rattle.mk_tool.specs.Unpacking.{tried}
-use Rattle.mk_tool.proofs.unpacking.put_free.Given as goal
+use Rattle.mk_run.specs.Folders.{IsThere}
+use Rattle.mk_run.specs.Unpacking.{tried}
+use Rattle.mk_run.proofs.unpacking.put_free.Given as goal
 
 abbrev pub invariant-loop-number : goal.invariant-loop-number
 invariant-loop-number g l = record {

@@ -1,8 +1,8 @@
 use Rattle.std.proofs.Common.{map, refl}
 use Rattle.mk_tree.specs.Documents.{tree}
-use Rattle.mk_mail.specs.LeafViews.{leaf_view}
-use Rattle.mk_tool.proofs.UnpackLemmas.{IsUnpacked-all, Stores-stopped}
-use Rattle.mk_tool.proofs.unpacking.unpack.Goals as goal
+use Rattle.mk_view.specs.LeafViews.{leaf_view}
+use Rattle.mk_run.proofs.UnpackLemmas.{IsUnpacked-all, Stores-stopped}
+use Rattle.mk_run.proofs.unpacking.unpack.Goals as goal
 
 pub returns-then-refused-clause-leaves : goal.returns-then-refused-clause-leaves
 returns-then-refused-clause-leaves g c =

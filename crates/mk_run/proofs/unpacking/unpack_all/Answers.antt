@@ -2,9 +2,9 @@ use Rattle.std.proofs.Common.{◌≡◌, ◌++◌, ◌∷◌, [], map, rules, ap
 use Rattle.std.proofs.lemmas.Result.{err_from_is_err_and}
 use Rattle.std.proofs.KnownBytes.{Appends-nil}
 use Rattle.std.specs.Vec.Iter.{into_iter_items}
-use Rattle.mk_mail.specs.LeafViews.{AreAt, leaf_view}
-use Rattle.mk_tool.proofs.UnpackLemmas.{UnpackedAll-none, UnpackedAll-behind, UnpackedSome-behind}
-use Rattle.mk_tool.proofs.unpacking.unpack_all.Goals as goal
+use Rattle.mk_view.specs.LeafViews.{AreAt, leaf_view}
+use Rattle.mk_run.proofs.UnpackLemmas.{UnpackedAll-none, UnpackedAll-behind, UnpackedSome-behind}
+use Rattle.mk_run.proofs.unpacking.unpack_all.Goals as goal
 
 pub loop-leaf-init : goal.loop-leaf-init
 loop-leaf-init g c =

@@ -1,11 +1,11 @@
 use Rattle.std.proofs.Common.{◌≡◌, List, ◌++◌, map}
 use Rattle.std.specs.Vec.Iter.{into_iter_items}
 use Rattle.mk_tree.specs.Documents.{Document}
-use Rattle.mk_mail.specs.FileNames.{Named}
-use Rattle.mk_mail.specs.GivenNames.{AreSafe}
-use Rattle.mk_mail.specs.LeafViews.{AreAt, leaf_view}
-use Rattle.mk_tool.specs.UnpackClauses.{UnpackedAll, written, NoneFailed, failures}
-use Rattle.mk_tool.proofs.unpacking.unpack_all.Given as goal
+use Rattle.mk_view.specs.FileNames.{Named}
+use Rattle.mk_view.specs.GivenNames.{AreSafe}
+use Rattle.mk_view.specs.LeafViews.{AreAt, leaf_view}
+use Rattle.mk_run.specs.UnpackClauses.{UnpackedAll, written, NoneFailed, failures}
+use Rattle.mk_run.proofs.unpacking.unpack_all.Given as goal
 
 abbrev pub invariant-loop-leaf : goal.invariant-loop-leaf
 invariant-loop-leaf g l = record {

@@ -1,7 +1,7 @@
 use Rattle.std.proofs.Common.{◌≡◌, false, length, map}
-use Rattle.mk_tool.specs.ScriptSteps.{first_fault}
-use Rattle.mk_tool.specs.ScriptViews.{line_in}
-use Rattle.mk_tool.proofs.groups.first_fault.Given as goal
+use Rattle.mk_script.specs.ScriptSteps.{first_fault}
+use Rattle.mk_script.specs.ScriptViews.{line_in}
+use Rattle.mk_script.proofs.groups.first_fault.Given as goal
 
 abbrev pub invariant-loop-line : goal.invariant-loop-line
 invariant-loop-line l = first_fault l.inside (map line_in l.rest) ≡ first_fault false (map line_in l.lines)

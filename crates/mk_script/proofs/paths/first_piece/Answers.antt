@@ -1,7 +1,7 @@
 use Rattle.std.proofs.Common.{sym}
-use Rattle.mk_tool.specs.Paths.{dot}
-use Rattle.mk_tool.proofs.PathLemmas.{pieces_of-parted, pieces_of-whole}
-use Rattle.mk_tool.proofs.path.first_piece.Goals as goal
+use Rattle.mk_script.specs.Paths.{dot}
+use Rattle.mk_script.proofs.PathLemmas.{pieces_of-parted, pieces_of-whole}
+use Rattle.mk_script.proofs.paths.first_piece.Goals as goal
 
 pub returns-in-Some-clause-pieces : goal.returns-in-Some-clause-pieces
 returns-in-Some-clause-pieces c = pieces_of-parted dot c.args.text.now _ (sym c.in-Some.ensures.parts)

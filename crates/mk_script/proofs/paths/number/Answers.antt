@@ -1,7 +1,7 @@
 use Rattle.std.proofs.Common.{◌≡◌, ◌∙◌, ap, sym, get_or, arith}
 use Rattle.std.specs.Char.{digit_value}
-use Rattle.mk_tool.proofs.PathLemmas.{number_behind-overflow, number_behind-done}
-use Rattle.mk_tool.proofs.path.number.Goals as goal
+use Rattle.mk_script.proofs.PathLemmas.{number_behind-overflow, number_behind-done}
+use Rattle.mk_script.proofs.paths.number.Goals as goal
 
 pub returns-in_err-checked_mul : goal.returns-in_err-checked_mul
 returns-in_err-checked_mul c =

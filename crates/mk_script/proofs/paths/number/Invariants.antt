@@ -1,6 +1,6 @@
 use Rattle.std.proofs.Common.{◌≡◌, ◌<◌, ◌^◌, drop}
-use Rattle.mk_tool.specs.Paths.{number_behind, number_of}
-use Rattle.mk_tool.proofs.path.number.Given as goal
+use Rattle.mk_script.specs.Paths.{number_behind, number_of}
+use Rattle.mk_script.proofs.paths.number.Given as goal
 
 abbrev pub invariant-loop-byte : goal.invariant-loop-byte
 invariant-loop-byte l = record {

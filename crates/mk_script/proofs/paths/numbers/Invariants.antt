@@ -1,7 +1,7 @@
 use Rattle.std.proofs.Common.{◌≡◌, length}
-use Rattle.mk_tool.specs.Paths.{dot, pieces_of, numbers_of}
-use Rattle.mk_tool.proofs.PathLemmas.{numbers_onto}
-use Rattle.mk_tool.proofs.path.numbers.Given as goal
+use Rattle.mk_script.specs.Paths.{dot, pieces_of, numbers_of}
+use Rattle.mk_script.proofs.PathLemmas.{numbers_onto}
+use Rattle.mk_script.proofs.paths.numbers.Given as goal
 
 abbrev pub invariant-each : goal.invariant-each
 invariant-each l = numbers_onto l.numbers.items (numbers_of (pieces_of dot l.rest)) ≡ numbers_of (pieces_of dot l.text)

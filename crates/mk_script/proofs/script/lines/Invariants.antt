@@ -1,7 +1,7 @@
 use Rattle.std.proofs.Common.{◌≡◌, ◌≤◌, ◌+◌, ◌++◌, length, map}
-use Rattle.mk_tool.specs.Script.{lines_of, lines_from}
-use Rattle.mk_tool.specs.ScriptViews.{line_in}
-use Rattle.mk_tool.proofs.script.lines.Given as goal
+use Rattle.mk_script.specs.Script.{lines_of, lines_from}
+use Rattle.mk_script.specs.ScriptViews.{line_in}
+use Rattle.mk_script.proofs.script.lines.Given as goal
 
 abbrev pub invariant-loop-line : goal.invariant-loop-line
 invariant-loop-line l = record {

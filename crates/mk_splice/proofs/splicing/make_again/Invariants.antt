@@ -1,8 +1,8 @@
 use Rattle.std.proofs.Common.{◌≡◌, ◌+◌, ◌≤◌, map, drop, vec_len, vec_capacity}
-use Rattle.mk_edit.specs.Splices.{forth_step, GoesForth}
-use Rattle.mk_edit.specs.Rooms.{news}
-use Rattle.mk_edit.specs.Views.{splice_of}
-use Rattle.mk_edit.proofs.splicing.make_again.Given as goal
+use Rattle.mk_splice.specs.Splices.{forth_step, GoesForth}
+use Rattle.mk_splice.specs.Rooms.{news}
+use Rattle.mk_splice.specs.Views.{splice_of}
+use Rattle.mk_splice.proofs.splicing.make_again.Given as goal
 
 abbrev pub invariant-loop-splice : goal.invariant-loop-splice
 invariant-loop-splice l = record {

@@ -1,8 +1,8 @@
 use Rattle.std.proofs.Common.{◌-◌, ◌∙◌, ap, sym, arith, subst, length, map, take, vec_len, vec_capacity}
-use Rattle.mk_edit.specs.Splices.{back_step, GoesBack}
-use Rattle.mk_edit.specs.Views.{splice_of}
-use Rattle.mk_edit.proofs.Moves.{last_back, back_so, room_so}
-use Rattle.mk_edit.proofs.splicing.take_back.Goals as goal
+use Rattle.mk_splice.specs.Splices.{back_step, GoesBack}
+use Rattle.mk_splice.specs.Views.{splice_of}
+use Rattle.mk_splice.proofs.Splicings.{last_back, back_so, room_so}
+use Rattle.mk_splice.proofs.splicing.take_back.Goals as goal
 
 pub replace_within-requires-clause-inside : goal.replace_within-requires-clause-inside
 replace_within-requires-clause-inside c =

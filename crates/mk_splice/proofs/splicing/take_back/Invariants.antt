@@ -1,8 +1,8 @@
 use Rattle.std.proofs.Common.{◌≡◌, ◌+◌, ◌≤◌, length, map, take, vec_len, vec_capacity}
-use Rattle.mk_edit.specs.Splices.{back_step, GoesBack}
-use Rattle.mk_edit.specs.Rooms.{olds}
-use Rattle.mk_edit.specs.Views.{splice_of}
-use Rattle.mk_edit.proofs.splicing.take_back.Given as goal
+use Rattle.mk_splice.specs.Splices.{back_step, GoesBack}
+use Rattle.mk_splice.specs.Rooms.{olds}
+use Rattle.mk_splice.specs.Views.{splice_of}
+use Rattle.mk_splice.proofs.splicing.take_back.Given as goal
 
 abbrev pub invariant-loop-left : goal.invariant-loop-left
 invariant-loop-left l = record {

@@ -1,4 +1,4 @@
-use Rattle.mk_tree.proofs.tests.+count.Given as goal
+use Rattle.mk_tree_tests.proofs.tests.+count.Given as goal
 
 abbrev pub decreases-count : goal.decreases-count
 decreases-count l = l.levels

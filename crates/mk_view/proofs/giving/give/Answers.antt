@@ -1,7 +1,7 @@
 use Rattle.std.proofs.Common.{◌≡◌, sym, ap, ◌∙◌}
-use Rattle.mk_mail.specs.Taken.{number_at}
-use Rattle.mk_mail.proofs.NamesKnown.{given_own, given_numbered}
-use Rattle.mk_mail.proofs.giving.give.Goals as goal
+use Rattle.mk_view.specs.Taken.{number_at}
+use Rattle.mk_view.proofs.NamesKnown.{given_own, given_numbered}
+use Rattle.mk_view.proofs.giving.give.Goals as goal
 
 pub returns-in_ok-put-in-None : goal.returns-in_ok-put-in-None
 returns-in_ok-put-in-None c =

@@ -1,13 +1,13 @@
 use Rattle.std.proofs.Common.{◌≡◌, ◌∙◌, ◌-◌, ◌++◌, [], ap, arith, refl, rules, sym, subst, append-nil, drop, length}
 use Rattle.std.specs.List.{flat_map}
 use Rattle.mk_tree.specs.Sections.{body_lines, children}
-use Rattle.mk_mail.specs.Listed.{along, depth, listed_from}
-use Rattle.mk_mail.specs.Listing.{listing_line}
-use Rattle.mk_mail.proofs.Depths.{AreLower, are_lower}
-use Rattle.mk_mail.proofs.Gaps.{all_counted, body_counted, body_few, if_ok, left_begun, left_moved, listed_written, next_one, next_room}
-use Rattle.mk_mail.proofs.Joined.{on_ok}
-use Rattle.mk_mail.proofs.Sections.{sections_end, sections_next}
-use Rattle.mk_mail.proofs.listing.+push_sections.Goals as goal
+use Rattle.mk_view.specs.Listed.{along, depth, listed_from}
+use Rattle.mk_view.specs.Listing.{listing_line}
+use Rattle.mk_view.proofs.Depths.{AreLower, are_lower}
+use Rattle.mk_view.proofs.Gaps.{all_counted, body_counted, body_few, if_ok, left_begun, left_moved, listed_written, next_one, next_room}
+use Rattle.mk_line.proofs.Joined.{on_ok}
+use Rattle.mk_view.proofs.Sections.{sections_end, sections_next}
+use Rattle.mk_view.proofs.listing.+push_sections.Goals as goal
 
 pub loop-child-init : goal.loop-child-init
 loop-child-init t c =

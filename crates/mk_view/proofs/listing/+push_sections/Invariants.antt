@@ -1,11 +1,11 @@
 use Rattle.std.proofs.Common.{◌≡◌, ◌++◌, ◌<◌, ◌≤◌, ◌^◌, length}
 use Rattle.std.specs.List.{flat_map}
 use Rattle.mk_tree.specs.Sections.{body_lines, children}
-use Rattle.mk_mail.specs.Listed.{along, depth, greatest_number, listed_from}
-use Rattle.mk_mail.specs.Listing.{listing_line}
-use Rattle.mk_mail.proofs.Depths.{AreLower}
-use Rattle.mk_mail.proofs.Gaps.{IsLeft}
-use Rattle.mk_mail.proofs.listing.+push_sections.Given as goal
+use Rattle.mk_view.specs.Listed.{along, depth, greatest_number, listed_from}
+use Rattle.mk_view.specs.Listing.{listing_line}
+use Rattle.mk_view.proofs.Depths.{AreLower}
+use Rattle.mk_view.proofs.Gaps.{IsLeft}
+use Rattle.mk_view.proofs.listing.+push_sections.Given as goal
 
 abbrev pub decreases-push_sections : goal.decreases-push_sections
 decreases-push_sections l = depth l.section.now.entity

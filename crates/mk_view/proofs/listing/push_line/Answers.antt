@@ -1,6 +1,6 @@
 use Rattle.std.proofs.Common.{◌≡◌, ◌++◌, ℕ, List, append_assoc}
-use Rattle.mk_mail.specs.Listing.{listing_line}
-use Rattle.mk_mail.proofs.listing.push_line.Goals as goal
+use Rattle.mk_view.specs.Listing.{listing_line}
+use Rattle.mk_view.proofs.listing.push_line.Goals as goal
 
 regroup : (o p n l k f : List ℕ) → ((((o ++ p) ++ n) ++ l) ++ k) ++ f ≡ o ++ (p ++ (n ++ (l ++ (k ++ f))))
 regroup o p n l k f = simp append_assoc

@@ -1,6 +1,6 @@
 use Rattle.std.proofs.Common.{◌≡◌, length}
-use Rattle.mk_mail.specs.FileNames.{behind_last}
-use Rattle.mk_mail.proofs.naming.last_piece.Given as goal
+use Rattle.mk_view.specs.FileNames.{behind_last}
+use Rattle.mk_view.proofs.naming.last_piece.Given as goal
 
 abbrev pub invariant-each : goal.invariant-each
 invariant-each l = behind_last l.piece l.rest ≡ behind_last l.raw l.raw

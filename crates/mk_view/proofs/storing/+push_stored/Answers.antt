@@ -1,12 +1,12 @@
 use Rattle.std.proofs.Common.{rules, ◌∙◌, arith, map, sym, subst}
 use Rattle.mk_tree.specs.Sections.{children}
-use Rattle.mk_mail.specs.Listed.{depth}
-use Rattle.mk_mail.specs.FileNames.{stored}
-use Rattle.mk_mail.specs.LeafViews.{leaf_view}
-use Rattle.mk_mail.proofs.Depths.{AreLower, are_lower}
-use Rattle.mk_mail.proofs.LeavesAt.{at_below, first_from, from_first, from_next}
-use Rattle.mk_mail.proofs.Sections.{sections_begin, sections_end, sections_next}
-use Rattle.mk_mail.proofs.storing.+push_stored.Goals as goal
+use Rattle.mk_view.specs.Listed.{depth}
+use Rattle.mk_view.specs.FileNames.{stored}
+use Rattle.mk_view.specs.LeafViews.{leaf_view}
+use Rattle.mk_view.proofs.Depths.{AreLower, are_lower}
+use Rattle.mk_view.proofs.LeavesAt.{at_below, first_from, from_first, from_next}
+use Rattle.mk_view.proofs.Sections.{sections_begin, sections_end, sections_next}
+use Rattle.mk_view.proofs.storing.+push_stored.Goals as goal
 
 pub loop-child-init : goal.loop-child-init
 loop-child-init t c =

@@ -2,12 +2,12 @@ use Rattle.std.proofs.Common.{◌≡◌, ◌++◌, ◌≤◌, Some, map}
 use Rattle.std.specs.List.{flat_map}
 use Rattle.mk_tree.specs.Documents.{Document}
 use Rattle.mk_tree.specs.Sections.{children, section_at}
-use Rattle.mk_mail.specs.Listed.{along, depth, greatest_number, listed_from}
-use Rattle.mk_mail.specs.FileNames.{stored}
-use Rattle.mk_mail.specs.LeafViews.{AreAt, leaf_view}
-use Rattle.mk_mail.proofs.Depths.{AreLower}
-use Rattle.mk_mail.proofs.LeavesAt.{AreFrom}
-use Rattle.mk_mail.proofs.storing.+push_stored.Given as goal
+use Rattle.mk_view.specs.Listed.{along, depth, greatest_number, listed_from}
+use Rattle.mk_view.specs.FileNames.{stored}
+use Rattle.mk_view.specs.LeafViews.{AreAt, leaf_view}
+use Rattle.mk_view.proofs.Depths.{AreLower}
+use Rattle.mk_view.proofs.LeavesAt.{AreFrom}
+use Rattle.mk_view.proofs.storing.+push_stored.Given as goal
 
 abbrev pub decreases-push_stored : goal.decreases-push_stored
 decreases-push_stored l = depth l.section.entity

@@ -2,12 +2,12 @@ use Rattle.std.proofs.Common.{◌≡◌, ◌++◌, List, [], ◌∷◌, Some, Re
 use Rattle.std.specs.List.{flat_map}
 use Rattle.mk_tree.specs.Documents.{Document, tree}
 use Rattle.mk_tree.specs.Sections.{section_at}
-use Rattle.mk_mail.specs.Listed.{listed, listed_from}
-use Rattle.mk_mail.specs.FileNames.{Named, stored}
-use Rattle.mk_mail.specs.GivenNames.{AreGiven, AreDistinct, AreSafe}
-use Rattle.mk_mail.specs.LeafViews.{AreAt, leaf_view}
-use Rattle.mk_mail.proofs.SafeNames.{names_well}
-use Rattle.mk_mail.proofs.storing.leaves.Goals as goal
+use Rattle.mk_view.specs.Listed.{listed, listed_from}
+use Rattle.mk_view.specs.FileNames.{Named, stored}
+use Rattle.mk_view.specs.GivenNames.{AreGiven, AreDistinct, AreSafe}
+use Rattle.mk_view.specs.LeafViews.{AreAt, leaf_view}
+use Rattle.mk_view.proofs.SafeNames.{names_well}
+use Rattle.mk_view.proofs.storing.leaves.Goals as goal
 
 follows : {T E : Type 0} (P Q : T → Type 0) → ((value : T) → P value → Q value) → (r : Result T E) → IfOk r P → IfOk r Q
 follows P Q f (Ok value) h = f value h

@@ -1,8 +1,8 @@
 use Rattle.std.proofs.Common.{◌≡◌, ap, ◌∙◌, subst, sym}
 use Rattle.mk_tree.specs.Sections.{section_at}
-use Rattle.mk_mail.specs.LeafViews.{AreAt}
-use Rattle.mk_mail.proofs.LeavesAt.{at_more}
-use Rattle.mk_mail.proofs.storing.push_leaf.Goals as goal
+use Rattle.mk_view.specs.LeafViews.{AreAt}
+use Rattle.mk_view.proofs.LeavesAt.{at_more}
+use Rattle.mk_view.proofs.storing.push_leaf.Goals as goal
 
 pub returns-clause-placed : goal.returns-clause-placed
 returns-clause-placed c = λ t here at_old.

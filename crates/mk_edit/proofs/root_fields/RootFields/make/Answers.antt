@@ -1,6 +1,6 @@
 use Rattle.std.proofs.Common.{◌+◌, ◌-◌, ◌∙◌, ap, sym, arith, drop, length, take}
-use Rattle.mk_tree.specs.Splicing.{spliced}
-use Rattle.mk_edit.specs.LocalAnswers.{plain_splice}
+use Rattle.mk_splice.specs.Splices.{spliced}
+use Rattle.mk_decide.specs.LocalAnswers.{plain_splice}
 use Rattle.mk_edit.proofs.RootEdits.{made_root, root_within}
 use Rattle.mk_edit.proofs.root_fields.RootFields.make.Goals as goal
 

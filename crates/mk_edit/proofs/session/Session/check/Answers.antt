@@ -2,9 +2,10 @@ use Rattle.std.proofs.Common.{arith}
 use Rattle.std.proofs.lemmas.Result.{err_from_is_err_and}
 use Rattle.mk_tree.specs.Documents.{tree}
 use Rattle.mk_edit.specs.Histories.{text_now}
-use Rattle.mk_edit.specs.LocalAnswers.{plain_splice}
-use Rattle.mk_edit.specs.Outcomes.{edited}
-use Rattle.mk_edit.specs.Views.{edit_of, steps_of}
+use Rattle.mk_decide.specs.LocalAnswers.{plain_splice}
+use Rattle.mk_decide.specs.Outcomes.{edited}
+use Rattle.mk_decide.specs.Views.{edit_of}
+use Rattle.mk_splice.specs.Views.{steps_of}
 use Rattle.mk_edit.proofs.Moves.{put_text, refused_at, decided_at, is_accepted, lines_same}
 use Rattle.mk_edit.proofs.session.Session.check.Goals as goal
 

@@ -1,6 +1,6 @@
 use Rattle.std.proofs.Common.{◌∙◌, ap, sym}
 use Rattle.mk_edit.specs.Histories.{text_now}
-use Rattle.mk_edit.specs.Views.{steps_of}
+use Rattle.mk_splice.specs.Views.{steps_of}
 use Rattle.mk_edit.proofs.Steps.{fit_text}
 use Rattle.mk_edit.proofs.session.Session.doc.Goals as goal
 

@@ -1,8 +1,9 @@
 use Rattle.std.proofs.Common.{refl, arith}
 use Rattle.std.proofs.lemmas.Result.{err_from_is_err_and}
 use Rattle.mk_edit.specs.Histories.{text_now}
-use Rattle.mk_edit.specs.LocalAnswers.{plain_splice}
-use Rattle.mk_edit.specs.Views.{edit_of, steps_of}
+use Rattle.mk_decide.specs.LocalAnswers.{plain_splice}
+use Rattle.mk_decide.specs.Views.{edit_of}
+use Rattle.mk_splice.specs.Views.{steps_of}
 use Rattle.mk_edit.proofs.Moves.{put_text, step_refused, decided_at, lines_same}
 use Rattle.mk_edit.proofs.session.Session.edit.Goals as goal
 

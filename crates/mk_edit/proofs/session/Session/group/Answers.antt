@@ -1,6 +1,7 @@
 use Rattle.std.proofs.Common.{◌∙◌, ◌++◌, [], ◌∷◌, refl, ap, map, take}
 use Rattle.std.proofs.lemmas.Result.{err_from_is_err_and}
-use Rattle.mk_edit.specs.Views.{edit_of, splice_of, steps_of}
+use Rattle.mk_decide.specs.Views.{edit_of}
+use Rattle.mk_splice.specs.Views.{splice_of, steps_of}
 use Rattle.mk_edit.proofs.GroupMoves.{group_moves, group_accepted, group_refused}
 use Rattle.mk_edit.proofs.Moves.{put_text}
 use Rattle.mk_edit.proofs.session.Session.group.Goals as goal

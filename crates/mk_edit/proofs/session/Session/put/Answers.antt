@@ -1,8 +1,9 @@
 use Rattle.std.proofs.Common.{◌+◌, ◌++◌, ◌∷◌, [], ◌∙◌, ap, refl, arith, length, take, drop}
-use Rattle.mk_tree.specs.Splicing.{spliced}
+use Rattle.mk_splice.specs.Splices.{spliced}
 use Rattle.mk_edit.specs.Histories.{text_now}
-use Rattle.mk_edit.specs.LocalAnswers.{plain_splice}
-use Rattle.mk_edit.specs.Views.{edit_of, steps_of}
+use Rattle.mk_decide.specs.LocalAnswers.{plain_splice}
+use Rattle.mk_decide.specs.Views.{edit_of}
+use Rattle.mk_splice.specs.Views.{steps_of}
 use Rattle.mk_edit.proofs.Moves.{put_text, put_within, put_moves, put_steps, decided_with, step_accepted}
 use Rattle.mk_edit.proofs.session.Session.put.Goals as goal
 

@@ -1,5 +1,5 @@
 use Rattle.std.proofs.Common.{◌∙◌}
-use Rattle.mk_edit.specs.Views.{steps_of}
+use Rattle.mk_splice.specs.Views.{steps_of}
 use Rattle.mk_edit.proofs.Moves.{redo_less, redo_ready, redo_moves, redo_steps}
 use Rattle.mk_edit.proofs.session.Session.redo.Goals as goal
 

@@ -1,4 +1,4 @@
-use Rattle.mk_edit.specs.Views.{steps_of}
+use Rattle.mk_splice.specs.Views.{steps_of}
 use Rattle.mk_edit.proofs.Moves.{undo_ready, undo_moves, undo_steps}
 use Rattle.mk_edit.proofs.session.Session.undo.Goals as goal
 

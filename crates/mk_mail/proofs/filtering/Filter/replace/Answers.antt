@@ -1,9 +1,9 @@
 use Rattle.std.proofs.Common.{◌∙◌, ◌++◌, map}
-use Rattle.mk_edit.specs.Edits.{RemoveField}
+use Rattle.mk_decide.specs.Edits.{RemoveField}
 use Rattle.mk_mail.specs.Letters.{added_full, name_in, others, removed_all, root_path, those}
 use Rattle.mk_mail.specs.LetterWork.{plain_edits, texts_of, work_of}
 use Rattle.mk_mail.proofs.FieldNames.{chained}
-use Rattle.mk_mail.proofs.Joined.{on_ok}
+use Rattle.mk_line.proofs.Joined.{on_ok}
 use Rattle.mk_mail.proofs.filtering.Filter.replace.Goals as goal
 
 pub returns : goal.returns

@@ -1,6 +1,6 @@
 use Rattle.std.proofs.Common.{◌∙◌, sym}
-use Rattle.mk_mail.proofs.LinesGathered.{gathered_on, nil_is, split_is}
-use Rattle.mk_mail.proofs.gathering.Gathered.decide.Goals as goal
+use Rattle.mk_mailbox.proofs.LinesGathered.{gathered_on, nil_is, split_is}
+use Rattle.mk_mailbox.proofs.gathering.Gathered.decide.Goals as goal
 
 pub returns-then-begins-clause-piece : goal.returns-then-begins-clause-piece
 returns-then-begins-clause-piece c =

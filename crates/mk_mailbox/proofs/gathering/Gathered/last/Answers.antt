@@ -1,7 +1,7 @@
 use Rattle.std.proofs.Common.{◌∙◌, sym, arith}
 use Rattle.mk_line.proofs.Cuts.{some_length}
-use Rattle.mk_mail.proofs.LinesGathered.{last_split, last_whole}
-use Rattle.mk_mail.proofs.gathering.Gathered.last.Goals as goal
+use Rattle.mk_mailbox.proofs.LinesGathered.{last_split, last_whole}
+use Rattle.mk_mailbox.proofs.gathering.Gathered.last.Goals as goal
 
 pub returns-then-begins_message-clause-piece : goal.returns-then-begins_message-clause-piece
 returns-then-begins_message-clause-piece c =

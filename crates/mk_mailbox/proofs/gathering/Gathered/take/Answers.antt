@@ -1,6 +1,6 @@
 use Rattle.std.proofs.Common.{is_ok}
-use Rattle.mk_mail.proofs.LinesGathered.{grown_if}
-use Rattle.mk_mail.proofs.gathering.Gathered.take.Goals as goal
+use Rattle.mk_mailbox.proofs.LinesGathered.{grown_if}
+use Rattle.mk_mailbox.proofs.gathering.Gathered.take.Goals as goal
 
 pub returns-clause-gathered : goal.returns-clause-gathered
 returns-clause-gathered c =

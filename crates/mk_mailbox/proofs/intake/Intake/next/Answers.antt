@@ -1,9 +1,9 @@
 use Rattle.std.proofs.Common.{◌≡◌, ◌∙◌, true, inr, subst, sym, rules}
 use Rattle.std.proofs.lemmas.Result.{err_from_is_err_and}
-use Rattle.mk_mail.specs.Gathered.{IsSplit}
-use Rattle.mk_mail.specs.Intakes.{held_of, kept_by}
-use Rattle.mk_mail.proofs.Intaking.{counted_on, grown_on, piece_next, read_more, true_or_false}
-use Rattle.mk_mail.proofs.intake.Intake.next.Goals as goal
+use Rattle.mk_mailbox.specs.Gathered.{IsSplit}
+use Rattle.mk_mailbox.specs.Intakes.{held_of, kept_by}
+use Rattle.mk_mailbox.proofs.Intaking.{counted_on, grown_on, piece_next, read_more, true_or_false}
+use Rattle.mk_mailbox.proofs.intake.Intake.next.Goals as goal
 
 pub returns-in-Ok-Some-clause-exact : goal.returns-in-Ok-Some-clause-exact
 returns-in-Ok-Some-clause-exact g c =

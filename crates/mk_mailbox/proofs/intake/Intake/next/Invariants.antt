@@ -1,9 +1,9 @@
 use Rattle.std.proofs.Common.{◌≡◌, ◌≤◌, ◌+◌, ◌++◌, ◌⊎◌, ℕ, List, [], true, length, if◌then◌else◌}
 use Rattle.std.specs.Io.KnownBytes.{Consumes, IsAtEnd}
-use Rattle.mk_mail.specs.Devices.{IsFull}
-use Rattle.mk_mail.specs.Intakes.{IsIntake, kept_by}
-use Rattle.mk_mail.specs.Mailboxes.{FitsReads}
-use Rattle.mk_mail.proofs.intake.Intake.next.Given as goal
+use Rattle.mk_mailbox.specs.Devices.{IsFull}
+use Rattle.mk_mailbox.specs.Intakes.{IsIntake, kept_by}
+use Rattle.mk_mailbox.specs.Mailboxes.{FitsReads}
+use Rattle.mk_mailbox.proofs.intake.Intake.next.Given as goal
 
 abbrev pub invariant-loop-read : goal.invariant-loop-read
 invariant-loop-read g l = record {

@@ -1,8 +1,8 @@
 use Rattle.std.proofs.Common.{[], ◌++◌, ◌∙◌, ap, append-nil, arith, sym}
 use Rattle.std.specs.Vec.{with_items}
 use Rattle.std.proofs.KnownBytes.{Consumes-kept, Consumes-nil}
-use Rattle.mk_mail.proofs.Intaking.{fits_read, unread_none}
-use Rattle.mk_mail.proofs.intake.Intake.read.Goals as goal
+use Rattle.mk_mailbox.proofs.Intaking.{fits_read, unread_none}
+use Rattle.mk_mailbox.proofs.intake.Intake.read.Goals as goal
 
 pub returns-in-Err-clause-bytes : goal.returns-in-Err-clause-bytes
 returns-in-Err-clause-bytes g c =

@@ -1,8 +1,8 @@
 use Rattle.std.proofs.Common.{◌++◌, subst}
-use Rattle.mk_mail.specs.Gathered.{IsSplit}
-use Rattle.mk_mail.specs.Held.{unread}
-use Rattle.mk_mail.proofs.LinesGathered.{split_on}
-use Rattle.mk_mail.proofs.intake.Intake.take_lines.Goals as goal
+use Rattle.mk_mailbox.specs.Gathered.{IsSplit}
+use Rattle.mk_mailbox.specs.Held.{unread}
+use Rattle.mk_mailbox.proofs.LinesGathered.{split_on}
+use Rattle.mk_mailbox.proofs.intake.Intake.take_lines.Goals as goal
 
 pub returns-in-Some-clause-piece : goal.returns-in-Some-clause-piece
 returns-in-Some-clause-piece c =

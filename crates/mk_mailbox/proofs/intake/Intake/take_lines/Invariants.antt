@@ -1,6 +1,6 @@
 use Rattle.std.proofs.Common.{◌≡◌, ◌-◌}
-use Rattle.mk_mail.specs.Intakes.{IsIntake, kept_by}
-use Rattle.mk_mail.proofs.intake.Intake.take_lines.Given as goal
+use Rattle.mk_mailbox.specs.Intakes.{IsIntake, kept_by}
+use Rattle.mk_mailbox.proofs.intake.Intake.take_lines.Given as goal
 
 abbrev pub invariant-lines : goal.invariant-lines
 invariant-lines l = record {

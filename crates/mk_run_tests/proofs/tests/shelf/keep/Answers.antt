@@ -1,5 +1,5 @@
-use Rattle.mk_tool.proofs.KeptLemmas.{texts_kept}
-use Rattle.mk_tool.proofs.tests.shelf.keep.Goals as goal
+use Rattle.mk_run_tests.proofs.KeptLemmas.{texts_kept}
+use Rattle.mk_run_tests.proofs.tests.shelf.keep.Goals as goal
 
 pub returns-clause-put : goal.returns-clause-put
 returns-clause-put c =

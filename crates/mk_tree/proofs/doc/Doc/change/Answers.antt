@@ -1,7 +1,7 @@
 use Rattle.std.proofs.Common.{◌≡◌, sym, ◌∙◌, subst, Result, Ok, Err, OnOk}
 use Rattle.mk_tree.specs.Documents.{Document, tree, printed}
 use Rattle.mk_tree.specs.ChangeViews.{ChangesTo}
-use Rattle.mk_tree.specs.Splicing.{spliced}
+use Rattle.mk_splice.specs.Splices.{spliced}
 use Rattle.mk_tree.proofs.Kept.{text_kept}
 use Rattle.mk_tree.proofs.Spliced.{part_goes}
 use Rattle.mk_tree.proofs.doc.Doc.change.Goals as goal

@@ -1,7 +1,8 @@
 use Rattle.std.proofs.Common.{◌≡◌, sym, ◌∙◌, subst, Result, Ok, Err, OnOk}
 use Rattle.mk_tree.specs.Documents.{Document, tree, printed}
 use Rattle.mk_tree.specs.Planning.{Becomes, Puts, new_of}
-use Rattle.mk_tree.specs.Splicing.{spliced, SectionBecomes}
+use Rattle.mk_splice.specs.Splices.{spliced}
+use Rattle.mk_tree.specs.Splicing.{SectionBecomes}
 use Rattle.mk_tree.proofs.Kept.{text_kept}
 use Rattle.mk_tree.proofs.Spliced.{made, becomes_there, not_missing}
 use Rattle.mk_tree.proofs.doc.Doc.change_section.Goals as goal

@@ -2,7 +2,7 @@ use Rattle.std.proofs.Common.{refl, ap, subst, sym, ◌∙◌, ◌<◌, ◌+◌,
 use Rattle.mk_tree.specs.Documents.{tree}
 use Rattle.mk_tree.specs.Nodes.{node_span}
 use Rattle.mk_tree.specs.Planning.{Puts}
-use Rattle.mk_tree.specs.Splicing.{spliced}
+use Rattle.mk_splice.specs.Splices.{spliced}
 use Rattle.mk_tree.proofs.Spliced.{put_within, put_changed}
 use Rattle.mk_tree.proofs.doc.Doc.put.Goals as goal
 

@@ -1,5 +1,5 @@
 -- Each section below is put with a level less.
-use Rattle.mk_edit.proofs.tests.flat.Listing.+put_entity.Given as goal
+use Rattle.mk_edit_tests.proofs.tests.flat.Listing.+put_entity.Given as goal
 
 abbrev pub decreases-put_entity : goal.decreases-put_entity
 decreases-put_entity l = l.levels

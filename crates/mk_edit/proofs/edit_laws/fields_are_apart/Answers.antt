@@ -1,5 +1,0 @@
-use Rattle.mk_edit.proofs.Counting.{apart_lem}
-use Rattle.mk_edit.proofs.edit_laws.fields_are_apart.Goals as goal
-
-pub returns : goal.returns
-returns c = apart_lem

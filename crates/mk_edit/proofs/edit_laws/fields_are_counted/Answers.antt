@@ -1,5 +1,0 @@
-use Rattle.mk_edit.proofs.Counting.{counted_lem}
-use Rattle.mk_edit.proofs.edit_laws.fields_are_counted.Goals as goal
-
-pub returns : goal.returns
-returns c = counted_lem

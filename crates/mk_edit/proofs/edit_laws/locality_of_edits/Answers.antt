@@ -1,5 +1,0 @@
-use Rattle.mk_edit.proofs.EveryEdit.{locality_lem}
-use Rattle.mk_edit.proofs.edit_laws.locality_of_edits.Goals as goal
-
-pub returns : goal.returns
-returns c = locality_lem

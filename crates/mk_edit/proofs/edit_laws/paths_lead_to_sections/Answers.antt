@@ -1,5 +1,0 @@
-use Rattle.mk_edit.proofs.PlacesAgain.{section_there}
-use Rattle.mk_edit.proofs.edit_laws.paths_lead_to_sections.Goals as goal
-
-pub returns : goal.returns
-returns c = section_there

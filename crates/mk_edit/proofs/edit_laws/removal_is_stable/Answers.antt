@@ -1,5 +1,0 @@
-use Rattle.mk_edit.proofs.Removing.{removal_reasons_lem}
-use Rattle.mk_edit.proofs.edit_laws.removal_is_stable.Goals as goal
-
-pub returns : goal.returns
-returns c = removal_reasons_lem

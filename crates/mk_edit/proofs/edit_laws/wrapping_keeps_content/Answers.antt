@@ -1,5 +1,0 @@
-use Rattle.mk_edit.proofs.WrapContent.{wrapping_keeps_lem}
-use Rattle.mk_edit.proofs.edit_laws.wrapping_keeps_content.Goals as goal
-
-pub returns : goal.returns
-returns c = wrapping_keeps_lem

@@ -1,0 +1,6 @@
+pub mod LineBytes
+pub mod MessageLines
+pub mod LinesGathered
+pub mod Intaking
+pub mod MailboxRuns
+pub mod PieceLaws

@@ -1,0 +1,7 @@
+pub mod Devices
+pub mod Pieces
+pub mod Held
+pub mod Mailboxes
+pub mod Gathered
+pub mod Intakes
+pub mod MailboxLaws

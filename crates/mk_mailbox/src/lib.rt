@@ -1,0 +1,11 @@
+//! Mailboxes: one message after another from a source, however it is read. And the devices that mail comes from and goes to.
+#![tactic(auto)]
+
+mod device;
+mod gathering;
+mod intake;
+pub mod laws;
+mod mailbox;
+
+pub use device::{CHUNK_BYTES, Fault, MOST_READS, Sink, Source};
+pub use mailbox::{MailFault, Mailbox};

@@ -1,0 +1,37 @@
+//! A table that is read.
+use super::rows;
+use std::test::Fail;
+
+const TABLE: &str = r#"
+A table.
+
+== first
+text: a\r\n\tb\\\x80"q"
+empty:
+number: 12
+path: 1.20.3
+
+== second
+text:  x: y
+"#;
+
+#[test]
+fn rows_have_their_cells(rt: HostRuntime) -> Result<(), Fail> {
+    let table = rows(rt.alloc(), TABLE)?;
+    assert_eq!(&rt; table.len(), 2);
+    for row in &table {
+        if row.shows == "first" {
+            assert_eq!(&rt; row.bytes("text"), b"a\r\n\tb\\\x80\"q\"".as_slice());
+            assert_eq!(&rt; row.text("empty"), "");
+            assert!(&rt; row.get("empty").is_some());
+            assert!(&rt; row.get("none").is_none());
+            assert_eq!(&rt; row.number("number"), 12);
+            let path = row.path(rt.alloc(), "path")?;
+            assert_eq!(&rt; path.as_slice(), [1, 20, 3].as_slice());
+        } else {
+            assert_eq!(&rt; row.shows, "second");
+            assert_eq!(&rt; row.bytes("text"), b" x: y".as_slice());
+        }
+    }
+    Ok(())
+}

@@ -1,0 +1,83 @@
+-- Letters as words of the command line (own, after formail).
+use Rattle.std.specs.Prelude.{◌&&◌, if◌then◌else◌, ℕ, Bool, Option, None, Some, List, is_some}
+use Rattle.std.specs.Option.{option_and_then, option_map}
+use Rattle.mk_line.specs.Ascii.{colon}
+use Rattle.mk_line.specs.Lines.{is_nil}
+use Rattle.mk_mail.specs.Letters.{PlainLetters, passes}
+use Rattle.mk_script.specs.Paths.{parted}
+use Rattle.mk_run.specs.declared.letters.LetterWords.{LetterWords}
+
+-- the words that stand behind letters, each where its letter was given
+pub record PlainWords : Type 0 where
+  -- --rename
+  pub rename : Option (List ℕ)
+  -- -a
+  pub add_if : Option (List ℕ)
+  -- -A
+  pub add : Option (List ℕ)
+  -- -i
+  pub prefixed : Option (List ℕ)
+  -- -I
+  pub only : Option (List ℕ)
+  -- -u
+  pub first : Option (List ℕ)
+  -- -U
+  pub last : Option (List ℕ)
+  -- -x
+  pub take : Option (List ℕ)
+  -- -X
+  pub whole : Option (List ℕ)
+
+-- words as they are
+abbrev pub words_of : LetterWords → PlainWords
+words_of w = record {
+  rename = option_map (λ s. s.now) w.rename;
+  add_if = option_map (λ s. s.now) w.add_if;
+  add = option_map (λ s. s.now) w.add;
+  prefixed = option_map (λ s. s.now) w.prefixed;
+  only = option_map (λ s. s.now) w.only;
+  first = option_map (λ s. s.now) w.first;
+  last = option_map (λ s. s.now) w.last;
+  take = option_map (λ s. s.now) w.take;
+  whole = option_map (λ s. s.now) w.whole;
+}
+
+-- what stands before a colon, where nothing stands behind it
+abbrev pub name_of_parts : Option (List ℕ × List ℕ) → Option (List ℕ)
+name_of_parts None = None
+name_of_parts (Some p) = if is_nil p.1 then Some p.0 else None
+
+-- the name of a word that is a name and a colon
+abbrev pub name_in : List ℕ → Option (List ℕ)
+name_in word = name_of_parts (parted colon word)
+
+-- a word that is a name and a colon
+abbrev pub is_name_word : List ℕ → Bool
+is_name_word word = is_some (name_in word)
+
+-- a word that is two names with a colon between them
+abbrev pub is_pair_word : List ℕ → Bool
+is_pair_word word = is_some (parted colon word)
+
+-- the words that take names have their colons
+abbrev pub have_colons : PlainWords → Bool
+have_colons w =
+    passes is_name_word w.first && (passes is_name_word w.last && (passes is_name_word w.take && (passes is_name_word w.whole && passes is_pair_word w.rename)))
+
+-- what words ask for, each by the letter that takes it
+abbrev pub letters_asked : PlainWords → PlainLetters
+letters_asked w = record {
+  rename = option_and_then (parted colon) w.rename;
+  add_if = w.add_if;
+  add = w.add;
+  prefixed = w.prefixed;
+  only = w.only;
+  first = option_and_then name_in w.first;
+  last = option_and_then name_in w.last;
+  take = option_and_then name_in w.take;
+  whole = option_and_then name_in w.whole;
+}
+
+-- the same, where all names have their colons
+abbrev pub asked : PlainWords → Option PlainLetters
+asked w = if have_colons w then Some (letters_asked w) else None

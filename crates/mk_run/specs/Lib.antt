@@ -1,0 +1,13 @@
+pub mod Reports
+pub mod RunClauses
+pub mod Runs
+pub mod Statuses
+pub mod Shown
+pub mod Folders
+pub mod Unpacking
+pub mod UnpackClauses
+pub mod Packing
+pub mod Parts
+pub mod Filtering
+pub mod Asked
+pub mod FilterClauses

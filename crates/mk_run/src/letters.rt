@@ -1,0 +1,145 @@
+//! Letters as words of the command line.
+
+ghost use Rattle.std.specs.Prelude.{◌≡◌, IfOk};
+ghost use Rattle.std.specs.Option.{option_and_then, option_map};
+ghost use Rattle.mk_line.specs.Ascii.{colon};
+ghost use Rattle.mk_mail.specs.LetterViews.{bytes_in};
+ghost use Rattle.mk_mail.specs.Letters.{passes};
+ghost use Rattle.mk_run.specs.Asked.{is_name_word, is_pair_word, name_in as name_in_word};
+ghost use Rattle.mk_script.specs.Paths.{parted as parted_at};
+
+use mk_mail::Letters;
+use mk_script::parted;
+use std::alloc::{AllocError, Global};
+
+const COLON: u8 = b':';
+
+/// The words that stand after the letters of `field`, each where its letter was given.
+#[derive(Clone, Copy, Debug)]
+pub struct LetterWords<'a> {
+    /// `--rename OLD:NEW`
+    pub rename: Option<&'a str>,
+    /// `-a FIELD`
+    pub add_if: Option<&'a str>,
+    /// `-A FIELD`
+    pub add: Option<&'a str>,
+    /// `-i FIELD`
+    pub prefixed: Option<&'a str>,
+    /// `-I FIELD`
+    pub only: Option<&'a str>,
+    /// `-u NAME:`
+    pub first: Option<&'a str>,
+    /// `-U NAME:`
+    pub last: Option<&'a str>,
+    /// `-x NAME:`
+    pub take: Option<&'a str>,
+    /// `-X NAME:`
+    pub whole: Option<&'a str>,
+}
+
+impl LetterWords<'_> {
+    ghost use Rattle.std.specs.Prelude.{◌≡◌, IfOk};
+    ghost use Rattle.std.specs.Option.{option_map};
+    ghost use Rattle.mk_mail.specs.LetterViews.{letters_of};
+    ghost use Rattle.mk_run.specs.Asked.{asked, have_colons as words_have_colons, words_of};
+
+    /// What the words ask for. `None` where a name stands without its colon.
+    pub fn letters(&self, alloc: Global) -> Result<Option<Letters>, AllocError>
+        ensures { IfOk result (λ letters. option_map letters_of letters ≡ asked (words_of self.now)) }
+    {
+        if !self.have_colons() {
+            return Ok(None);
+        }
+        Ok(Some(Letters {
+            rename: names(alloc, self.rename)?,
+            add_if: field(alloc, self.add_if)?,
+            add: field(alloc, self.add)?,
+            prefixed: field(alloc, self.prefixed)?,
+            only: field(alloc, self.only)?,
+            first: name(alloc, self.first)?,
+            last: name(alloc, self.last)?,
+            take: name(alloc, self.take)?,
+            whole: name(alloc, self.whole)?,
+        }))
+    }
+
+    // Whether each word that is a name has its colon, and that of `--rename` one between its names.
+    fn have_colons(&self) -> bool
+        ensures { result ≡ words_have_colons (words_of self.now) }
+    {
+        may_name(self.first)
+            && may_name(self.last)
+            && may_name(self.take)
+            && may_name(self.whole)
+            && may_rename(self.rename)
+    }
+}
+
+// Whether a word is a name and a colon, where there is one.
+fn may_name(word: Option<&str>) -> bool
+    ensures { result ≡ passes is_name_word (option_map (λ s. s.now) word.entry) }
+{
+    match word {
+        Some(word) => before_colon(word.as_bytes()).is_some(),
+        None => true,
+    }
+}
+
+// Whether a word has a colon, where there is one.
+fn may_rename(word: Option<&str>) -> bool
+    ensures { result ≡ passes is_pair_word (option_map (λ s. s.now) word.entry) }
+{
+    match word {
+        Some(word) => parted(word.as_bytes(), COLON).is_some(),
+        None => true,
+    }
+}
+
+// The name of a word that is a name and a colon.
+fn before_colon(word: &[u8]) -> Option<&[u8]>
+    ensures { option_map (λ name. name.now) result ≡ name_in_word word.now }
+{
+    match parted(word, COLON) {
+        Some((name, behind)) if behind.is_empty() => Some(name),
+        _ => None,
+    }
+}
+
+// The field that a word is.
+fn field(alloc: Global, word: Option<&str>) -> Result<Option<Vec<u8>>, AllocError>
+    ensures { IfOk result (λ field. bytes_in field ≡ option_map (λ s. s.now) word.entry) }
+{
+    match word {
+        Some(word) => Ok(Some(Vec::from_slice(alloc, word.as_bytes())?)),
+        None => Ok(None),
+    }
+}
+
+// The name that stands before the colon of a word.
+fn name(alloc: Global, word: Option<&str>) -> Result<Option<Vec<u8>>, AllocError>
+    ensures { IfOk result (λ name. bytes_in name ≡ option_and_then name_in_word (option_map (λ s. s.now) word.entry)) }
+{
+    let Some(word) = word else {
+        return Ok(None);
+    };
+    match before_colon(word.as_bytes()) {
+        Some(name) => Ok(Some(Vec::from_slice(alloc, name)?)),
+        None => Ok(None),
+    }
+}
+
+// The two names of a word.
+fn names(alloc: Global, word: Option<&str>) -> Result<Option<(Vec<u8>, Vec<u8>)>, AllocError>
+    ensures { IfOk result (λ names. option_map (λ p. (p.0.items, p.1.items)) names ≡ option_and_then (parted_at colon) (option_map (λ s. s.now) word.entry)) }
+{
+    let Some(word) = word else {
+        return Ok(None);
+    };
+    match parted(word.as_bytes(), COLON) {
+        Some((old, new)) => {
+            let old = Vec::from_slice(alloc, old)?;
+            Ok(Some((old, Vec::from_slice(alloc, new)?)))
+        }
+        None => Ok(None),
+    }
+}

@@ -1,0 +1,5 @@
+//! Tests of the runs, by public calls alone. A crate of their own, so that nothing waits for them.
+#![tactic(auto)]
+
+#[cfg(test)]
+mod tests;

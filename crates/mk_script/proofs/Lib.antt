@@ -1,0 +1,9 @@
+pub mod NumberLemmas
+pub mod PathLemmas
+pub mod PieceLemmas
+pub mod TargetLemmas
+pub mod WordLemmas
+pub mod LineLemmas
+pub mod ScriptTurns
+pub mod WrittenLemmas
+pub mod PieceWords

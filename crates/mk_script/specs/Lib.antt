@@ -1,0 +1,6 @@
+pub mod Paths
+pub mod Script
+pub mod ScriptSteps
+pub mod ScriptViews
+pub mod Targets
+pub mod Written

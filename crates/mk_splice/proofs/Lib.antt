@@ -1,0 +1,4 @@
+pub mod Bytes
+pub mod Splicings
+pub mod Trials
+pub mod FoundSteps

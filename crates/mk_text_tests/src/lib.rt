@@ -1,0 +1,17 @@
+//! Tests of lines, headers and encodings, by public calls alone. A crate of their own, so that nothing waits for them.
+#![tactic(auto)]
+
+#[cfg(test)]
+mod calls;
+#[cfg(test)]
+mod codes;
+#[cfg(test)]
+mod decoding;
+#[cfg(test)]
+mod headers;
+#[cfg(test)]
+mod lines;
+#[cfg(test)]
+mod types;
+#[cfg(test)]
+mod words;

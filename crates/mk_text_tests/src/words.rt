@@ -1,0 +1,199 @@
+//! Encoded words of fields. Expected values are from the RFCs and our own rules.
+use super::calls::{Call, check, same};
+use mk_code::{words_decode, words_encode};
+use mk_line::Ending;
+use std::alloc::Global;
+use std::test::Fail;
+
+const DECODED_WORDS: &str = r#"
+== two charsets, two encodings, and no space between the words
+text: =?iso-8859-1?Q?caf=E9?= =?UTF-8?B?w6k=?= x
+gives: caf\xc3\xa9\xc3\xa9 x
+
+== an unknown charset
+text: =?x?Q?a?= =?utf-8?Q?b?=
+gives: =?x?Q?a?= b
+
+== a sign without its digits
+text: =?utf-8?Q?a=?=
+gives: =?utf-8?Q?a=?=
+
+== a fold between two words
+text: =?utf-8?Q?a?=\r\n\t=?utf-8?q?b?=
+gives: ab
+
+== a fold before other text
+text: =?utf-8?Q?a?=\n b
+gives: a b
+
+== spaces around a word
+text: \x20=?utf-8?Q?a?=  \t
+gives: \x20a  \t
+
+== an underscore, and one as two digits
+text: =?utf-8?Q?a_b=5F?=
+gives: a b_
+
+== an empty word
+text: =?utf-8?Q??=
+gives:
+
+== base64 without padding
+text: =?UtF-8?b?w6k?=
+gives: \xc3\xa9
+
+== base64 with too much padding
+text: =?utf-8?B?w6k==?=
+gives: \xc3\xa9
+
+== base64 with three signs of padding
+text: =?utf-8?B?w6k===?=
+gives: =?utf-8?B?w6k===?=
+
+== base64 with unused bits
+text: =?utf-8?B?aGl?=
+gives: =?utf-8?B?aGl?=
+
+== base64 with another character
+text: =?utf-8?B?a-Gk?=
+gives: =?utf-8?B?a-Gk?=
+
+== the last byte of ASCII
+text: =?us-ascii?Q?=7F?=
+gives: \x7f
+
+== a byte beyond ASCII
+text: =?us-ascii?Q?=80?=
+gives: =?us-ascii?Q?=80?=
+
+== a byte that isn't ASCII in the word itself
+text: =?utf-8?Q?\xc3?=
+gives: =?utf-8?Q?\xc3?=
+
+== a question mark in a word
+text: =?utf-8?Q?a?b?=
+gives: =?utf-8?Q?a?b?=
+
+== an unknown encoding
+text: =?utf-8?X?a?=
+gives: =?utf-8?X?a?=
+
+== a letter before a word
+text: x=?utf-8?Q?a?=
+gives: x=?utf-8?Q?a?=
+
+== a letter after a word
+text: =?utf-8?Q?a?=x =?utf-8?Q?b?=
+gives: =?utf-8?Q?a?=x b
+
+== a character cut in two
+text: =?utf-8?Q?=C3?= =?utf-8?Q?=A9?=
+gives: \xc3\xa9
+
+== nothing
+text:
+gives:
+"#;
+
+#[test]
+fn encoded_words_decoded(rt: HostRuntime) -> Result<(), Fail> {
+    check(&rt, rt.alloc(), Call::DecodeWords, DECODED_WORDS)
+}
+
+const ENCODED_WORDS: &str = r#"
+== a letter beyond ASCII
+text: \xc3\xa9
+gives: =?utf-8?B?w6k=?=
+
+== a printable text
+text: a b
+gives: a b
+
+== no text
+text:
+gives:
+
+== the start of an encoded word
+text: =?
+gives: =?utf-8?B?PT8=?=
+
+== a tab
+text: \t
+gives: =?utf-8?B?CQ==?=
+
+== the signs of a word apart
+text: a=b?
+gives: a=b?
+"#;
+
+#[test]
+fn texts_as_encoded_words(rt: HostRuntime) -> Result<(), Fail> {
+    check(&rt, rt.alloc(), Call::WordsWithLf, ENCODED_WORDS)
+}
+
+const LONG_WITH_LF: &str = r#"
+== 23 letters beyond ASCII
+text: \xc3\xa9\xc3\xa9\xc3\xa9\xc3\xa9\xc3\xa9\xc3\xa9\xc3\xa9\xc3\xa9\xc3\xa9\xc3\xa9\xc3\xa9\xc3\xa9\xc3\xa9\xc3\xa9\xc3\xa9\xc3\xa9\xc3\xa9\xc3\xa9\xc3\xa9\xc3\xa9\xc3\xa9\xc3\xa9\xc3\xa9
+gives: =?utf-8?B?w6nDqcOpw6nDqcOpw6nDqcOpw6nDqcOpw6nDqcOpw6nDqcOpw6nDqcOpw6k=?=\n =?utf-8?B?w6k=?=
+"#;
+
+const LONG_WITH_CRLF: &str = r#"
+== 23 letters beyond ASCII
+text: \xc3\xa9\xc3\xa9\xc3\xa9\xc3\xa9\xc3\xa9\xc3\xa9\xc3\xa9\xc3\xa9\xc3\xa9\xc3\xa9\xc3\xa9\xc3\xa9\xc3\xa9\xc3\xa9\xc3\xa9\xc3\xa9\xc3\xa9\xc3\xa9\xc3\xa9\xc3\xa9\xc3\xa9\xc3\xa9\xc3\xa9
+gives: =?utf-8?B?w6nDqcOpw6nDqcOpw6nDqcOpw6nDqcOpw6nDqcOpw6nDqcOpw6nDqcOpw6k=?=\r\n =?utf-8?B?w6k=?=
+"#;
+
+/// The same words, and the text again.
+const LONG_AGAIN: &str = r#"
+== 23 letters beyond ASCII
+text: =?utf-8?B?w6nDqcOpw6nDqcOpw6nDqcOpw6nDqcOpw6nDqcOpw6nDqcOpw6nDqcOpw6k=?=\r\n =?utf-8?B?w6k=?=
+gives: \xc3\xa9\xc3\xa9\xc3\xa9\xc3\xa9\xc3\xa9\xc3\xa9\xc3\xa9\xc3\xa9\xc3\xa9\xc3\xa9\xc3\xa9\xc3\xa9\xc3\xa9\xc3\xa9\xc3\xa9\xc3\xa9\xc3\xa9\xc3\xa9\xc3\xa9\xc3\xa9\xc3\xa9\xc3\xa9\xc3\xa9
+"#;
+
+#[test]
+fn long_texts_as_several_words(rt: HostRuntime) -> Result<(), Fail> {
+    check(&rt, rt.alloc(), Call::WordsWithLf, LONG_WITH_LF)?;
+    check(&rt, rt.alloc(), Call::WordsWithCrlf, LONG_WITH_CRLF)?;
+    check(&rt, rt.alloc(), Call::DecodeWords, LONG_AGAIN)
+}
+
+const PRINTABLE: &str = "
+== 200 letters
+text: aaaaaaaaaaaaaaaaaaaaaaaaaaaaaaaaaaaaaaaaaaaaaaaaaaaaaaaaaaaaaaaaaaaaaaaaaaaaaaaaaaaaaaaaaaaaaaaaaaaaaaaaaaaaaaaaaaaaaaaaaaaaaaaaaaaaaaaaaaaaaaaaaaaaaaaaaaaaaaaaaaaaaaaaaaaaaaaaaaaaaaaaaaaaaaaaaaaaaaaa
+gives: aaaaaaaaaaaaaaaaaaaaaaaaaaaaaaaaaaaaaaaaaaaaaaaaaaaaaaaaaaaaaaaaaaaaaaaaaaaaaaaaaaaaaaaaaaaaaaaaaaaaaaaaaaaaaaaaaaaaaaaaaaaaaaaaaaaaaaaaaaaaaaaaaaaaaaaaaaaaaaaaaaaaaaaaaaaaaaaaaaaaaaaaaaaaaaaaaaaaaaaa
+";
+
+// As many letters as are encoded: the length of the words.
+fn words_length(alloc: Global, count: usize) -> Result<usize, Fail> {
+    let mut text = String::new(alloc);
+    for _ in 0..count {
+        text.push('a')?;
+    }
+    Ok(words_encode(alloc, text.as_str(), Ending::Lf)?.len())
+}
+
+#[test]
+fn a_printable_text_of_200_bytes_stays(rt: HostRuntime) -> Result<(), Fail> {
+    check(&rt, rt.alloc(), Call::WordsWithLf, PRINTABLE)?;
+    assert_eq!(rt; words_length(rt.alloc(), 201)?, 4 * 74 + 40);
+    Ok(())
+}
+
+// Below, each call gives its answer or says that memory ran out, whichever allocation is refused.
+
+#[test]
+fn words_decode_gives_its_answer_or_memory(rt: HostRuntime) {
+    if let Ok(text) = words_decode(rt.alloc(), b"=?iso-8859-1?Q?caf=E9?= =?UTF-8?B?w6k=?= x") {
+        same(&rt, &text, b"caf\xc3\xa9\xc3\xa9 x", "two words");
+    }
+}
+
+#[test]
+fn words_encode_gives_its_answer_or_memory(rt: HostRuntime) {
+    if let Ok(value) = words_encode(rt.alloc(), "\u{e9}", Ending::Lf) {
+        same(&rt, &value, b"=?utf-8?B?w6k=?=", "a letter beyond ASCII");
+    }
+    if let Ok(value) = words_encode(rt.alloc(), "a b", Ending::Lf) {
+        same(&rt, &value, b"a b", "a printable text");
+    }
+}

@@ -1,0 +1,5 @@
+//! Tests of documents and their sections, by public calls alone. A crate of their own, so that nothing waits for them.
+#![tactic(auto)]
+
+#[cfg(test)]
+mod tests;

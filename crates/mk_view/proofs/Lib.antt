@@ -1,0 +1,9 @@
+pub mod Depths
+pub mod Sections
+pub mod LeavesAt
+pub mod Taken
+pub mod NamesKnown
+pub mod InTurn
+pub mod SafeNames
+pub mod Rows
+pub mod Gaps

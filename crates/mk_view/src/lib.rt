@@ -1,0 +1,17 @@
+//! What a document shows: its sections listed, their contents decoded, and the names that its leaves get as files.
+#![tactic(auto)]
+
+mod extracting;
+mod giving;
+mod listing;
+mod naming;
+mod storing;
+mod typing;
+mod writing;
+
+pub use extracting::{ExtractError, content, extract};
+pub use giving::numbered;
+pub use listing::list;
+pub use storing::{Leaf, leaves, names};
+pub use typing::push_type;
+pub use writing::push_path;
