@@ -11,3 +11,5 @@ pub mod SilentFields
 pub mod PassedFields
 pub mod RootEdits
 pub mod Saved
+pub mod Loadings
+pub mod SavedJournals

@@ -1,6 +1,6 @@
 -- A history is told by its text, its steps and how many of them are done.
 use Rattle.std.proofs.Common.{◌≡◌, ◌≤◌, ℕ, suc, zero, List, [], ◌∷◌, refl, ap, sym, ◌∙◌, subst, length, take, drop, get_or, arith}
-use Rattle.mk_splice.specs.Splices.{Splice, forth_step, back_step, GoesBack}
+use Rattle.mk_splice.specs.Splices.{Splice, back_step, GoesBack}
 use Rattle.mk_splice.specs.Fits.{back_all, AllBack, AllForth, Fit}
 use Rattle.mk_edit.specs.History.{History, texts_behind, texts_from, history_of}
 use Rattle.mk_edit.specs.Histories.{AreLinked, IsHistory, text_now}

@@ -8,3 +8,5 @@ pub mod SilentEdits
 pub mod RootFields
 pub mod Drafts
 pub mod Answers
+pub mod Saving
+pub mod inner

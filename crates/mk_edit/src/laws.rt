@@ -1,6 +1,7 @@
 //! Laws of edits and histories, over the definitions alone: each a function with an empty body whose clause is the law.
 ghost use Rattle.mk_decide.specs.EditLaws.{EditsReadBack, SplicesLead};
 ghost use Rattle.mk_edit.specs.Laws.{GroupsLead, GroupsReadBack, HistoriesStay, TextsStart, UndoingRestores};
+ghost use Rattle.mk_edit.specs.Saving.{SavedIsLoaded};
 
 /// Undoing as often as steps are done gives the first text, and redoing as often gives the history from which the undoing
 /// began; the same for every history and every list of edits, groups, undos and redos.
@@ -39,4 +40,9 @@ pub fn texts_start()
 /// back.
 pub fn histories_stay()
     ensures { HistoriesStay }
+{}
+
+/// The journal of a history, loaded with the text that stands, gives the history again.
+pub fn saved_journals_are_loaded()
+    ensures { SavedIsLoaded }
 {}

@@ -17,7 +17,7 @@ mod silent_edits;
 mod stepping;
 
 pub use commands::Command;
-pub use errors::GroupError;
+pub use errors::{GroupError, LoadError};
 pub use mk_decide::{Edit, EditError, edit_laws};
 pub use replies::Reply;
 pub use session::Session;

@@ -9,19 +9,23 @@ ghost use Rattle.mk_decide.specs.Counts.{edit_lines};
 ghost use Rattle.mk_decide.specs.Decided.{IsDecided};
 ghost use Rattle.mk_decide.specs.LocalAnswers.{plain_splice};
 ghost use Rattle.mk_splice.specs.Splices.{forth_step, back_step};
+ghost use Rattle.mk_edit.specs.Saving.{RefusesJournal, loaded, saved};
+ghost use Rattle.mk_edit.specs.inner.Loading.{IsFitting};
+ghost use Rattle.mk_splice.specs.Printed.{AreSmall};
 ghost use Rattle.mk_edit.specs.Histories.{IsHistory, after_all, replies, started, step, text_now};
 ghost use Rattle.mk_decide.specs.Views.{edit_of};
 ghost use Rattle.mk_edit.specs.Views.{order_of};
-ghost use Rattle.mk_splice.specs.Views.{splice_of};
+ghost use Rattle.mk_splice.specs.Views.{splice_of, steps_of};
+ghost use Rattle.mk_edit.specs.History.{history_of};
 
 use crate::commands::Command;
-use crate::errors::GroupError;
+use crate::errors::{GroupError, LoadError};
 use crate::grouping::together;
 use crate::replies::{Reply, replied, replied_to_group};
 use crate::stepping::{change, made_again, put_step, taken_back};
 use mk_decide::{Edit, EditError, Replacement, decide};
 use mk_line::Meter;
-use mk_splice::{Splice, copied};
+use mk_splice::{Journal, Splice, copied, fit, print};
 use mk_tree::Doc;
 use std::alloc::{AllocError, Global};
 use std::marker::Model;
@@ -61,6 +65,44 @@ impl Session {
             steps: Vec::new(alloc),
             done: 0,
         })
+    }
+
+    /// Begins with the history that a journal describes with a text. The journal is looked at first, then whether it belongs
+    /// to the text, and then whether its steps fit; where it is refused, the text comes back. It takes the time of moving
+    /// the bytes after each splice once, and of reading the text.
+    pub fn load(
+        alloc: Global,
+        text: Vec<u8>,
+        journal: &[u8],
+    ) -> Result<Session, (Vec<u8>, LoadError)>
+        ensures ok { IfOk result (λ s. loaded text.items journal.now ≡ Ok s) }
+        ensures refused { IfErr result (λ e. RefusesJournal e.1 (loaded text.items journal.now)) }
+        ensures back { IfErr result (λ e. e.0.items ≡ text.items) }
+    {
+        match fitting(alloc, &text, journal) {
+            Ok(Journal { steps, done, .. }) => match Doc::read(alloc, text) {
+                Ok(doc) => Ok(Session { doc, steps, done }),
+                Err((text, _)) => Err((text, LoadError::Memory)),
+            },
+            Err(error) => Err((text, error)),
+        }
+    }
+
+    /// The history as a journal: the replaced and the new bytes of each step, and the digest of the text.
+    pub fn save(&self) -> Result<Vec<u8>, AllocError>
+        ensures journal { IfOk result (λ v. v.items ≡ saved self.now) }
+        ensures small { OnOk result (AreSmall self.now.steps) }
+    {
+        let text = self.doc.text();
+        print(*self.steps.allocator(), text, &self.steps, self.done)
+    }
+
+    /// Takes the session apart: the message, the steps, and how many of them are done.
+    pub fn into_parts(self) -> (Doc, Vec<Vec<Splice>>, usize)
+        ensures { history_of result.0 (steps_of result.1.items) result.2 ≡ self }
+    {
+        let Session { doc, steps, done } = self;
+        (doc, steps, done)
     }
 
     /// The text as it stands.
@@ -204,4 +246,17 @@ impl Session {
         self.done += 1;
         Ok(())
     }
+}
+
+// The journal that a file is, where it belongs to a text and fits it.
+fn fitting(alloc: Global, text: &[u8], file: &[u8]) -> Result<Journal, LoadError>
+    ensures ok { IfOk result (λ j. IsFitting text.now file.now j) }
+    ensures err { IfErr result (λ e. RefusesJournal e (loaded text.now file.now)) }
+{
+    let journal = Journal::parse(alloc, file)?;
+    if !journal.is_of(text) {
+        return Err(LoadError::JournalOther);
+    }
+    fit(alloc, text, &journal.steps, journal.done)?;
+    Ok(journal)
 }

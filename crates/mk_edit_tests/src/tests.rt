@@ -6,6 +6,7 @@ mod fields;
 mod flat;
 mod groups;
 mod histories;
+mod journals;
 mod kinds;
 mod levels;
 mod long_groups;

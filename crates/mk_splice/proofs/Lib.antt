@@ -2,3 +2,14 @@ pub mod Bytes
 pub mod Splicings
 pub mod Trials
 pub mod FoundSteps
+pub mod Sequences
+pub mod Parts
+pub mod Wholes
+pub mod Numbers
+pub mod Entries
+pub mod Decimals
+pub mod Hexes
+pub mod Spelled
+pub mod Prints
+pub mod Readings
+pub mod Fronts

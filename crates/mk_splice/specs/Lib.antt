@@ -3,4 +3,10 @@ pub mod Rooms
 pub mod Fits
 pub mod Views
 pub mod Misfits
+pub mod Readers
+pub mod Grammar
+pub mod Journals
+pub mod JournalViews
+pub mod Printed
+pub mod JournalLaws
 pub mod inner

@@ -1,11 +1,17 @@
-//! Bytes alone: replacing them in a text, and steps of such replacements, made and taken back.
+//! Bytes alone: replacing them in a text, and steps of such replacements, made and taken back; and journals of these steps.
 #![tactic(auto)]
 
+mod digests;
 mod fitting;
+mod journals;
 pub mod laws;
+mod printing;
+mod reading;
 mod replacing;
 mod splicing;
 
 pub use fitting::{FitError, fit};
+pub use journals::{Journal, JournalError};
+pub use printing::print;
 pub use replacing::{replace, replace_within};
 pub use splicing::{Splice, copied, make_again, take_back};
