@@ -1,5 +1,5 @@
 ghost use Rattle.std.specs.Prelude.{◌≡◌, ℕ, ◌<◌, ◌≤◌, List, Option, length, IfOk, OnOk, OnErr};
-ghost use Rattle.std.specs.Io.KnownBytes.{ReadConsumes, WriteAppends};
+ghost use Rattle.std.specs.Io.KnownBytes.{ReadConsumes, WriteAppends, Keeps};
 ghost use Rattle.mk_line.specs.Meters.{ticked};
 
 use std::error::Error;
@@ -71,7 +71,14 @@ pub trait Sink {
         ensures took_some { IfOk result (λ n. 0 < n → failures self.new ≡ failures self.old) }
         ensures none_given { length piece.now ≡ 0 → OnOk result (failures self.new ≡ failures self.old) };
 
-    /// How many writes failed.
+    /// Says that all was written. A device that holds bytes back until then lets them stand, or fails; nothing is written
+    /// after it.
+    fn finish(&mut self) -> Result<(), Fault>
+        ensures bytes { Keeps (contents self.old) (contents self.new) }
+        ensures failed { OnErr result (failures self.new ≡ ticked (failures self.old)) }
+        ensures went_well { OnOk result (failures self.new ≡ failures self.old) };
+
+    /// How many calls failed.
     fn faults(&self) -> u64
         ensures { result ≡ failures self.now };
 }

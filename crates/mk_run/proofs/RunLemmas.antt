@@ -1,13 +1,15 @@
 -- What the engine's exits leave.
-use Rattle.std.proofs.Common.{◌≡◌, ℕ, Bool, true, false, not, if◌then◌else◌, List, [], Option, Ok, refl, sym, ap, ◌∙◌, inl, inr}
+use Rattle.std.proofs.Common.{◌≡◌, ◌⊎◌, ℕ, Bool, true, false, not, if◌then◌else◌, List, [], Option, Some, Result, Ok, Err, IfOk, IfErr, refl, sym, inl, inr}
 use Rattle.std.proofs.lemmas.Bool.{cases_Bool}
 use Rattle.std.proofs.lemmas.List.{append-nil}
 use Rattle.std.specs.Io.KnownBytes.{Appends, IsAtEnd, Keeps}
 use Rattle.std.proofs.KnownBytes.{Appends-nil}
 use Rattle.mk_line.specs.Lines.{is_nil}
 use Rattle.mk_edit.specs.History.{History}
-use Rattle.mk_edit.specs.Histories.{text_now, started}
-use Rattle.mk_mailbox.specs.Devices.{AppendsFront}
+use Rattle.mk_edit.specs.declared.errors.LoadError.{LoadError}
+use Rattle.mk_edit.specs.declared.errors.LoadError.TheVariants.{JournalSyntax as SyntaxIn, JournalOther as OtherIn, JournalMismatch as MismatchIn, Memory as MemoryIn}
+use Rattle.mk_edit.specs.Saving.{JournalRefusal, JournalSyntax, JournalOther, JournalMismatch}
+use Rattle.mk_mailbox.specs.Devices.{AppendsFront, Rose}
 use Rattle.mk_run.specs.declared.status.Status.{Status}
 use Rattle.mk_run.specs.declared.status.Status.TheVariants.{Well, Refused}
 use Rattle.mk_run.specs.declared.status.Cause.{Cause}
@@ -15,40 +17,80 @@ use Rattle.mk_run.specs.declared.status.Cause.TheVariants.{Read, Write, Memory}
 use Rattle.mk_run.specs.declared.transfer.Stop.{Stop}
 use Rattle.mk_run.specs.declared.transfer.Stop.TheVariants.{Fault as Stopped, Memory as Wanting}
 use Rattle.mk_script.specs.ScriptSteps.{ScriptStep}
-use Rattle.mk_run.specs.Runs.{Run, run_steps, history_after, errors_of}
-use Rattle.mk_run.specs.RunClauses.{Held, Leaves, WritesFronts, cause_line, cause_of_writing, status_of}
+use Rattle.mk_run.specs.Journaling.{Journaling, named_by}
+use Rattle.mk_run.specs.JournalRuns.{IsBlamedFor, LeavesJournal, LeavesJournalSoFar}
+use Rattle.mk_run.specs.Runs.{Run, ScriptRun, run_from, errors_of}
+use Rattle.mk_run.specs.RunClauses.{Held, Counts, Leaves, LeavesSoFar, cause_line, cause_of_writing, ends_itself, status_of}
+use Rattle.mk_run.specs.inner.Keeping.{says_memory}
+use Rattle.mk_run.specs.inner.Sessions.{LeavesSession, Sunk, sunk}
 
 -- where nothing went out, a front did
 pub AppendsFront-none : (known : Option (List ℕ)) (bytes : List ℕ) → AppendsFront known known bytes
 AppendsFront-none known bytes = ([], bytes, refl, Appends-nil known)
 
 -- the status where no error line went out, and where one did
-status_at : (errors : List ℕ) (refused : Bool) (status : Status) → refused ≡ not (is_nil errors) → status ≡ (if refused then Refused else Well)
+pub status_at : (errors : List ℕ) (refused : Bool) (status : Status) → refused ≡ not (is_nil errors) → status ≡ (if refused then Refused else Well)
     → status ≡ (if is_nil errors then Well else Refused)
 status_at errors refused status r s = elim (cases_Bool (is_nil errors)) [
   | inl t ↦ rw t (let no_line : refused ≡ false = rw t at r in rw no_line at s)
   | inr f ↦ rw f (let line : refused ≡ true = rw f at r in rw line at s)
 ]
 
--- all steps were done and all went out
-pub Leaves-done : (pieces : List (List ℕ)) (steps : List ScriptStep) (message text : List ℕ) (first last : History) (refused : Bool) (status : Status) (before after : Held)
-    → first ≡ started message → last ≡ history_after pieces steps first → text ≡ text_now last
-    → refused ≡ not (is_nil (errors_of pieces steps first)) → status ≡ (if refused then Refused else Well)
-    → IsAtEnd after.input → Appends before.output after.output text → Appends before.errors after.errors (errors_of pieces steps first)
-    → Leaves status (run_steps pieces message (Ok steps)) before after
-Leaves-done pieces steps message text first last refused status before after begun done printed told ended end output errors =
-    let text_is : text ≡ text_now (history_after pieces steps (started message)) = printed ∙ ap text_now done ∙ ap (λ h. text_now (history_after pieces steps h)) begun in
-    let all_output = rw text_is at output in
-    let all_errors = rw begun at errors in
-    let status_is : status ≡ (if is_nil (errors_of pieces steps (started message)) then Well else Refused) = status_at _ refused status (rw begun at told) ended in
-    elim (cases_Bool (is_nil (errors_of pieces steps (started message)))) [
-      | inl t ↦
-          let well : status ≡ Well = rw t at status_is in
-          rw well (record { status_is = rw t refl; written = record { output = all_output; errors = all_errors }; read = end })
-      | inr f ↦
-          let refusing : status ≡ Refused = rw f at status_is in
-          rw refusing (record { status_is = rw f refl; written = record { output = all_output; errors = all_errors }; read = end })
-    ]
+-- where all went out, a front did
+pub AppendsFront-whole : (old new : Option (List ℕ)) (bytes : List ℕ) → Appends old new bytes → AppendsFront old new bytes
+AppendsFront-whole old new bytes h = (bytes, [], sym (append-nil bytes), h)
+
+-- what the steps on a session left, in a run that read its whole input
+pub Leaves-session : (result : Result Status Cause) (pieces : List (List ℕ)) (steps : List ScriptStep) (journaling : Journaling) (h : History) (before after : Held) (kept left : Option (List ℕ))
+    → IsAtEnd after.input
+    → LeavesSession result (run_from pieces steps journaling h) (sunk before.output before.errors kept) (sunk after.output after.errors left)
+    → LeavesSoFar result (run_from pieces steps journaling h).run before after × LeavesJournalSoFar result (run_from pieces steps journaling h) before after kept left
+Leaves-session (Ok status) pieces steps journaling h before after kept left end w = elim (cases_Bool (is_nil (errors_of pieces steps h))) [
+  | inl t ↦
+      let well : status ≡ Well = rw t at w.status_is in
+      rw well (record { status_is = rw t refl; written = record { output = w.output; errors = w.errors }; read = end }, w.journal)
+  | inr f ↦
+      let refusing : status ≡ Refused = rw f at w.status_is in
+      rw refusing (record { status_is = rw f refl; written = record { output = w.output; errors = w.errors }; read = end }, w.journal)
+]
+Leaves-session (Err cause) pieces steps journaling h before after kept left end w =
+    (record { output = w.output; errors = w.errors; silent = λ e. absurd (w.unread e) }, record { front = w.journal; later = w.later })
+
+-- steps on a session that weren't given up end the run by itself
+pub session_ended : (result : Result Status Cause) (pieces : List (List ℕ)) (steps : List ScriptStep) (journaling : Journaling) (h : History) (before after : Sunk)
+    → LeavesSession result (run_from pieces steps journaling h) before after → IfOk result (λ status. ends_itself status ≡ true)
+session_ended (Ok status) pieces steps journaling h before after w = elim (cases_Bool (is_nil (errors_of pieces steps h))) [
+  | inl t ↦
+      let well : status ≡ Well = rw t at w.status_is in
+      rw well refl
+  | inr f ↦
+      let refusing : status ≡ Refused = rw f at w.status_is in
+      rw refusing refl
+]
+session_ended (Err cause) pieces steps journaling h before after w = tt
+
+-- steps on a session don't read, so a sink is to blame where a device is
+pub session_blamed : (result : Result Status Cause) (script : ScriptRun) (before after : Sunk) (old new : Counts) (kept left : ℕ)
+    → LeavesSession result script before after
+    → IfErr result (λ cause. cause ≡ Write → Rose old.output new.output ⊎ (Rose old.errors new.errors ⊎ Rose kept left))
+    → IfErr result (λ cause. IsBlamedFor cause old new kept left)
+session_blamed (Ok status) script before after old new kept left w blamed = tt
+session_blamed (Err Read) script before after old new kept left w blamed = absurd (w.unread refl)
+session_blamed (Err Write) script before after old new kept left w blamed = elim (blamed refl) [
+  | inl a ↦ inl (inl a)
+  | inr b ↦ elim b [
+    | inl e ↦ inl (inr e)
+    | inr j ↦ inr j
+  ]
+]
+session_blamed (Err Memory) script before after old new kept left w blamed = tt
+
+-- an error that doesn't speak of memory names a reason
+pub named_reason : (error : LoadError) → says_memory error ≡ false → (reason : JournalRefusal) × (named_by error ≡ Some reason)
+named_reason (SyntaxIn offset) e = (JournalSyntax offset, refl)
+named_reason OtherIn e = (JournalOther, refl)
+named_reason (MismatchIn entry) e = (JournalMismatch entry, refl)
+named_reason MemoryIn e = absurd (cc)
 
 -- what was left before the line that says why a run is given up, and that line
 pub Leaves-given_up : (cause : Cause) (run : Run) (before after : Held) (between : Option (List ℕ))
@@ -60,20 +102,14 @@ Leaves-given_up Write run before after between output errors line silent = recor
 Leaves-given_up Memory run before after between output errors line silent = record { output = output; cause = Memory; status_is = refl; between = between; errors = errors; line = line; silent = silent }
 
 -- no cause of writing is one of reading
-writing-not_read : (stop : Stop) → cause_of_writing stop ≡ Read → ⊥
+pub writing-not_read : (stop : Stop) → cause_of_writing stop ≡ Read → ⊥
 writing-not_read Stopped e = cc
 writing-not_read Wanting e = cc
 
--- the errors went out whole, and of the text a front
-pub WritesFronts-unsent : (pieces : List (List ℕ)) (steps : List ScriptStep) (message text : List ℕ) (first last : History) (stop : Stop) (cause : Cause) (before after : Held)
-    → cause ≡ cause_of_writing stop → first ≡ started message → last ≡ history_after pieces steps first → text ≡ text_now last
-    → AppendsFront before.output after.output text → Appends before.errors after.errors (errors_of pieces steps first)
-    → WritesFronts cause (run_steps pieces message (Ok steps)) before after
-WritesFronts-unsent pieces steps message text first last stop cause before after wrote begun done printed output errors =
-    let text_is : text ≡ text_now (history_after pieces steps (started message)) = printed ∙ ap text_now done ∙ ap (λ h. text_now (history_after pieces steps h)) begun in
-    let all_errors = rw begun at errors in
-    record {
-      output = rw text_is at output;
-      errors = (errors_of pieces steps (started message), [], sym (append-nil (errors_of pieces steps (started message))), all_errors);
-      silent = λ e. absurd (writing-not_read stop (sym wrote ∙ e));
-    }
+-- what was left of the journal where a run is given up
+pub LeavesJournal-given_up : (cause : Cause) (script : ScriptRun) (before after : Held) (kept left : Option (List ℕ))
+    → AppendsFront kept left script.journal → Keeps kept left ⊎ Appends before.output after.output script.run.output
+    → LeavesJournal (status_of cause) script before after kept left
+LeavesJournal-given_up Read script before after kept left front later = record { front = front; later = later }
+LeavesJournal-given_up Write script before after kept left front later = record { front = front; later = later }
+LeavesJournal-given_up Memory script before after kept left front later = record { front = front; later = later }

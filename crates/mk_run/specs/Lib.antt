@@ -1,5 +1,7 @@
 pub mod Reports
 pub mod RunClauses
+pub mod Journaling
+pub mod JournalRuns
 pub mod Runs
 pub mod Statuses
 pub mod Shown
@@ -11,3 +13,4 @@ pub mod Parts
 pub mod Filtering
 pub mod Asked
 pub mod FilterClauses
+pub mod inner

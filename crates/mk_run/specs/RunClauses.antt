@@ -9,8 +9,7 @@ use Rattle.mk_run.specs.declared.status.Cause.{Cause}
 use Rattle.mk_run.specs.declared.status.Cause.TheVariants.{Read, Write, Memory as NoMemory}
 use Rattle.mk_run.specs.declared.transfer.Stop.{Stop}
 use Rattle.mk_run.specs.declared.transfer.Stop.TheVariants.{Fault as Stopped, Memory as Wanting}
-use Rattle.mk_run.specs.Runs.{Run, run_of, run_steps}
-use Rattle.mk_script.specs.ScriptSteps.{ScriptStep}
+use Rattle.mk_run.specs.Runs.{Run}
 
 -- what the devices of a run tell: the bytes that the input has left, and those that the output and the errors hold
 pub record Held : Type 0 where
@@ -131,14 +130,6 @@ Leaves Memory = IsGivenUp Memory
 abbrev pub LeavesSoFar : Result Status Cause → Run → Held → Held → Type 0
 LeavesSoFar (Ok status) = Leaves status
 LeavesSoFar (Err cause) = WritesFronts cause
-
--- what a run of steps leaves is what is defined for the bytes that it read
-abbrev pub LeavesSteps : Result Status Cause → List (List ℕ) → Result (List ScriptStep) ℕ → Held → Held → Type 0
-LeavesSteps result pieces steps before after = (message : List ℕ) × Consumes before.input after.input message × LeavesSoFar result (run_steps pieces message steps) before after
-
--- what a run of a script leaves is what is defined for the bytes that it read
-abbrev pub LeavesRun : Status → List (List ℕ) → List ℕ → Held → Held → Type 0
-LeavesRun status pieces script before after = (message : List ℕ) × Consumes before.input after.input message × Leaves status (run_of pieces message script) before after
 
 -- the device failed that a cause speaks of
 abbrev pub IsBlamed : Cause → Counts → Counts → Type 0

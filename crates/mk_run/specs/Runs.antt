@@ -4,10 +4,12 @@ use Rattle.mk_line.specs.Lines.{cut, eol_of, ending_bytes, is_nil}
 use Rattle.mk_decide.specs.declared.errors.EditError.{EditError}
 use Rattle.mk_decide.specs.Answers.{refusal_of}
 use Rattle.mk_edit.specs.History.{History}
-use Rattle.mk_edit.specs.Histories.{text_now, started, step, left_by}
+use Rattle.mk_edit.specs.Histories.{text_now, step, left_by}
+use Rattle.mk_edit.specs.Saving.{JournalRefusal}
 use Rattle.mk_decide.specs.Edits.{Order, Do, Group, Undo, Redo, PlainEdit, AddField, RemoveField, RenameField, SetField, SetBody, SetSection, InsertPart, RemovePart, Wrap, path_of, Refusal, Member}
 use Rattle.mk_run.specs.declared.status.Status.{Status}
 use Rattle.mk_run.specs.declared.status.Status.TheVariants.{Well, Refused, Usage}
+use Rattle.mk_run.specs.Journaling.{Journaling, begun, journal_line, left_journal}
 use Rattle.mk_run.specs.Reports.{error_line, syntax_line}
 use Rattle.mk_script.specs.Script.{ScriptWord, Adds, Deletes, Renames, Sets, Bodies, Replaces, Inserts, Removes, Wraps}
 use Rattle.mk_script.specs.ScriptSteps.{ScriptStep, Makes, Groups, TakesBack, MakesAgain, script_of}
@@ -98,16 +100,36 @@ pub record Run : Type 0 where
   pub errors : List ℕ
   pub status : Status
 
--- the steps are done in turn, and the text that is left is the output; a script with a fault does nothing
-abbrev pub run_steps : List (List ℕ) → List ℕ → Result (List ScriptStep) ℕ → Run
-run_steps pieces message (Err number) = record { output = []; errors = syntax_line number; status = Usage }
-run_steps pieces message (Ok steps) =
-    let errors = errors_of pieces steps (started message) in
-    record { output = text_now (history_after pieces steps (started message)); errors = errors; status = if is_nil errors then Well else Refused }
+-- a run of a script, and the journal that it leaves
+pub record ScriptRun : Type 0 where
+  pub run : Run
+  pub journal : List ℕ
 
--- the run of a script, with its pieces, on a message
-abbrev pub run_of : List (List ℕ) → List ℕ → List ℕ → Run
-run_of pieces message script = run_steps pieces message (script_of (length pieces) script)
+-- the steps are done in turn on a history, and the text that is left is the output
+abbrev pub run_from : List (List ℕ) → List ScriptStep → Journaling → History → ScriptRun
+run_from pieces steps journaling h =
+    let errors = errors_of pieces steps h in
+    let last = history_after pieces steps h in
+    let run : Run = record { output = text_now last; errors = errors; status = if is_nil errors then Well else Refused } in
+    record { run = run; journal = left_journal journaling last }
+
+-- a run that does nothing but report one line
+abbrev pub run_none : List ℕ → Status → ScriptRun
+run_none line status = record { run = record { output = []; errors = line; status = status }; journal = [] }
+
+-- the steps are done on the history that the run begins with; a refused journal is reported
+abbrev pub run_begun : List (List ℕ) → List ScriptStep → Journaling → Result History JournalRefusal → ScriptRun
+run_begun pieces steps journaling (Ok h) = run_from pieces steps journaling h
+run_begun pieces steps journaling (Err reason) = run_none (journal_line reason) Refused
+
+-- a script with a fault does nothing
+abbrev pub run_steps : List (List ℕ) → Journaling → List ℕ → Result (List ScriptStep) ℕ → ScriptRun
+run_steps pieces journaling message (Err number) = run_none (syntax_line number) Usage
+run_steps pieces journaling message (Ok steps) = run_begun pieces steps journaling (begun journaling message)
+
+-- the run of a script, with its pieces and its journal, on a message
+abbrev pub run_of : List (List ℕ) → Journaling → List ℕ → List ℕ → ScriptRun
+run_of pieces journaling message script = run_steps pieces journaling message (script_of (length pieces) script)
 
 -- an order is refused for this reason, which is reported as one of the edit of a number
 pub record IsReportedAt (order : Order) (index : ℕ) (reason : Refusal) (defined : Result History Refusal) : Type 0 where

@@ -1,46 +1,58 @@
 //! The run of a script on a message, over any devices.
 
-ghost use Rattle.std.specs.Prelude.{◌≡◌, ◌≤◌, ◌⊎◌, true, length, map, Ok, IfOk, IfErr, OnOk};
-ghost use Rattle.mk_mailbox.specs.Devices.{AppendsFront};
+ghost use Rattle.std.specs.Prelude.{◌≡◌, ◌≤◌, ◌⊎◌, true, length, map, Ok, IfOk, IfErr, OnOk, OnErr};
+ghost use Rattle.std.specs.Io.KnownBytes.{Appends, Keeps};
+ghost use Rattle.mk_mailbox.specs.Devices.{AppendsFront, Rose};
 ghost use Rattle.mk_script.specs.ScriptSteps.{script_of};
 ghost use Rattle.mk_script.specs.ScriptViews.{step_by, texts_of};
-ghost use Rattle.mk_run.specs.RunClauses.{held, counts, SameFailures, ReadFailed, WriteFailed, IsBlamed, LeavesRun, LeavesSteps, cause_line as line_of, cause_of_reading, cause_of_writing, status_of as status_for, ends_itself};
+ghost use Rattle.mk_run.specs.Journaling.{journaling_of};
+ghost use Rattle.mk_run.specs.JournalRuns.{IsBlamedFor, LeavesRun, LeavesSteps, SinkFailed};
+ghost use Rattle.mk_run.specs.Runs.{run_from};
+ghost use Rattle.mk_run.specs.RunClauses.{held, counts, SameFailures, ReadFailed, cause_line as line_of, cause_of_reading, cause_of_writing, status_of as status_for, ends_itself};
+ghost use Rattle.mk_run.specs.inner.Keeping.{bytes_kept};
+ghost use Rattle.mk_run.specs.inner.Sessions.{LeavesSession, sunk};
 
-use crate::report::{cause_line, report_syntax};
+use crate::journaling::{Journal, begin, is_memory, journal_of, keep};
+use crate::report::{cause_line, report_journal, report_syntax};
 use crate::status::{Cause, Status};
 use crate::steps::do_steps;
 use crate::transfer::{Stop, read_all, send, write_all};
 use mk_edit::Session;
 use mk_mail::{Sink, Source};
 use mk_script::{ScriptError, Step, steps};
-use std::alloc::Global;
+use std::alloc::{AllocError, Global};
 
 /// Edits the message that the input gives by the steps of a script, and prints what becomes of it.
-/// Each refusal is reported as it comes, and doesn't end the run.
-pub fn run_edit<S: Source, O: Sink, E: Sink>(
+/// Each refusal is reported as it comes, and doesn't end the run; a refused journal does.
+/// The journal is written once the whole message has gone out.
+pub fn run_edit<S: Source, O: Sink, E: Sink, J: Sink>(
     alloc: Global,
     input: &mut S,
     out: &mut O,
     err: &mut E,
     script: &[u8],
     pieces: &[Vec<u8>],
+    journal: Journal<'_>,
+    jout: &mut J,
 ) -> Status
-    ensures leaves { LeavesRun result (texts_of pieces.now) script.now
+    ensures leaves { LeavesRun result (texts_of pieces.now) (journaling_of journal.entry) script.now
         (held (S.remaining input.old) (O.contents out.old) (E.contents err.old))
-        (held (S.remaining input.new) (O.contents out.new) (E.contents err.new)) }
+        (held (S.remaining input.new) (O.contents out.new) (E.contents err.new))
+        (J.contents jout.old) (J.contents jout.new) }
 
     // A fault is answered only where a device failed, or where so much was read that reading was given up.
     ensures blamed { result ≡ Status.Fault →
         let before = counts (S.failures input.old) (S.read_count input.old) (O.failures out.old) (E.failures err.old) in
         let after = counts (S.failures input.new) (S.read_count input.new) (O.failures out.new) (E.failures err.new) in
-        ReadFailed before after ⊎ WriteFailed before after }
+        ReadFailed before after ⊎ SinkFailed before after (J.failures jout.old) (J.failures jout.new) }
 
     // A run in which a device failed is given up.
     ensures clean { ends_itself result ≡ true → SameFailures
         (counts (S.failures input.old) (S.read_count input.old) (O.failures out.old) (E.failures err.old))
         (counts (S.failures input.new) (S.read_count input.new) (O.failures out.new) (E.failures err.new)) }
+    ensures kept { ends_itself result ≡ true → J.failures jout.new ≡ J.failures jout.old }
 {
-    match run_script(alloc, input, out, err, script, pieces) {
+    match run_script(alloc, input, out, err, script, pieces, journal, jout) {
         Ok(status) => status,
         Err(cause) => give_up(err, cause),
     }
@@ -60,27 +72,32 @@ pub fn give_up<E: Sink>(err: &mut E, cause: Cause) -> Status
 }
 
 // Runs the script up to a cause to give up. The whole script is read before any of the message.
-fn run_script<S: Source, O: Sink, E: Sink>(
+fn run_script<S: Source, O: Sink, E: Sink, J: Sink>(
     alloc: Global,
     input: &mut S,
     out: &mut O,
     err: &mut E,
     script: &[u8],
     pieces: &[Vec<u8>],
+    journal: Journal<'_>,
+    jout: &mut J,
 ) -> Result<Status, Cause>
-    ensures leaves { LeavesSteps result (texts_of pieces.now) (script_of (length pieces.now) script.now)
+    ensures leaves { LeavesSteps result (texts_of pieces.now) (journaling_of journal.entry) (script_of (length pieces.now) script.now)
         (held (S.remaining input.old) (O.contents out.old) (E.contents err.old))
-        (held (S.remaining input.new) (O.contents out.new) (E.contents err.new)) }
+        (held (S.remaining input.new) (O.contents out.new) (E.contents err.new))
+        (J.contents jout.old) (J.contents jout.new) }
     ensures ended { IfOk result (λ status. ends_itself status ≡ true) }
-    ensures blamed { IfErr result (λ cause. IsBlamed cause
+    ensures blamed { IfErr result (λ cause. IsBlamedFor cause
         (counts (S.failures input.old) (S.read_count input.old) (O.failures out.old) (E.failures err.old))
-        (counts (S.failures input.new) (S.read_count input.new) (O.failures out.new) (E.failures err.new))) }
+        (counts (S.failures input.new) (S.read_count input.new) (O.failures out.new) (E.failures err.new))
+        (J.failures jout.old) (J.failures jout.new)) }
     ensures clean { OnOk result (SameFailures
         (counts (S.failures input.old) (S.read_count input.old) (O.failures out.old) (E.failures err.old))
         (counts (S.failures input.new) (S.read_count input.new) (O.failures out.new) (E.failures err.new))) }
+    ensures kept { OnOk result (J.failures jout.new ≡ J.failures jout.old) }
 {
     match steps(alloc, script, pieces.len()) {
-        Ok(steps) => run_steps(alloc, input, out, err, steps, pieces),
+        Ok(steps) => run_steps(alloc, input, out, err, steps, pieces, journal, jout),
         Err(ScriptError::Syntax(number)) => match report_syntax(alloc, err, number) {
             Ok(()) => Ok(Status::Usage),
             Err(stop) => Err(writing(stop)),
@@ -90,38 +107,77 @@ fn run_script<S: Source, O: Sink, E: Sink>(
 }
 
 // Runs the steps of a script up to a cause to give up.
-fn run_steps<S: Source, O: Sink, E: Sink>(
+fn run_steps<S: Source, O: Sink, E: Sink, J: Sink>(
     alloc: Global,
     input: &mut S,
     out: &mut O,
     err: &mut E,
     steps: Vec<Step>,
     pieces: &[Vec<u8>],
+    journal: Journal<'_>,
+    jout: &mut J,
 ) -> Result<Status, Cause>
-    ensures leaves { LeavesSteps result (texts_of pieces.now) (Ok (map step_by steps.items))
+    ensures leaves { LeavesSteps result (texts_of pieces.now) (journaling_of journal.entry) (Ok (map step_by steps.items))
         (held (S.remaining input.old) (O.contents out.old) (E.contents err.old))
-        (held (S.remaining input.new) (O.contents out.new) (E.contents err.new)) }
+        (held (S.remaining input.new) (O.contents out.new) (E.contents err.new))
+        (J.contents jout.old) (J.contents jout.new) }
     ensures ended { IfOk result (λ status. ends_itself status ≡ true) }
-    ensures blamed { IfErr result (λ cause. IsBlamed cause
+    ensures blamed { IfErr result (λ cause. IsBlamedFor cause
         (counts (S.failures input.old) (S.read_count input.old) (O.failures out.old) (E.failures err.old))
-        (counts (S.failures input.new) (S.read_count input.new) (O.failures out.new) (E.failures err.new))) }
+        (counts (S.failures input.new) (S.read_count input.new) (O.failures out.new) (E.failures err.new))
+        (J.failures jout.old) (J.failures jout.new)) }
     ensures clean { OnOk result (SameFailures
         (counts (S.failures input.old) (S.read_count input.old) (O.failures out.old) (E.failures err.old))
         (counts (S.failures input.new) (S.read_count input.new) (O.failures out.new) (E.failures err.new))) }
+    ensures kept { OnOk result (J.failures jout.new ≡ J.failures jout.old) }
 {
     let message = match read_all(alloc, input) {
         Ok(message) => message,
         Err(stop) => return Err(reading(stop)),
     };
-    let mut session = match Session::start(alloc, message) {
-        Ok(session) => session,
-        Err(_) => return Err(Cause::Memory),
-    };
+    match begin(alloc, message, journal) {
+        Ok(session) => run_session(alloc, session, out, err, steps, pieces, journal, jout),
+        Err(error) => {
+            if is_memory(error) {
+                return Err(Cause::Memory);
+            }
+            match report_journal(alloc, err, error) {
+                Ok(()) => Ok(Status::Refused),
+                Err(stop) => Err(writing(stop)),
+            }
+        }
+    }
+}
+
+// Does the steps on a session, and writes what becomes of it. The journal is made before the first byte goes out.
+fn run_session<O: Sink, E: Sink, J: Sink>(
+    alloc: Global,
+    mut session: Session,
+    out: &mut O,
+    err: &mut E,
+    steps: Vec<Step>,
+    pieces: &[Vec<u8>],
+    journal: Journal<'_>,
+    jout: &mut J,
+) -> Result<Status, Cause>
+    ensures leaves { LeavesSession result (run_from (texts_of pieces.now) (map step_by steps.items) (journaling_of journal.entry) session)
+        (sunk (O.contents out.old) (E.contents err.old) (J.contents jout.old))
+        (sunk (O.contents out.new) (E.contents err.new) (J.contents jout.new)) }
+    ensures blamed { IfErr result (λ cause. cause ≡ Cause.Write →
+        Rose (O.failures out.old) (O.failures out.new) ⊎ Rose (E.failures err.old) (E.failures err.new) ⊎ Rose (J.failures jout.old) (J.failures jout.new)) }
+    ensures printed { OnOk result (O.failures out.new ≡ O.failures out.old) }
+    ensures told { OnOk result (E.failures err.new ≡ E.failures err.old) }
+    ensures kept { OnOk result (J.failures jout.new ≡ J.failures jout.old) }
+{
     let refused = match do_steps(alloc, &mut session, err, steps, pieces) {
         Ok(refused) => refused,
         Err(stop) => return Err(writing(stop)),
     };
-    match send(out, session.text()) {
+    let kept = match journal_of(&session, journal) {
+        Ok(kept) => kept,
+        Err(AllocError) => return Err(Cause::Memory),
+    };
+    match print(out, session.text(), jout, kept) {
         Ok(()) => Ok(if refused {
             Status::Refused
         } else {
@@ -129,6 +185,27 @@ fn run_steps<S: Source, O: Sink, E: Sink>(
         }),
         Err(stop) => Err(writing(stop)),
     }
+}
+
+// Writes the message, and after it the journal.
+fn print<O: Sink, J: Sink>(
+    out: &mut O,
+    text: &[u8],
+    jout: &mut J,
+    kept: Option<Vec<u8>>,
+) -> Result<(), Stop>
+    ensures output { OnOk result (Appends (O.contents out.old) (O.contents out.new) text.now) }
+    ensures journal { OnOk result (Appends (J.contents jout.old) (J.contents jout.new) (bytes_kept kept)) }
+    ensures output_front { OnErr result (AppendsFront (O.contents out.old) (O.contents out.new) text.now) }
+    ensures journal_front { OnErr result (AppendsFront (J.contents jout.old) (J.contents jout.new) (bytes_kept kept)) }
+    ensures later { OnErr result (Keeps (J.contents jout.old) (J.contents jout.new) ⊎ Appends (O.contents out.old) (O.contents out.new) text.now) }
+    ensures blamed { IfErr result (λ stop. stop ≡ Stop.Fault → Rose (O.failures out.old) (O.failures out.new) ⊎ Rose (J.failures jout.old) (J.failures jout.new)) }
+    ensures printed { OnOk result (O.failures out.new ≡ O.failures out.old) }
+    ensures saved { OnOk result (J.failures jout.new ≡ J.failures jout.old) }
+{
+    send(out, text)?;
+    keep(jout, kept)?;
+    Ok(())
 }
 
 /// The cause where reading stopped.

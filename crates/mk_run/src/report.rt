@@ -4,12 +4,13 @@ ghost use Rattle.std.specs.Prelude.{◌≡◌, ◌++◌, codes, IfOk, OnOk, IfSo
 ghost use Rattle.mk_decide.specs.Answers.{refusal_of};
 ghost use Rattle.mk_mail.specs.Letters.{root_path};
 ghost use Rattle.mk_run.specs.Filtering.{message_line as line_of_message};
+ghost use Rattle.mk_run.specs.Journaling.{journal_line, named_by};
 ghost use Rattle.mk_run.specs.Reports.{reason_name as name_of, behind_name, error_line, syntax_line};
 ghost use Rattle.mk_run.specs.RunClauses.{Sends, cause_line as line_of};
 
 use crate::status::Cause;
 use crate::transfer::{Stop, send};
-use mk_edit::EditError;
+use mk_edit::{EditError, LoadError};
 use mk_mail::{Sink, push_path};
 use mk_script::SPACE;
 use std::alloc::{AllocError, Global};
@@ -98,6 +99,33 @@ pub fn report_syntax<E: Sink>(alloc: Global, err: &mut E, number: usize) -> Resu
     match format!(in alloc; "script: line {number}: syntax\n") {
         Ok(line) => send(err, line.as_bytes()),
         Err(_) => Err(Stop::Memory),
+    }
+}
+
+/// Reports why a journal is refused.
+pub fn report_journal<E: Sink>(alloc: Global, err: &mut E, error: LoadError) -> Result<(), Stop>
+    ensures { IfSome (named_by error) (λ reason. Sends result (journal_line reason)
+        (E.contents err.old) (E.contents err.new) (E.failures err.old) (E.failures err.new)) }
+{
+    match line_of_journal(alloc, error) {
+        Ok(line) => send(err, &line),
+        Err(_) => Err(Stop::Memory),
+    }
+}
+
+// The line that reports a refused journal.
+fn line_of_journal(alloc: Global, error: LoadError) -> Result<Vec<u8>, AllocError>
+    ensures { IfOk result (λ line. IfSome (named_by error) (λ reason. line.items ≡ journal_line reason)) }
+{
+    match error {
+        LoadError::JournalSyntax { offset } => {
+            Ok(format!(in alloc; "journal: JournalSyntax {offset}\n")?.into_bytes())
+        }
+        LoadError::JournalOther => Vec::from_slice(alloc, b"journal: JournalOther\n"),
+        LoadError::JournalMismatch { entry } => {
+            Ok(format!(in alloc; "journal: JournalMismatch {entry}\n")?.into_bytes())
+        }
+        LoadError::Memory => Err(AllocError),
     }
 }
 

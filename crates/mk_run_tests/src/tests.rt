@@ -5,6 +5,7 @@ mod faults;
 mod fields;
 mod filtered;
 mod groups;
+mod journals;
 mod letters;
 mod memory;
 mod not_packed;
@@ -16,7 +17,7 @@ mod unpacked;
 
 use devices::{Page, Text};
 use mk_rows::{Cell, Row, rows};
-use mk_run::{Status, run_edit};
+use mk_run::{Journal, Status, run_edit};
 use mk_script::{ScriptError, steps};
 use std::alloc::{AllocError, Global};
 use std::process::Abort;
@@ -129,8 +130,8 @@ status: Refused
 /// How many bytes the devices of a test take or give at once.
 const SIZES: [usize; 3] = [1, 7, 1_000];
 
-/// Runs the scripts of a table, over devices of each size. A row has a message, a script, its pieces, and what must
-/// come out.
+/// Runs the scripts of a table, over devices of each size. A row has a message, a script, its pieces, its journal, and
+/// what must come out.
 fn check_rows(rt: &impl Abort, alloc: Global, table: &'static str) -> Result<(), Fail> {
     for row in &rows(alloc, table)? {
         check_row(rt, alloc, row)?;
@@ -145,10 +146,37 @@ fn check_row(rt: &impl Abort, alloc: Global, row: &Row) -> Result<(), Fail> {
         let mut input = Text::new(row.bytes("message"), size);
         let mut out = Page::new(alloc, size)?;
         let mut err = Page::new(alloc, size)?;
-        let status = run_edit(alloc, &mut input, &mut out, &mut err, script, &pieces);
+        let mut jout = Page::new(alloc, size)?;
+        let status = run_edit(
+            alloc,
+            &mut input,
+            &mut out,
+            &mut err,
+            script,
+            &pieces,
+            journal_of(row),
+            &mut jout,
+        );
         check_left(rt, alloc, row, status, &out, &err)?;
+        check_journal(rt, row, &jout);
     }
     Ok(())
+}
+
+// The journal that a row begins with: the one in its cell `old`, or a new one where it has a cell `new`.
+fn journal_of(row: &Row) -> Journal<'_> {
+    match row.get("old") {
+        Some(cell) => Journal::Old(&cell.bytes),
+        None if row.get("new").is_some() => Journal::New,
+        None => Journal::Off,
+    }
+}
+
+// The journal went out whole, and nothing where the row has none.
+fn check_journal(rt: &impl Abort, row: &Row, jout: &Page) {
+    let left = row.bytes("left");
+    assert_eq!(rt; jout.bytes(), left, "{}", row.shows);
+    assert_eq!(rt; jout.is_finished(), !left.is_empty(), "{}", row.shows);
 }
 
 // The cells `piece` of a row.

@@ -92,6 +92,16 @@ impl<W: Write + Drop> Sink for Output<W> {
         }
     }
 
+    fn finish(&mut self) -> Result<(), Fault> {
+        match self.writer.flush() {
+            Ok(()) => Ok(()),
+            Err(_) => {
+                self.faults = self.faults.saturating_add(1);
+                Err(Fault)
+            }
+        }
+    }
+
     fn faults(&self) -> u64 {
         self.faults
     }

@@ -3,6 +3,9 @@
 
 mod device;
 mod folder;
+mod journal;
+mod replacing;
 
 pub use device::{Input, Output};
 pub use folder::Directory;
+pub use journal::JournalFile;

@@ -6,7 +6,7 @@ mod options;
 mod program;
 
 pub use mk_run::{
-    Folder, Status, laws, run_edit, run_extract, run_field, run_pack, run_sections, unpack,
+    Folder, Journal, Status, laws, run_edit, run_extract, run_field, run_pack, run_sections, unpack,
 };
 use mk_system::{Input, Output};
 use std::process::ExitCode;

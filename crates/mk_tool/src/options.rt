@@ -13,6 +13,14 @@ pub const SCRIPT: &str = "SCRIPT";
 
 pub const PIECE: &str = "PIECE";
 
+pub const JOURNAL: &str = "JOURNAL";
+
+/// The subcommand that takes back the last step of an earlier run.
+pub const UNDO: &str = "undo";
+
+/// The subcommand that makes again the last step that was taken back.
+pub const REDO: &str = "redo";
+
 /// The subcommand that lists the sections of a message.
 pub const SECTIONS: &str = "sections";
 
@@ -76,6 +84,8 @@ pub fn command<'a>(alloc: Global) -> Result<Command<'a>, AllocError> {
         )
         .subcommand_required(true)
         .subcommand(edit_command(alloc)?)?
+        .subcommand(undo_command(alloc)?)?
+        .subcommand(redo_command(alloc)?)?
         .subcommand(sections_command(alloc)?)?
         .subcommand(extract_command(alloc)?)?
         .subcommand(unpack_command(alloc)?)?
@@ -191,7 +201,29 @@ fn flag<'a>(alloc: Global, name: &'a str, help: &'a str) -> Arg<'a> {
     Arg::new(alloc, name).help(help).action(ArgAction::SetTrue)
 }
 
-// mimetool edit SCRIPT [PIECE..]
+// mimetool undo -j JOURNAL
+fn undo_command<'a>(alloc: Global) -> Result<Command<'a>, AllocError> {
+    Command::new(alloc, UNDO)
+        .about("Takes back the last step of an earlier edit, and prints the message")
+        .arg(journal(alloc).required(true))
+}
+
+// mimetool redo -j JOURNAL
+fn redo_command<'a>(alloc: Global) -> Result<Command<'a>, AllocError> {
+    Command::new(alloc, REDO)
+        .about("Makes again the last step that was taken back, and prints the message")
+        .arg(journal(alloc).required(true))
+}
+
+fn journal<'a>(alloc: Global) -> Arg<'a> {
+    Arg::new(alloc, JOURNAL)
+        .short('j')
+        .help("The file that keeps the steps for later runs; it is made where it isn't there")
+        .allow_hyphen_values(true)
+        .action(ArgAction::Set)
+}
+
+// mimetool edit [-j JOURNAL] SCRIPT [PIECE..]
 fn edit_command<'a>(alloc: Global) -> Result<Command<'a>, AllocError> {
     let script = Arg::new(alloc, SCRIPT)
         .help(
@@ -204,6 +236,7 @@ fn edit_command<'a>(alloc: Global) -> Result<Command<'a>, AllocError> {
         .action(ArgAction::Append);
     Command::new(alloc, EDIT)
         .about("Edits the message by the words of a script, and prints it")
+        .arg(journal(alloc))?
         .arg(script)?
         .arg(pieces)
 }

@@ -2,29 +2,35 @@
 
 use crate::letters::letter_words;
 use crate::options::{
-    BOUNDARY, DIR, EACH, EDIT, EXTRACT, FIELD, OVER, PACK, PATH, PIECE, SCRIPT, SECTIONS, SILENT,
-    SPEC, TEXTS, UNPACK, command,
+    BOUNDARY, DIR, EACH, EDIT, EXTRACT, FIELD, JOURNAL, OVER, PACK, PATH, PIECE, REDO, SCRIPT,
+    SECTIONS, SILENT, SPEC, TEXTS, UNDO, UNPACK, command,
 };
 use clap::ArgMatches;
 use clap::error::ErrorKind;
 use mk_mail::{Attach, Sink, Source};
 use mk_run::{
-    Cause, Spec, Status, Stop, give_up, read_all, run_edit, run_extract, run_field, run_pack,
-    run_sections, unpack, write_all,
+    Cause, Journal, Spec, Status, Stop, give_up, read_all, run_edit, run_extract, run_field,
+    run_pack, run_sections, unpack, write_all,
 };
 use mk_script::numbers;
-use mk_system::{Directory, Input};
+use mk_system::{Directory, Input, JournalFile, Output};
 use std::alloc::Global;
+use std::fs::File;
 use std::rt::{Env, Files};
 use std::{env, fs, io};
 
 const USAGE: &[u8] = b"mimetool: usage\n";
 
+/// The scripts of two subcommands.
+const UNDO_SCRIPT: &[u8] = b"undo\n";
+
+const REDO_SCRIPT: &[u8] = b"redo\n";
+
 /// The folder that files are written to where none is named.
 const WORKING_FOLDER: &str = ".";
 
 /// Does what the command line says and answers the exit status. A command line that isn't text as a whole is a usage fault.
-pub fn run<R: Env + Files + AllocGlobal, S: Source, O: Sink, E: Sink>(
+pub fn run<R: Env + Files<File = File> + AllocGlobal, S: Source, O: Sink, E: Sink>(
     rt: &R,
     input: &mut S,
     out: &mut O,
@@ -47,7 +53,7 @@ fn words<R: Env + AllocGlobal>(rt: &R) -> io::Result<Vec<String>> {
 
 /// Does what these words say, the program's name first, and answers the exit status. What clap says goes to the errors;
 /// help and the version go to the output.
-pub fn obey<R: Files + AllocGlobal, S: Source, O: Sink, E: Sink>(
+pub fn obey<R: Files<File = File> + AllocGlobal, S: Source, O: Sink, E: Sink>(
     rt: &R,
     words: &[String],
     input: &mut S,
@@ -88,7 +94,7 @@ fn usage<E: Sink>(err: &mut E) -> Status {
 }
 
 // Runs the subcommand that was given.
-fn run_matches<R: Files + AllocGlobal, S: Source, O: Sink, E: Sink>(
+fn run_matches<R: Files<File = File> + AllocGlobal, S: Source, O: Sink, E: Sink>(
     rt: &R,
     matches: &ArgMatches<'_>,
     input: &mut S,
@@ -97,6 +103,10 @@ fn run_matches<R: Files + AllocGlobal, S: Source, O: Sink, E: Sink>(
 ) -> Status {
     if let Some(matches) = matches.subcommand_matches(EDIT) {
         edit(rt, matches, input, out, err)
+    } else if let Some(matches) = matches.subcommand_matches(UNDO) {
+        edit_by(rt, matches, input, out, err, UNDO_SCRIPT, &[])
+    } else if let Some(matches) = matches.subcommand_matches(REDO) {
+        edit_by(rt, matches, input, out, err, REDO_SCRIPT, &[])
     } else if let Some(matches) = matches.subcommand_matches(EXTRACT) {
         extract(rt, matches, input, out, err)
     } else if let Some(matches) = matches.subcommand_matches(UNPACK) {
@@ -113,7 +123,7 @@ fn run_matches<R: Files + AllocGlobal, S: Source, O: Sink, E: Sink>(
 }
 
 // mimetool edit
-fn edit<R: Files + AllocGlobal, S: Source, O: Sink, E: Sink>(
+fn edit<R: Files<File = File> + AllocGlobal, S: Source, O: Sink, E: Sink>(
     rt: &R,
     matches: &ArgMatches<'_>,
     input: &mut S,
@@ -125,18 +135,62 @@ fn edit<R: Files + AllocGlobal, S: Source, O: Sink, E: Sink>(
     };
     let pieces = matches.get_strs(PIECE).unwrap_or(&[]);
     match files(rt, script, pieces) {
-        Ok((script, pieces)) => {
-            run_edit(
-                rt.alloc(),
-                input,
-                out,
-                err,
-                script.as_slice(),
-                pieces.as_slice(),
-            )
-        }
+        Ok((script, pieces)) => edit_by(rt, matches, input, out, err, &script, &pieces),
         Err(Stop::Fault) => give_up(err, Cause::Read),
         Err(Stop::Memory) => give_up(err, Cause::Memory),
+    }
+}
+
+// Edits by a script, with the journal that the command line names, if it names one. The journal is read last.
+fn edit_by<R: Files<File = File> + AllocGlobal, S: Source, O: Sink, E: Sink>(
+    rt: &R,
+    matches: &ArgMatches<'_>,
+    input: &mut S,
+    out: &mut O,
+    err: &mut E,
+    script: &[u8],
+    pieces: &[Vec<u8>],
+) -> Status {
+    let alloc = rt.alloc();
+    let Some(path) = matches.get_str(JOURNAL) else {
+        let mut none = Output::new(io::sink());
+        return run_edit(
+            alloc,
+            input,
+            out,
+            err,
+            script,
+            pieces,
+            Journal::Off,
+            &mut none,
+        );
+    };
+    let (mut jout, old) = match JournalFile::open(rt, path) {
+        Ok(opened) => opened,
+        Err(error) => return refuse_journal(alloc, path, &error, err),
+    };
+    let journal = match &old {
+        Some(text) => Journal::Old(text),
+        None => Journal::New,
+    };
+    run_edit(alloc, input, out, err, script, pieces, journal, &mut jout)
+}
+
+// Says why the file of a journal can't be read.
+fn refuse_journal<E: Sink>(alloc: Global, path: &str, error: &io::Error, err: &mut E) -> Status {
+    let line = match error.kind() {
+        io::ErrorKind::OutOfMemory => return give_up(err, Cause::Memory),
+        io::ErrorKind::WouldBlock => {
+            format!(in alloc; "mimetool: {path}: another run is using it\n")
+        }
+        _ => format!(in alloc; "mimetool: {path}: {error}\n"),
+    };
+    match line {
+        Ok(line) => {
+            let _ = write_all(err, line.as_bytes());
+            give_up(err, Cause::Read)
+        }
+        Err(_) => give_up(err, Cause::Memory),
     }
 }
 

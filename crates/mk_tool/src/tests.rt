@@ -5,12 +5,14 @@ mod devices;
 mod directory;
 mod faults;
 mod files;
+mod journals;
 mod letters;
 
 use crate::program::obey;
 use devices::Page;
 use mk_run::Status;
 use mk_system::Input;
+use std::fs::File;
 use std::process::Abort;
 use std::rt::Files;
 use std::test::Fail;
@@ -35,7 +37,7 @@ pub struct Outcome {
 }
 
 /// Runs the program on these words and this message.
-pub fn obeyed<R: Files + AllocGlobal>(
+pub fn obeyed<R: Files<File = File> + AllocGlobal>(
     rt: &R,
     words: &[&str],
     message: &[u8],
@@ -58,7 +60,7 @@ pub fn obeyed<R: Files + AllocGlobal>(
 }
 
 /// Runs the program as the row says, and compares what it leaves.
-pub fn check<R: Files + AllocGlobal + Abort>(rt: &R, row: &Row) -> Result<(), Fail> {
+pub fn check<R: Files<File = File> + AllocGlobal + Abort>(rt: &R, row: &Row) -> Result<(), Fail> {
     let shows = row.shows;
     let found = obeyed(rt, row.words, row.message)?;
     assert_eq!(rt; found.status, row.status, "{shows}");
@@ -68,7 +70,10 @@ pub fn check<R: Files + AllocGlobal + Abort>(rt: &R, row: &Row) -> Result<(), Fa
 }
 
 /// Runs the program on words that clap refuses: it says why, prints nothing else, and ends as a usage fault.
-pub fn check_refused<R: Files + AllocGlobal + Abort>(rt: &R, words: &[&str]) -> Result<(), Fail> {
+pub fn check_refused<R: Files<File = File> + AllocGlobal + Abort>(
+    rt: &R,
+    words: &[&str],
+) -> Result<(), Fail> {
     let found = obeyed(rt, words, b"")?;
     assert_eq!(rt; found.status, Status::Usage, "{words:?}");
     assert!(rt; found.output.bytes().is_empty(), "{words:?}");

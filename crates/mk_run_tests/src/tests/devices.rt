@@ -74,6 +74,7 @@ pub struct Page {
     good: u64,
     writes: u64,
     faults: u64,
+    is_finished: bool,
 }
 
 impl Page {
@@ -82,7 +83,7 @@ impl Page {
         Page::failing(alloc, size, u64::MAX)
     }
 
-    /// The same, which fails after so many good writes.
+    /// The same, which fails after so many good calls.
     pub fn failing(alloc: Global, size: usize, good: u64) -> Result<Page, AllocError> {
         let held = Vec::with_capacity(alloc, ROOM)?;
         Ok(Page {
@@ -91,12 +92,18 @@ impl Page {
             good,
             writes: 0,
             faults: 0,
+            is_finished: false,
         })
     }
 
     /// What it took.
     pub fn bytes(&self) -> &[u8] {
         &self.held
+    }
+
+    /// Whether it was told that all was written.
+    pub fn is_finished(&self) -> bool {
+        self.is_finished
     }
 }
 
@@ -118,6 +125,16 @@ impl Sink for Page {
         }
         self.writes = self.writes.saturating_add(1);
         Ok(count)
+    }
+
+    fn finish(&mut self) -> Result<(), Fault> {
+        if self.writes >= self.good {
+            self.faults = self.faults.saturating_add(1);
+            return Err(Fault);
+        }
+        self.writes = self.writes.saturating_add(1);
+        self.is_finished = true;
+        Ok(())
     }
 
     fn faults(&self) -> u64 {

@@ -6,7 +6,7 @@ use super::filtered::{FILTERED, MAILBOX};
 use super::letters::only;
 use super::shelf::Slot;
 use mk_mail::Attach;
-use mk_run::{Spec, Status, Stop, read_all, run_edit, run_field, run_pack, unpack};
+use mk_run::{Journal, Spec, Status, Stop, read_all, run_edit, run_field, run_pack, unpack};
 use mk_script::{ScriptError, path, steps};
 use std::alloc::Global;
 use std::process::Abort;
@@ -65,21 +65,29 @@ fn memory_for_a_run(rt: HostRuntime) {
     let (Ok(out), Ok(err)) = (Page::new(alloc, SIZE), Page::new(alloc, SIZE)) else {
         return;
     };
-    check_run(&rt, alloc, out, err);
+    let Ok(jout) = Page::new(alloc, SIZE) else {
+        return;
+    };
+    check_run(&rt, alloc, out, err, jout);
 }
 
 // The run is the defined one, or it is given up when memory runs out.
-fn check_run(rt: &impl Abort, alloc: Global, mut out: Page, mut err: Page) {
+fn check_run(rt: &impl Abort, alloc: Global, mut out: Page, mut err: Page, mut jout: Page) {
     let pieces = Vec::new(alloc);
     let mut input = Text::new(MESSAGE, SIZE);
-    let status = run_edit(alloc, &mut input, &mut out, &mut err, SCRIPT, &pieces);
+    let journal = Journal::New;
+    let status = run_edit(
+        alloc, &mut input, &mut out, &mut err, SCRIPT, &pieces, journal, &mut jout,
+    );
     if status == Status::Memory {
         assert_eq!(rt; out.bytes(), b"".as_slice());
+        assert_eq!(rt; jout.bytes(), b"".as_slice());
         assert!(rt; err.bytes().ends_with(b"mimetool: memory\n"));
     } else {
         assert_eq!(rt; status, Status::Refused);
         assert_eq!(rt; out.bytes(), OUTPUT);
         assert_eq!(rt; err.bytes(), ERRORS);
+        assert!(rt; jout.is_finished());
     }
 }
 

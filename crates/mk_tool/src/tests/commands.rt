@@ -110,7 +110,7 @@ fn commands_print_what_they_should(rt: HostRuntime) -> Result<(), Fail> {
 }
 
 /// Words that the command line doesn't have, and words that are missing.
-const REFUSED: [&[&str]; 14] = [
+const REFUSED: [&[&str]; 20] = [
     &[],
     &["list"],
     &["-x"],
@@ -121,6 +121,12 @@ const REFUSED: [&[&str]; 14] = [
     &["extract", "-s"],
     &["extract", "-s", "1", "-s", "1"],
     &["edit"],
+    &["edit", "-j"],
+    &["edit", "-j", "journal"],
+    &["undo"],
+    &["undo", "-j"],
+    &["redo"],
+    &["redo", "-j", "journal", "script"],
     &["unpack", "n"],
     &["unpack", "-C"],
     &["pack", "-b", "b"],
@@ -136,10 +142,12 @@ fn other_words_are_refused(rt: HostRuntime) -> Result<(), Fail> {
 }
 
 /// Where help is asked for.
-const HELPS: [&[&str]; 8] = [
+const HELPS: [&[&str]; 10] = [
     &["--help"],
     &["-h"],
     &["edit", "--help"],
+    &["undo", "--help"],
+    &["redo", "--help"],
     &["sections", "--help"],
     &["extract", "--help"],
     &["unpack", "--help"],

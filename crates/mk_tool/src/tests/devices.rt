@@ -40,6 +40,10 @@ impl Sink for Page {
         Ok(piece.len())
     }
 
+    fn finish(&mut self) -> Result<(), Fault> {
+        Ok(())
+    }
+
     fn faults(&self) -> u64 {
         self.faults
     }
@@ -85,6 +89,11 @@ impl Sink for Broken {
     ghost failures = { λ s. s.faults };
 
     fn write(&mut self, _piece: &[u8]) -> Result<usize, Fault> {
+        self.faults = self.faults.saturating_add(1);
+        Err(Fault)
+    }
+
+    fn finish(&mut self) -> Result<(), Fault> {
         self.faults = self.faults.saturating_add(1);
         Err(Fault)
     }

@@ -1,4 +1,4 @@
-use Rattle.std.proofs.Common.{[], refl}
+use Rattle.std.proofs.Common.{[], refl, inl}
 use Rattle.std.proofs.KnownBytes.{Appends-nil, Consumes-nil, Keeps-refl}
 use Rattle.mk_run.proofs.RunLemmas.{AppendsFront-none}
 use Rattle.mk_run.proofs.engine.run_script.Goals as goal
@@ -13,12 +13,22 @@ returns-in-Ok-report_syntax-clause-leaves g c =
         written = record { output = Appends-nil _; errors = c.in-Ok-report_syntax.ensures.whole };
         read = Keeps-refl _;
       }),
+      rw bad (Appends-nil _),
     )
 
 pub returns-in-Err-clause-leaves : goal.returns-in-Err-clause-leaves
 returns-in-Err-clause-leaves g c =
-    let bad = rw c.in-Err-Syntax.field-0-is at c.in-Err-Syntax.ensures.refused in
-    ([], Consumes-nil _, rw bad (record { output = AppendsFront-none _ _; errors = c.in-Err.ensures.front; silent = λ _. Keeps-refl _ }))
+    let bad = rw c.in-Err-Syntax.field-0-is at c.in-Err-Syntax.ensures.refused in (
+      [],
+      Consumes-nil _,
+      rw bad (record { output = AppendsFront-none _ _; errors = c.in-Err.ensures.front; silent = λ _. Keeps-refl _ }),
+      rw bad (record { front = AppendsFront-none _ _; later = inl (Keeps-refl _) }),
+    )
 
 pub returns-in-Err-Memory-clause-leaves : goal.returns-in-Err-Memory-clause-leaves
-returns-in-Err-Memory-clause-leaves g c = ([], Consumes-nil _, record { output = AppendsFront-none _ _; errors = AppendsFront-none _ _; silent = λ _. Keeps-refl _ })
+returns-in-Err-Memory-clause-leaves g c = (
+  [],
+  Consumes-nil _,
+  record { output = AppendsFront-none _ _; errors = AppendsFront-none _ _; silent = λ _. Keeps-refl _ },
+  record { front = AppendsFront-none _ _; later = inl (Keeps-refl _) },
+)

@@ -1,42 +1,62 @@
-use Rattle.std.proofs.Common.{◌≡◌, if◌then◌else◌, map}
-use Rattle.std.proofs.KnownBytes.{Keeps-refl}
-use Rattle.mk_run.specs.declared.status.Status.TheVariants.{Well, Refused}
-use Rattle.mk_run.specs.RunClauses.{held}
+use Rattle.std.proofs.Common.{◌≡◌, ◌∙◌, Err, sym, refl, map, inl}
+use Rattle.std.proofs.KnownBytes.{Appends-nil, Keeps-refl}
+use Rattle.mk_run.specs.Journaling.{begun, journaling_of}
+use Rattle.mk_run.specs.RunClauses.{held, counts}
+use Rattle.mk_run.specs.Runs.{run_from}
+use Rattle.mk_run.specs.inner.Sessions.{sunk}
 use Rattle.mk_script.specs.ScriptViews.{step_by, texts_of}
-use Rattle.mk_run.proofs.RunLemmas.{AppendsFront-none, Leaves-done, WritesFronts-unsent}
+use Rattle.mk_run.proofs.RunLemmas.{AppendsFront-none, Leaves-session, named_reason, session_blamed, session_ended}
 use Rattle.mk_run.proofs.engine.run_steps.Goals as goal
-use Rattle.mk_run.proofs.engine.run_steps.Goals.{then-refused, else-refused}
 
-pub returns-in-Ok-send-clause-leaves : goal.returns-in-Ok-send-clause-leaves
-returns-in-Ok-send-clause-leaves g c =
-    let status_is : c.if-refused.result ≡ (if c.in-Ok-do_steps.refused then Refused else Well) = elim c.if-refused.branch [
-      | then-refused w ↦ rw w.if-refused.true w.result-is
-      | else-refused w ↦ rw w.if-refused.false w.result-is
-    ] in
-    let done = c.in-Ok-do_steps.ensures in
-    let steps = map step_by c.args.steps.items in
+pub returns-in-Err-clause-leaves : goal.returns-in-Err-clause-leaves
+returns-in-Err-clause-leaves g c = (
+  c.in-Err.ensures.front.0,
+  c.in-Err.ensures.front.1,
+  record { output = AppendsFront-none _ _; errors = AppendsFront-none _ _; silent = λ _. Keeps-refl _ },
+  record { front = AppendsFront-none _ _; later = inl (Keeps-refl _) },
+)
+
+pub returns-in-Ok-begin-clause-leaves : goal.returns-in-Ok-begin-clause-leaves
+returns-in-Ok-begin-clause-leaves g c =
     let before = held (g.S.Source.remaining c.args.input.now) (g.O.Sink.contents c.args.out.now) (g.E.Sink.contents c.args.err.now) in
-    let after = held (g.S.Source.remaining c.read_all.new.input) (g.O.Sink.contents c.send.new.out) (g.E.Sink.contents c.do_steps.new.err) in (
+    let after = held (g.S.Source.remaining c.read_all.new.input) (g.O.Sink.contents c.run_session.new.out) (g.E.Sink.contents c.run_session.new.err) in
+    let left = Leaves-session c.run_session.result (texts_of c.args.pieces.now) (map step_by c.args.steps.items) (journaling_of c.args.journal) c.in-Ok-begin.session before after
+    (g.J.Sink.contents c.args.jout.now) (g.J.Sink.contents c.run_session.new.jout) c.in-Ok.ensures.ended c.run_session.ensures.leaves in (
       c.in-Ok.message.items,
       c.in-Ok.ensures.all,
-      Leaves-done (texts_of c.args.pieces.now) steps c.in-Ok.message.items c.text.result.now c.in-Ok-start.session c.do_steps.new.session c.in-Ok-do_steps.refused c.if-refused.result before after
-          c.in-Ok-start.ensures.ok done.done c.text.ensures.now done.refused status_is c.in-Ok.ensures.ended c.in-Ok-send.ensures.whole done.sends.whole,
+      rw c.in-Ok-begin.ensures.ok left.0,
+      rw c.in-Ok-begin.ensures.ok left.1,
     )
 
-pub returns-in-Err-do_steps-clause-leaves : goal.returns-in-Err-do_steps-clause-leaves
-returns-in-Err-do_steps-clause-leaves g c = (
-  c.in-Ok.message.items,
-  c.in-Ok.ensures.all,
-  record { output = AppendsFront-none _ _; errors = rw c.in-Ok-start.ensures.ok at c.in-Err-do_steps.ensures.sends.front; silent = λ _. Keeps-refl _ },
-)
+pub returns-in-Ok-begin-clause-ended : goal.returns-in-Ok-begin-clause-ended
+returns-in-Ok-begin-clause-ended g c =
+    session_ended c.run_session.result (texts_of c.args.pieces.now) (map step_by c.args.steps.items) (journaling_of c.args.journal) c.in-Ok-begin.session _ _ c.run_session.ensures.leaves
+
+pub returns-in-Ok-begin-clause-blamed : goal.returns-in-Ok-begin-clause-blamed
+returns-in-Ok-begin-clause-blamed g c =
+    session_blamed c.run_session.result _ _ _
+    (counts (g.S.Source.failures c.args.input.now) (g.S.Source.read_count c.args.input.now) (g.O.Sink.failures c.args.out.now) (g.E.Sink.failures c.args.err.now))
+    (counts (g.S.Source.failures c.read_all.new.input) (g.S.Source.read_count c.read_all.new.input) (g.O.Sink.failures c.run_session.new.out) (g.E.Sink.failures c.run_session.new.err))
+    (g.J.Sink.failures c.args.jout.now) (g.J.Sink.failures c.run_session.new.jout) c.run_session.ensures.leaves c.run_session.ensures.blamed
+
+pub returns-in-Ok-report_journal-clause-leaves : goal.returns-in-Ok-report_journal-clause-leaves
+returns-in-Ok-report_journal-clause-leaves g c =
+    let named = named_reason c.in-Err-begin.error (sym c.is_memory.ensures ∙ c.if-is_memory.false) in
+    let refused : begun (journaling_of c.args.journal) c.in-Ok.message.items ≡ Err named.0 = rw named.1 at c.in-Err-begin.ensures.refused in
+    let sent = rw named.1 at c.in-Ok-report_journal.ensures in (
+      c.in-Ok.message.items,
+      c.in-Ok.ensures.all,
+      rw refused (record { status_is = refl; written = record { output = Appends-nil _; errors = sent.whole }; read = c.in-Ok.ensures.ended }),
+      rw refused (Appends-nil _),
+    )
 
 pub returns-clause-leaves : goal.returns-clause-leaves
 returns-clause-leaves g c =
-    let done = c.in-Ok-do_steps.ensures in
-    let before = held (g.S.Source.remaining c.args.input.now) (g.O.Sink.contents c.args.out.now) (g.E.Sink.contents c.args.err.now) in
-    let after = held (g.S.Source.remaining c.read_all.new.input) (g.O.Sink.contents c.send.new.out) (g.E.Sink.contents c.do_steps.new.err) in (
+    let named = named_reason c.in-Err-begin.error (sym c.is_memory.ensures ∙ c.if-is_memory.false) in
+    let refused : begun (journaling_of c.args.journal) c.in-Ok.message.items ≡ Err named.0 = rw named.1 at c.in-Err-begin.ensures.refused in
+    let sent = rw named.1 at c.in-Err-report_journal.ensures in (
       c.in-Ok.message.items,
       c.in-Ok.ensures.all,
-      WritesFronts-unsent (texts_of c.args.pieces.now) (map step_by c.args.steps.items) c.in-Ok.message.items c.text.result.now c.in-Ok-start.session c.do_steps.new.session c.in-Err-send.stop c.writing-in-Err-send.result before after
-          c.writing-in-Err-send.ensures c.in-Ok-start.ensures.ok done.done c.text.ensures.now c.in-Err-send.ensures.front done.sends.whole,
+      rw refused (record { output = AppendsFront-none _ _; errors = sent.front; silent = λ _. Keeps-refl _ }),
+      rw refused (record { front = AppendsFront-none _ _; later = inl (Keeps-refl _) }),
     )

@@ -1,0 +1,41 @@
+use Rattle.std.proofs.Common.{◌≡◌, ◌∙◌, sym, ap, map, inl}
+use Rattle.std.proofs.KnownBytes.{Keeps-refl}
+use Rattle.mk_edit.specs.Histories.{text_now}
+use Rattle.mk_run.specs.Journaling.{journaling_of, left_journal}
+use Rattle.mk_run.specs.Runs.{history_after}
+use Rattle.mk_run.specs.inner.Keeping.{bytes_kept}
+use Rattle.mk_script.specs.ScriptViews.{step_by, texts_of}
+use Rattle.mk_run.proofs.RunLemmas.{AppendsFront-none, AppendsFront-whole, writing-not_read}
+use Rattle.mk_run.proofs.engine.run_session.Goals as goal
+
+pub returns-in-Err-clause-leaves : goal.returns-in-Err-clause-leaves
+returns-in-Err-clause-leaves g c = record {
+  unread = λ e. writing-not_read c.in-Err.stop (sym c.writing.ensures ∙ e);
+  output = AppendsFront-none _ _;
+  errors = c.in-Err.ensures.sends.front;
+  journal = AppendsFront-none _ _;
+  later = inl (Keeps-refl _);
+}
+
+pub returns-in-Err-journal_of-clause-leaves : goal.returns-in-Err-journal_of-clause-leaves
+returns-in-Err-journal_of-clause-leaves g c = record {
+  unread = λ e. cc;
+  output = AppendsFront-none _ _;
+  errors = AppendsFront-whole _ _ _ c.in-Ok.ensures.sends.whole;
+  journal = AppendsFront-none _ _;
+  later = inl (Keeps-refl _);
+}
+
+pub returns-clause-leaves : goal.returns-clause-leaves
+returns-clause-leaves g c =
+    let last = history_after (texts_of c.args.pieces.now) (map step_by c.args.steps.items) c.args.session in
+    let journaling = journaling_of c.args.journal in
+    let text_is : c.text.result.now ≡ text_now last = c.text.ensures.now ∙ ap text_now c.in-Ok.ensures.done in
+    let kept_is : bytes_kept c.in-Ok-journal_of.kept ≡ left_journal journaling last = c.in-Ok-journal_of.ensures ∙ ap (left_journal journaling) c.in-Ok.ensures.done in
+    record {
+      unread = λ e. writing-not_read c.in-Err-print.stop (sym c.writing-in-Err-print.ensures ∙ e);
+      output = rw text_is at c.in-Err-print.ensures.output_front;
+      errors = AppendsFront-whole _ _ _ c.in-Ok.ensures.sends.whole;
+      journal = rw kept_is at c.in-Err-print.ensures.journal_front;
+      later = rw text_is at c.in-Err-print.ensures.later;
+    }

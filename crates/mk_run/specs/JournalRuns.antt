@@ -1,0 +1,54 @@
+-- What a run of a script leaves in its devices, the journal's among them.
+use Rattle.std.specs.Prelude.{◌≡◌, ◌⊎◌, ℕ, List, Option, Result, Ok, Err}
+use Rattle.std.specs.Io.KnownBytes.{Appends, Consumes, Keeps}
+use Rattle.mk_mailbox.specs.Devices.{AppendsFront, Rose}
+use Rattle.mk_run.specs.declared.status.Status.{Status}
+use Rattle.mk_run.specs.declared.status.Status.TheVariants.{Well, Refused, Usage, Fault, Memory}
+use Rattle.mk_run.specs.declared.status.Cause.{Cause}
+use Rattle.mk_run.specs.declared.status.Cause.TheVariants.{Read, Write, Memory as NoMemory}
+use Rattle.mk_run.specs.Journaling.{Journaling}
+use Rattle.mk_run.specs.Runs.{ScriptRun, run_of, run_steps}
+use Rattle.mk_run.specs.RunClauses.{Held, Counts, Leaves, LeavesSoFar, ReadFailed, WriteFailed}
+use Rattle.mk_script.specs.ScriptSteps.{ScriptStep}
+
+-- a front of the journal went out, and a byte of it only once the whole output had gone out
+pub record WritesJournalFront (script : ScriptRun) (before after : Held) (kept left : Option (List ℕ)) : Type 0 where
+  pub front : AppendsFront kept left script.journal
+  pub later : Keeps kept left ⊎ Appends before.output after.output script.run.output
+
+-- what a run leaves in the journal's device, by its status: the whole journal, unless it was given up
+abbrev pub LeavesJournal : Status → ScriptRun → Held → Held → Option (List ℕ) → Option (List ℕ) → Type 0
+LeavesJournal Well script before after kept left = Appends kept left script.journal
+LeavesJournal Refused script before after kept left = Appends kept left script.journal
+LeavesJournal Usage script before after kept left = Appends kept left script.journal
+LeavesJournal Fault script before after kept left = WritesJournalFront script before after kept left
+LeavesJournal Memory script before after kept left = WritesJournalFront script before after kept left
+
+-- the same, where the run may be given up
+abbrev pub LeavesJournalSoFar : Result Status Cause → ScriptRun → Held → Held → Option (List ℕ) → Option (List ℕ) → Type 0
+LeavesJournalSoFar (Ok status) = LeavesJournal status
+LeavesJournalSoFar (Err cause) = WritesJournalFront
+
+-- what a run of steps leaves is what is defined for the bytes that it read
+abbrev pub LeavesSteps : Result Status Cause → List (List ℕ) → Journaling → Result (List ScriptStep) ℕ → Held → Held → Option (List ℕ) → Option (List ℕ) → Type 0
+LeavesSteps result pieces journaling steps before after kept left =
+    (message : List ℕ) × Consumes before.input after.input message
+    × LeavesSoFar result (run_steps pieces journaling message steps).run before after
+    × LeavesJournalSoFar result (run_steps pieces journaling message steps) before after kept left
+
+-- what a run of a script leaves is what is defined for the bytes that it read
+abbrev pub LeavesRun : Status → List (List ℕ) → Journaling → List ℕ → Held → Held → Option (List ℕ) → Option (List ℕ) → Type 0
+LeavesRun status pieces journaling script before after kept left =
+    (message : List ℕ) × Consumes before.input after.input message
+    × Leaves status (run_of pieces journaling message script).run before after
+    × LeavesJournal status (run_of pieces journaling message script) before after kept left
+
+-- the output, the errors or the journal's device failed
+abbrev pub SinkFailed : Counts → Counts → ℕ → ℕ → Type 0
+SinkFailed before after kept left = WriteFailed before after ⊎ Rose kept left
+
+-- the device failed that a cause speaks of
+abbrev pub IsBlamedFor : Cause → Counts → Counts → ℕ → ℕ → Type 0
+IsBlamedFor Read before after kept left = ReadFailed before after
+IsBlamedFor Write before after kept left = SinkFailed before after kept left
+IsBlamedFor NoMemory before after kept left = Unit {0}

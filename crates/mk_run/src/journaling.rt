@@ -1,0 +1,85 @@
+//! The journal of a run: the history that it begins with, and the one that it keeps for later runs.
+
+ghost use Rattle.std.specs.Prelude.{◌≡◌, Ok, Err, IfOk, IfErr, IfSome};
+ghost use Rattle.mk_run.specs.Journaling.{Anew, begun, journaling_of, left_journal, named_by};
+ghost use Rattle.mk_run.specs.inner.Keeping.{bytes_kept, says_memory};
+ghost use Rattle.mk_run.specs.RunClauses.{Sends};
+
+use crate::transfer::{Stop, send};
+use mk_edit::{LoadError, Session};
+use mk_mail::{Fault, Sink};
+use std::alloc::{AllocError, Global};
+
+/// Where the history of a run comes from, and whether it is kept.
+#[derive(Clone, Copy, Debug, PartialEq, Eq)]
+pub enum Journal<'a> {
+    /// The history begins with the message, and no journal is written.
+    Off,
+    /// The history begins with the message, and its journal is written.
+    New,
+    /// The history is the one that this journal describes, and its journal is written.
+    Old(&'a [u8]),
+}
+
+/// The session that a run begins with.
+pub fn begin(alloc: Global, message: Vec<u8>, journal: Journal<'_>) -> Result<Session, LoadError>
+    ensures ok { IfOk result (λ session. begun (journaling_of journal.entry) message.items ≡ Ok session) }
+    ensures refused { IfErr result (λ error. IfSome (named_by error) (λ reason. begun (journaling_of journal.entry) message.items ≡ Err reason)) }
+{
+    let begun = match journal {
+        Journal::Off | Journal::New => return start(alloc, message),
+        Journal::Old(file) => Session::load(alloc, message, file),
+    };
+    match begun {
+        Ok(session) => Ok(session),
+        Err((_, error)) => Err(error),
+    }
+}
+
+// A session without a step.
+fn start(alloc: Global, message: Vec<u8>) -> Result<Session, LoadError>
+    ensures ok { IfOk result (λ session. begun Anew message.items ≡ Ok session) }
+    ensures refused { IfErr result (λ error. error ≡ LoadError.Memory) }
+{
+    match Session::start(alloc, message) {
+        Ok(session) => Ok(session),
+        Err((_, AllocError)) => Err(LoadError::Memory),
+    }
+}
+
+/// Whether an error says that there is no memory.
+pub fn is_memory(error: LoadError) -> bool
+    ensures { result ≡ says_memory error }
+{
+    match error {
+        LoadError::Memory => true,
+        LoadError::JournalSyntax { .. }
+        | LoadError::JournalOther
+        | LoadError::JournalMismatch { .. } => false,
+    }
+}
+
+/// The journal that a run leaves, where it keeps one.
+pub fn journal_of(session: &Session, journal: Journal<'_>) -> Result<Option<Vec<u8>>, AllocError>
+    ensures { IfOk result (λ kept. bytes_kept kept ≡ left_journal (journaling_of journal.entry) session.now) }
+{
+    match journal {
+        Journal::Off => Ok(None),
+        Journal::New | Journal::Old(_) => Ok(Some(session.save()?)),
+    }
+}
+
+/// Writes the journal of a run, where it keeps one, and finishes its device.
+pub fn keep<J: Sink>(jout: &mut J, kept: Option<Vec<u8>>) -> Result<(), Stop>
+    ensures { Sends result (bytes_kept kept)
+        (J.contents jout.old) (J.contents jout.new) (J.failures jout.old) (J.failures jout.new) }
+{
+    let Some(journal) = kept else {
+        return Ok(());
+    };
+    send(jout, &journal)?;
+    match jout.finish() {
+        Ok(()) => Ok(()),
+        Err(Fault) => Err(Stop::Fault),
+    }
+}

@@ -1,0 +1,202 @@
+//! Journals in files of the system: what one run keeps, later ones take back and make again.
+
+use super::{Outcome, obeyed};
+use mk_run::Status;
+use std::fs;
+use std::fs::{File, Permissions};
+use std::os::unix::fs::{PermissionsExt, symlink};
+use std::process::Abort;
+use std::rt::Files;
+use std::test::Fail;
+
+const MESSAGE: &[u8] = b"A: b\n\nx\n";
+
+const EDITED: &[u8] = b"A: b\nC: d\n\nx\n";
+
+const DONE: &str =
+    "mimejournal 2\nffa85b235308dbbe11aaddd971ba5b28529a258c87c62ecc8efbcf789b5128ef\n1 0\n1\n5 0 5\nC: d\n\n";
+
+const UNDONE: &str =
+    "mimejournal 2\nc951ce7b67bdf1fc725f0b506422637c56104e24cd5177b0230f679e11b0dc84\n0 1\n1\n5 0 5\nC: d\n\n";
+
+const NOTHING: &str =
+    "mimejournal 2\nc951ce7b67bdf1fc725f0b506422637c56104e24cd5177b0230f679e11b0dc84\n0 0\n";
+
+/// Compares what a run left.
+fn same(rt: &impl Abort, found: &Outcome, output: &[u8], errors: &[u8], status: Status) {
+    assert_eq!(rt; found.status, status);
+    assert_eq!(rt; found.output.bytes(), output);
+    assert_eq!(rt; found.errors.bytes(), errors);
+}
+
+/// Makes a folder with nothing in it but a script that adds a field.
+fn prepare<R: Files + AllocGlobal>(rt: &R, folder: &str, script: &str) -> Result<(), Fail> {
+    let _ = fs::remove_dir_all(rt, folder);
+    fs::create_dir_all(rt, folder)?;
+    fs::write(rt, script, "add 1 C: d\n")?;
+    Ok(())
+}
+
+#[test]
+fn later_runs_take_back_and_make_again(rt: HostRuntime) -> Result<(), Fail> {
+    let folder = "mimetool_journal_test";
+    let script = "mimetool_journal_test/script";
+    let journal = "mimetool_journal_test/journal";
+    prepare(&rt, folder, script)?;
+    let found = obeyed(&rt, &["edit", "-j", journal, script], MESSAGE)?;
+    same(&rt, &found, EDITED, b"", Status::Well);
+    assert_eq!(rt; fs::read_to_string(&rt, journal)?.as_str(), DONE);
+    let found = obeyed(&rt, &["undo", "-j", journal], EDITED)?;
+    same(&rt, &found, MESSAGE, b"", Status::Well);
+    assert_eq!(rt; fs::read_to_string(&rt, journal)?.as_str(), UNDONE);
+    let found = obeyed(&rt, &["redo", "-j", journal], MESSAGE)?;
+    same(&rt, &found, EDITED, b"", Status::Well);
+    assert_eq!(rt; fs::read_to_string(&rt, journal)?.as_str(), DONE);
+    check_entries(&rt, folder, 2)?;
+    fs::remove_dir_all(&rt, folder)?;
+    Ok(())
+}
+
+/// A folder has so many entries: no run left a file of its own.
+fn check_entries<R: Files + AllocGlobal + Abort + Clone + Drop>(
+    rt: &R,
+    folder: &str,
+    expected: usize,
+) -> Result<(), Fail> {
+    let mut entries = 0usize;
+    for entry in fs::read_dir(rt, folder)? {
+        entry?;
+        entries += 1;
+    }
+    assert_eq!(rt; entries, expected);
+    Ok(())
+}
+
+#[test]
+fn nothing_is_undone_without_a_journal(rt: HostRuntime) -> Result<(), Fail> {
+    let folder = "mimetool_no_journal_test";
+    let script = "mimetool_no_journal_test/script";
+    let journal = "mimetool_no_journal_test/journal";
+    prepare(&rt, folder, script)?;
+    let found = obeyed(&rt, &["undo", "-j", journal], MESSAGE)?;
+    same(
+        &rt,
+        &found,
+        MESSAGE,
+        b"line 1: NothingToUndo\n",
+        Status::Refused,
+    );
+    assert_eq!(rt; fs::read_to_string(&rt, journal)?.as_str(), NOTHING);
+    let found = obeyed(&rt, &["redo", "-j", journal], MESSAGE)?;
+    same(
+        &rt,
+        &found,
+        MESSAGE,
+        b"line 1: NothingToRedo\n",
+        Status::Refused,
+    );
+    assert_eq!(rt; fs::read_to_string(&rt, journal)?.as_str(), NOTHING);
+    fs::remove_dir_all(&rt, folder)?;
+    Ok(())
+}
+
+#[test]
+fn refused_journals_stay(rt: HostRuntime) -> Result<(), Fail> {
+    let folder = "mimetool_refused_test";
+    let script = "mimetool_refused_test/script";
+    let journal = "mimetool_refused_test/journal";
+    prepare(&rt, folder, script)?;
+    for (text, errors) in [
+        ("", b"journal: JournalSyntax 0\n".as_slice()),
+        (DONE, b"journal: JournalOther\n"),
+        (
+            "mimejournal 1\n1 0\n0 0 1\nB\n",
+            b"journal: JournalMismatch 1\n",
+        ),
+    ] {
+        fs::write(&rt, journal, text)?;
+        let found = obeyed(&rt, &["edit", "-j", journal, script], MESSAGE)?;
+        same(&rt, &found, b"", errors, Status::Refused);
+        assert_eq!(rt; fs::read_to_string(&rt, journal)?.as_str(), text);
+    }
+    check_entries(&rt, folder, 2)?;
+    fs::remove_dir_all(&rt, folder)?;
+    Ok(())
+}
+
+#[test]
+fn faults_leave_the_journal(rt: HostRuntime) -> Result<(), Fail> {
+    let folder = "mimetool_journal_faults_test";
+    let script = "mimetool_journal_faults_test/script";
+    let journal = "mimetool_journal_faults_test/journal";
+    let nowhere = "mimetool_journal_faults_test/none/journal";
+    prepare(&rt, folder, script)?;
+    let found = obeyed(&rt, &["edit", "-j", nowhere, script], MESSAGE)?;
+    same(
+        &rt,
+        &found,
+        EDITED,
+        b"mimetool: write fault\n",
+        Status::Fault,
+    );
+    let found = obeyed(&rt, &["edit", "-j", folder, script], MESSAGE)?;
+    assert_eq!(rt; found.status, Status::Fault);
+    assert_eq!(rt; found.output.bytes(), b"".as_slice());
+    assert!(rt; found.errors.bytes().ends_with(b"mimetool: read fault\n"));
+    fs::write(&rt, script, "add\n")?;
+    let found = obeyed(&rt, &["edit", "-j", journal, script], MESSAGE)?;
+    same(&rt, &found, b"", b"script: line 1: syntax\n", Status::Usage);
+    check_entries(&rt, folder, 1)?;
+    fs::remove_dir_all(&rt, folder)?;
+    Ok(())
+}
+
+#[test]
+fn one_run_at_a_time_has_a_journal(rt: HostRuntime) -> Result<(), Fail> {
+    let folder = "mimetool_locked_test";
+    let script = "mimetool_locked_test/script";
+    let journal = "mimetool_locked_test/journal";
+    prepare(&rt, folder, script)?;
+    fs::write(&rt, journal, NOTHING)?;
+    let locked = File::open(&rt, journal)?;
+    locked.lock()?;
+    let found = obeyed(&rt, &["edit", "-j", journal, script], MESSAGE)?;
+    same(
+        &rt,
+        &found,
+        b"",
+        b"mimetool: mimetool_locked_test/journal: another run is using it\nmimetool: read fault\n",
+        Status::Fault,
+    );
+    assert_eq!(rt; fs::read_to_string(&rt, journal)?.as_str(), NOTHING);
+    locked.unlock()?;
+    let found = obeyed(&rt, &["edit", "-j", journal, script], MESSAGE)?;
+    same(&rt, &found, EDITED, b"", Status::Well);
+    fs::remove_dir_all(&rt, folder)?;
+    Ok(())
+}
+
+#[test]
+fn links_and_permissions_stay(rt: HostRuntime) -> Result<(), Fail> {
+    let folder = "mimetool_links_test";
+    let script = "mimetool_links_test/script";
+    let journal = "mimetool_links_test/journal";
+    let link = "mimetool_links_test/link";
+    prepare(&rt, folder, script)?;
+    symlink(&rt, "journal", link)?;
+    let found = obeyed(&rt, &["edit", "-j", link, script], MESSAGE)?;
+    same(&rt, &found, EDITED, b"", Status::Well);
+    assert_eq!(rt; fs::read_to_string(&rt, journal)?.as_str(), DONE);
+    fs::set_permissions(&rt, journal, Permissions::from_mode(0o600))?;
+    let found = obeyed(&rt, &["undo", "-j", link], EDITED)?;
+    same(&rt, &found, MESSAGE, b"", Status::Well);
+    assert_eq!(rt; fs::read_to_string(&rt, journal)?.as_str(), UNDONE);
+    assert_eq!(rt;
+        fs::metadata(&rt, journal)?.permissions().mode() & 0o777,
+        0o600
+    );
+    assert!(rt; fs::symlink_metadata(&rt, link)?.is_symlink());
+    check_entries(&rt, folder, 3)?;
+    fs::remove_dir_all(&rt, folder)?;
+    Ok(())
+}
