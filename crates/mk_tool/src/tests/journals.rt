@@ -66,7 +66,7 @@ fn check_entries<R: Files + AllocGlobal + Abort + Clone + Drop>(
     let mut entries = 0usize;
     for entry in fs::read_dir(rt, folder)? {
         entry?;
-        entries += 1;
+        entries = entries.saturating_add(1);
     }
     assert_eq!(rt; entries, expected);
     Ok(())
