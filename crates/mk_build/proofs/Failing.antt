@@ -1,10 +1,10 @@
--- The first that fails a test, and texts written one behind another.
+-- The first that fails a test, and texts written one after another.
 use Rattle.std.proofs.Common.{◌≡◌, ◌+◌, ◌++◌, ℕ, zero, suc, Bool, true, false, Option, None, Some, List, [], ◌∷◌, refl, ap, sym, ◌∙◌, length, map, drop, get_or, arith, append_assoc, ◌<◌, ◌≤◌}
 use Rattle.std.specs.List.{flat_map}
 use Rattle.std.specs.Option.{option_map}
 use Rattle.mk_build.specs.Building.{first_failing}
 
--- a place behind so many others
+-- a place after so many others
 abbrev pub behind : ℕ → Option ℕ → Option ℕ
 behind n o = option_map (λ k. n + k) o
 

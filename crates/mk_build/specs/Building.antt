@@ -34,7 +34,7 @@ longest = 100
 abbrev pub is_single : List ℕ → Bool
 is_single main = not (bytes_eq (lowered main) (codes "multipart")) && not (bytes_eq (lowered main) (codes "message"))
 
--- a token behind a slash (RFC 2045, 5.1)
+-- a token after a slash (RFC 2045, 5.1)
 abbrev pub is_subtype : Option (List ℕ) → Bool
 is_subtype None = false
 is_subtype (Some sub) = is_token sub

@@ -83,7 +83,7 @@ pub fn build(
     Ok(text)
 }
 
-// The index of the first field that can't stand in front, from 0.
+// The index of the first field that can't stand at the start, from 0.
 fn bad_field(fields: &[Vec<u8>]) -> Option<usize>
     ensures { result ≡ first_failing may_begin (map (λ f. f.items) fields.now) }
 {

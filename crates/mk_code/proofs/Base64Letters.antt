@@ -22,7 +22,7 @@ before_unfound (x ∷ xs) h =
     let parts = or_parts (x == 61) (has_byte 61 xs) h in
     rw (take_while-cons (λ byte. not (byte == equals_sign)) x xs, parts.0) (ap (λ ys. x ∷ ys) (before_unfound xs parts.1))
 
--- the letters in front, and the letters behind the byte that ends them
+-- the letters at the start, and the letters after the byte that ends them
 pub letters_apart : (text : List ℕ) → filter is_letter text ≡ take (prefix_len is_letter text) text ++ filter is_letter (drop (suc (prefix_len is_letter text)) text)
 letters_apart [] = refl
 letters_apart (x ∷ xs) =

@@ -12,7 +12,7 @@ use Rattle.base64.specs.Engines.{standard}
 use Rattle.base64.proofs.RoundTrip.{length-encode_symbols}
 use Rattle.mk_code.specs.EncodedWords.{is_continuation_byte, goes_on, characters, front_onto, goes_in, piece_room, pieces, encoded_word, word_width, AreShort}
 
--- a byte behind the first of a character
+-- a byte after the first of a character
 goes : (bits : ℕ) → is_continuation_byte (128 + bits % 64) ≡ true
 goes bits = rw (le-leb 128 (128 + bits % 64) (omega arith), le-leb (128 + bits % 64) 191 (omega arith)) refl
 

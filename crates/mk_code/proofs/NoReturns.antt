@@ -21,7 +21,7 @@ is_other byte = not (byte == 13)
 all_both : (a b : Bool) → a ≡ true → b ≡ true → (a && b) ≡ true
 all_both a b h k = rw (h, k) refl
 
--- of texts one behind another
+-- of texts one after another
 pub others_joined : (xs ys : List ℕ) → list_all is_other xs ≡ true → list_all is_other ys ≡ true → list_all is_other (xs ++ ys) ≡ true
 others_joined xs ys h k = list_all-append is_other xs ys ∙ all_both (list_all is_other xs) (list_all is_other ys) h k
 

@@ -9,7 +9,7 @@ use Rattle.mk_line.specs.Lines.{is_nil, ending_bytes}
 use Rattle.mk_code.specs.QuotedPrintable.{form, limit, packed, is_quiet, logical_lines, qp_encoded}
 use Rattle.mk_code.proofs.LogicalLines.{joined_next, logical_some}
 
--- a form that doesn't fit comes behind a soft break
+-- a form that doesn't fit comes after a soft break
 pub broken : (eol : List ℕ) (column byte : ℕ) (more out out1 out2 : List ℕ) (width most : ℕ) → width ≡ length (form column byte more) → most ≡ limit more → most < column + width → out1 ≡ out ++ 61 ∷ [] → out2 ≡ out1 ++ eol
     → out2 ++ (form 0 byte more ++ packed eol (0 + length (form 0 byte more)) more) ≡ out ++ packed eol column (byte ∷ more)
 broken eol column byte more out out1 out2 width most w m l p q =
@@ -22,7 +22,7 @@ nil_append : (xs ys : List ℕ) → is_nil ys ≡ false → is_nil (xs ++ ys) �
 nil_append [] ys h = h
 nil_append (x ∷ xs) ys h = refl
 
--- a quiet byte behind the first column that isn't the last of its line stands for itself
+-- a quiet byte after the first column that isn't the last of its line stands for itself
 quiet_form : (column byte : ℕ) (more : List ℕ) → is_quiet byte ≡ true → 0 < column → is_nil more ≡ false → form column byte more ≡ byte ∷ []
 quiet_form column byte more q o n =
     let behind : (column == 0) ≡ false = ne_eqb column 0 (λ e. omega arith) in

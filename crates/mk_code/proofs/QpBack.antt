@@ -30,7 +30,7 @@ trimmed_kept byte [] h = elim (cases_Bool (is_blank byte)) [
 ]
 trimmed_kept byte (next ∷ rest) h = refl
 
--- a byte that isn't blank, or has more behind it, stands for itself
+-- a byte that isn't blank, or has more after it, stands for itself
 line_onto : (byte : ℕ) (ls : List TextLine) → (byte == 13) ≡ false → (byte == 61) ≡ false → (is_blank byte && is_nil (first_trimmed ls)) ≡ false → flat_map line_unquoted (onto_first byte ls) ≡ byte ∷ flat_map line_unquoted ls
 line_onto byte [] r e h = rw (trimmed_kept byte [] h, e) refl
 line_onto byte (l ∷ ls) r e h =
@@ -107,12 +107,12 @@ plain_quiet first last byte h = (and_parts (is_quiet byte) (not (first && is_gua
 plain_end : (first last : Bool) (byte : ℕ) → is_plain first last byte ≡ true → (last && is_blank byte) ≡ false
 plain_end first last byte h = not-true (last && is_blank byte) (and_parts (is_quiet byte && not (first && is_guarded byte)) (not (last && is_blank byte)) h).1
 
--- a blank that is plain has more of its line behind it
+-- a blank that is plain has more of its line after it
 blank_inside : (first last : Bool) (byte : ℕ) → is_plain first last byte ≡ true → is_blank byte ≡ true → last ≡ false
 blank_inside first true byte h b = sym (sym (plain_end first true byte h) ∙ b)
 blank_inside first false byte h b = refl
 
--- a plain byte comes back where what stands behind it in its line has more than blanks
+-- a plain byte comes back where what follows it in its line has more than blanks
 inside : (first last : Bool) (byte : ℕ) (text : List ℕ) → is_plain first last byte ≡ true → (last ≡ false → HasMore text) → (is_blank byte && is_nil (first_trimmed (cut text))) ≡ false
 inside first last byte text h more =
     elim (cases_Bool (is_blank byte)) [
@@ -147,7 +147,7 @@ form_back column byte rest text small more =
       | inr f ↦ rw f (escaped_back byte text small)
     ]
 
--- a packed logical line comes back, whatever stands behind it
+-- a packed logical line comes back, whatever stands after it
 pub packed_back : (eol : Ending) (bytes : List ℕ) (column : ℕ) (text : List ℕ) → eol ≢ Missing → IsBytes bytes → qp_decoded (packed (ending_bytes eol) column bytes ++ text) ≡ bytes ++ qp_decoded text
 packed_back eol [] column text is small = refl
 packed_back eol (byte ∷ rest) column text is small =
@@ -218,7 +218,7 @@ pub bytes_logical : (eol : Ending) (bytes : List ℕ) → IsBytes bytes → AreB
 bytes_logical eol [] small = (bytes_nil, tt)
 bytes_logical eol (byte ∷ bytes) small = bytes_before eol byte (logical_lines eol bytes) (small 0) (bytes_logical eol bytes (λ i. small (suc i)))
 
--- the lines behind the first, each behind an ending
+-- the lines after the first, each after an ending
 ends_back : (eol : Ending) (lines : List (List ℕ)) → eol ≢ Missing → AreBytes lines → qp_decoded (flat_map (λ line. ending_bytes eol ++ packed (ending_bytes eol) 0 line) lines) ≡ flat_map (λ line. ending_bytes eol ++ line) lines
 ends_back eol [] is ls = refl
 ends_back eol (line ∷ lines) is ls =

@@ -112,7 +112,7 @@ packed_lined eol (byte ∷ rest) column text is small l r ended =
           (ended_behind eol (form 0 byte rest ++ (behind ++ text)) is begun (column + 1) (omega (arith, r refl)))))
     ]
 
--- the lines behind the first, each behind an ending
+-- the lines after the first, each after an ending
 ends_lined : (eol : Ending) (lines : List (List ℕ)) → eol ≢ Missing → AreBytes lines → Ended (flat_map (λ line. ending_bytes eol ++ packed (ending_bytes eol) 0 line) lines)
 ends_lined eol [] is ls column l = l
 ends_lined eol (line ∷ lines) is ls column l =

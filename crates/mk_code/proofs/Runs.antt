@@ -44,7 +44,7 @@ blank_gap byte gap rs h = rw h refl
 blank_word : (byte : ℕ) (word : List ℕ) (rs : List Run) → is_blank byte ≡ true → run_before byte (Word word ∷ rs) ≡ Gap (byte ∷ []) ∷ Word word ∷ rs
 blank_word byte word rs h = rw h refl
 
--- the word in front
+-- the word at the start
 word_front : (byte : ℕ) (rest : List ℕ) → is_blank byte ≡ false → runs (byte ∷ rest) ≡ Word (byte ∷ take (prefix_len is_dark rest) rest) ∷ runs (drop (prefix_len is_dark rest) rest)
 word_front byte [] h = rw h refl
 word_front byte (x ∷ xs) h =
@@ -56,7 +56,7 @@ word_front byte (x ∷ xs) h =
           rw (d, one-add (prefix_len is_dark xs)) (ap (run_before byte) (word_front x xs d) ∙ dark_word byte (x ∷ take (prefix_len is_dark xs) xs) (runs (drop (prefix_len is_dark xs) xs)) h)
     ]
 
--- the gap in front
+-- the gap at the start
 gap_front : (byte : ℕ) (rest : List ℕ) → is_blank byte ≡ true → runs (byte ∷ rest) ≡ Gap (byte ∷ take (prefix_len is_blank rest) rest) ∷ runs (drop (prefix_len is_blank rest) rest)
 gap_front byte [] h = rw h refl
 gap_front byte (x ∷ xs) h =
@@ -68,7 +68,7 @@ gap_front byte (x ∷ xs) h =
           rw d (ap (run_before byte) first.are ∙ (blank_word byte first.word first.others h ∙ ap (λ rs. Gap (byte ∷ []) ∷ rs) (sym first.are)))
     ]
 
--- what stands behind the blanks in front doesn't begin with one
+-- what follows the blanks at the start doesn't begin with one
 abbrev IsPastGap : List ℕ → Type 0
 IsPastGap [] = Unit {0}
 IsPastGap (x ∷ xs) = is_blank x ≡ false
@@ -80,7 +80,7 @@ past_gap (x ∷ xs) = elim (cases_Bool (is_blank x)) [
   | inr d ↦ rw d d
 ]
 
--- what is shown of a gap and a word, behind a decoded word or not
+-- what is shown of a gap and a word, after a decoded word or not
 abbrev pair_shown : Bool → List ℕ → List ℕ → List ℕ → List ℕ
 pair_shown after gap word behind =
     (if after && is_some (word_decoded word) then [] else gap) ++ (unwrap_or (word_decoded word) word ++ shown (is_some (word_decoded word)) (runs behind))
@@ -95,7 +95,7 @@ shown_word after byte rest h =
     ap (shown after) (word_front byte rest h)
     ∙ ap (λ xs. xs ++ (unwrap_or (word_decoded word) word ++ shown (is_some (word_decoded word)) (runs (drop (prefix_len is_dark rest) rest)))) (sym (same_if (after && is_some (word_decoded word)) []))
 
--- a gap, and what stands behind it
+-- a gap, and what follows it
 shown_gap : (after : Bool) (gap rest : List ℕ) → IsPastGap rest → shown after (Gap gap ∷ runs rest) ≡ pair_shown after gap (take (prefix_len is_dark rest) rest) (drop (prefix_len is_dark rest) rest)
 shown_gap after gap [] h = refl
 shown_gap after gap (x ∷ xs) h =

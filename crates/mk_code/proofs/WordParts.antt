@@ -65,7 +65,7 @@ two_parts (x ∷ xs) h = elim (cases_Bool (x == 63)) [
       rw f (record { one = x ∷ more.one; two = more.two; others = more.others; are = ap (onto_first x) more.are })
 ]
 
--- the parts behind the fourth question mark
+-- the parts after the fourth question mark
 abbrev decoded_parts : List ℕ → List ℕ → List ℕ → List ℕ → List (List ℕ) → Option (List ℕ)
 decoded_parts start charset name text ps = parts_decoded (start ∷ charset ∷ name ∷ text ∷ ps)
 

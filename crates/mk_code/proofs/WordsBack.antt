@@ -105,7 +105,7 @@ runs_word byte (next ∷ bytes) text h n =
 runs_encoded : (piece text : List ℕ) → IsBytes piece → BeginsNoWord (runs text) → runs (encoded_word piece ++ text) ≡ Word (encoded_word piece) ∷ runs text
 runs_encoded piece text small n = runs_word 61 (drop 1 (encoded_word piece)) text (word_graphic piece small) n
 
--- the words behind the first, each behind a space
+-- the words after the first, each after a space
 abbrev spaced : List (List ℕ) → List ℕ
 spaced ps = flat_map (λ p. (32 ∷ []) ++ encoded_word p) ps
 

@@ -22,7 +22,7 @@ letters text = filter is_letter (take_while (λ byte. not (byte == equals_sign))
 abbrev pub IsBase64Of : List ℕ → List ℕ → Type 0
 IsBase64Of text bytes = IsBytes bytes × (letters text ≡ encode_of standard_no_pad bytes)
 
--- the characters with an ending before the one behind the next so many, and then behind each 76
+-- the characters with an ending before the one after the next so many, and then after each 76
 unfoldable pub lined : List ℕ → ℕ → List ℕ → List ℕ
 lined eol left [] = []
 lined eol zero (byte ∷ bytes) = eol ++ (byte ∷ lined eol (widest - 1) bytes)

@@ -47,7 +47,7 @@ parts (byte ∷ bytes) = if byte == question_mark then [] ∷ parts bytes else o
 abbrev pub is_padding : List ℕ → Bool
 is_padding bytes = nat_le (length bytes) 2 && list_all (λ byte. byte == equals_sign) bytes
 
--- the bytes of base64's letters (RFC 2047, 4.1), with padding or none behind them (own)
+-- the bytes of base64's letters (RFC 2047, 4.1), with padding or none after them (own)
 abbrev pub b_text : List ℕ → Option (List ℕ)
 b_text text =
     let front = take_while is_letter text in
@@ -116,7 +116,7 @@ is_decoded word = is_some (word_decoded word)
 abbrev pub word_shown : List ℕ → List ℕ
 word_shown word = unwrap_or (word_decoded word) word
 
--- a gap before a word, behind a decoded word or not: between two decoded words it is dropped (RFC 2047, 6.2)
+-- a gap before a word, after a decoded word or not: between two decoded words it is dropped (RFC 2047, 6.2)
 abbrev pub gap_shown : Bool → List ℕ → List ℕ → List ℕ
 gap_shown after gap word = if after && is_decoded word then [] else gap
 
@@ -126,7 +126,7 @@ begins_decoded [] = false
 begins_decoded (Gap gap ∷ others) = false
 begins_decoded (Word word ∷ others) = is_decoded word
 
--- the runs, each word decoded or as it stands, behind a decoded word or not: a gap between two decoded words is dropped
+-- the runs, each word decoded or as it stands, after a decoded word or not: a gap between two decoded words is dropped
 abbrev pub shown : Bool → List Run → List ℕ
 shown after [] = []
 shown after (Gap gap ∷ others) = (if after && begins_decoded others then [] else gap) ++ shown false others
@@ -136,7 +136,7 @@ shown after (Word word ∷ others) = word_shown word ++ shown (is_decoded word) 
 abbrev pub words_decoded : List ℕ → List ℕ
 words_decoded value = shown false (runs (unfolded value))
 
--- a byte of a character in UTF-8 behind its first (RFC 3629)
+-- a byte of a character in UTF-8 after its first (RFC 3629)
 abbrev pub is_continuation_byte : ℕ → Bool
 is_continuation_byte byte = nat_le 128 byte && nat_le byte 191
 

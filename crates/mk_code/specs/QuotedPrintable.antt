@@ -20,7 +20,7 @@ digit_value byte = if nat_le byte 57 then byte - 48 else (if nat_le byte 70 then
 abbrev pub pair_value : ℕ → ℕ → ℕ
 pair_value high low = digit_value high * 16 + digit_value low
 
--- the byte of two digits in front
+-- the byte of two digits at the start
 abbrev pub pair_at : List ℕ → Option ℕ
 pair_at [] = None
 pair_at (high ∷ []) = None
@@ -78,11 +78,11 @@ is_guarded byte = byte == hyphen || byte == full_stop || byte == capital_f
 abbrev pub is_plain : Bool → Bool → ℕ → Bool
 is_plain first last byte = is_quiet byte && not (first && is_guarded byte) && not (last && is_blank byte)
 
--- a byte on an output line, at a column from 0 and with these bytes behind it in its logical line
+-- a byte on an output line, at a column from 0 and with these bytes after it in its logical line
 abbrev pub form : ℕ → ℕ → List ℕ → List ℕ
 form column byte more = if is_plain (column == 0) (is_nil more) byte then byte ∷ [] else escaped byte
 
--- the greatest length of an output line with a byte's form: a soft break needs a place behind it
+-- the greatest length of an output line with a byte's form: a soft break needs a place after it
 abbrev pub limit : List ℕ → ℕ
 limit more = if is_nil more then widest else widest - 1
 

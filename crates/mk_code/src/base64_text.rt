@@ -98,7 +98,7 @@ fn before_equals(text: &[u8]) -> &[u8]
     }
 }
 
-// The letters in front, and what stands behind the byte after them.
+// The letters at the start, and what follows the byte after them.
 fn split_letters(text: &[u8]) -> (&[u8], &[u8])
     requires { 0 < length text.now }
     ensures letters { filter letter text.now ≡ result.0.now ++ filter letter result.1.now }
@@ -111,7 +111,7 @@ fn split_letters(text: &[u8]) -> (&[u8], &[u8])
     }
 }
 
-// How many letters stand in front.
+// How many letters stand at the start.
 pub(crate) fn letter_front(text: &[u8]) -> usize
     ensures front { result ≡ prefix_len letter text.now }
     ensures within { result ≤ length text.now }

@@ -1,6 +1,6 @@
 //! Transfer encodings and encoded words of Internet messages (RFC 2045, 6.7 and 6.8; RFC 2047).
 //!
-//! Only `decode` refuses; the other calls fail for want of memory alone.
+//! Only `decode` refuses; the other calls fail only when memory runs out.
 #![tactic(auto)]
 
 mod base64_text;

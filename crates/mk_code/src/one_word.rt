@@ -20,7 +20,7 @@ const UNDERSCORE: u8 = b'_';
 /// The first and the last part of an encoded word.
 const EDGE: &[u8] = b"=";
 
-/// The digits of a byte behind its `=`.
+/// The digits of a byte after its `=`.
 const DIGITS: usize = 2;
 
 /// The first byte that isn't ASCII.
@@ -93,7 +93,7 @@ fn is_named(name: &[u8], wanted: &[u8]) -> bool
     name.eq_ignore_ascii_case(wanted)
 }
 
-// The bytes of base64's letters with padding or none behind them.
+// The bytes of base64's letters with padding or none after them.
 fn b_text(alloc: Global, text: &[u8]) -> Result<Option<Vec<u8>>, AllocError>
     ensures { IfOk result (λ found. option_map (λ bytes. bytes.items) found ≡ b_bytes text.now) }
 {
@@ -130,7 +130,7 @@ fn q_text(alloc: Global, text: &[u8]) -> Result<Option<Vec<u8>>, AllocError>
     Ok(Some(out))
 }
 
-// The first byte that a text in the encoding Q stands for, and what stands behind it.
+// The first byte that a text in the encoding Q stands for, and what follows it.
 fn first_byte(text: &[u8]) -> Option<(u8, &[u8])>
     requires { 0 < length text.now }
     ensures value { MatchOption result (q_bytes text.now ≡ None)

@@ -8,7 +8,7 @@ use std::alloc::{AllocError, Global};
 
 const EQUALS: u8 = b'=';
 
-/// The digits of a byte behind its `=`.
+/// The digits of a byte after its `=`.
 const DIGITS: usize = 2;
 
 /// What the text stands for.
@@ -48,7 +48,7 @@ fn push_line(out: &mut Vec<u8>, content: &[u8], ending: &[u8]) -> Result<(), All
     Ok(())
 }
 
-// The byte that two digits in front stand for.
+// The byte that two digits at the start stand for.
 pub(crate) fn pair(digits: &[u8]) -> Option<u8>
     ensures value { result ≡ pair_at digits.now }
     ensures room { IsSome result → 2 ≤ length digits.now }

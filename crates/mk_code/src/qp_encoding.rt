@@ -23,7 +23,7 @@ const WIDEST: usize = 76;
 /// The characters of an escaped byte.
 const ESCAPE_WIDTH: usize = 3;
 
-/// Quoted-printable, with the ending wherever the bytes have it and nothing behind the last line. `-`, `.`
+/// Quoted-printable, with the ending wherever the bytes have it and nothing after the last line. `-`, `.`
 /// and `F` are escaped at the front of a line, so that no line is a delimiter, ends a message in SMTP or is
 /// a From-line.
 pub fn qp_encode(alloc: Global, bytes: &[u8], eol: Ending) -> Result<Vec<u8>, AllocError>
@@ -51,7 +51,7 @@ pub fn push_qp(text: &mut Vec<u8>, bytes: &[u8], eol: Ending) -> Result<(), Allo
     push_packed(text, rest, ending)
 }
 
-// The first logical line, and what stands behind its ending.
+// The first logical line, and what follows its ending.
 fn split_line(bytes: &[u8], eol: Ending) -> Option<(&[u8], &[u8])>
     ensures lines { MatchOption result (logical_lines eol bytes.now ≡ bytes.now ∷ [])
         (λ p. logical_lines eol bytes.now ≡ p.0.now ∷ logical_lines eol p.1.now) }
@@ -150,7 +150,7 @@ fn push_form(out: &mut Vec<u8>, column: usize, byte: u8, more: &[u8]) -> Result<
     Ok(ESCAPE_WIDTH)
 }
 
-// Appends the bytes in front that stand for themselves behind the first column, as many as surely fit on
+// Appends the bytes at the start that stand for themselves after the first column, as many as surely fit on
 // the line, and gives their count; the last byte of the logical line is left.
 fn push_quiet(out: &mut Vec<u8>, column: usize, rest: &[u8]) -> Result<usize, AllocError>
     requires { 0 < column }
@@ -168,7 +168,7 @@ fn push_quiet(out: &mut Vec<u8>, column: usize, rest: &[u8]) -> Result<usize, Al
     Ok(size)
 }
 
-// How many quiet bytes stand in front.
+// How many quiet bytes stand at the start.
 fn quiet_front(bytes: &[u8]) -> usize
     ensures front { result ≡ prefix_len quiet bytes.now }
     ensures within { result ≤ length bytes.now }

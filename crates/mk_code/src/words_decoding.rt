@@ -26,7 +26,7 @@ pub fn words_decode(alloc: Global, value: &[u8]) -> Result<Vec<u8>, AllocError>
     Ok(out)
 }
 
-// The blanks in front, the word behind them, and what stands behind both.
+// The blanks at the start, the word after them, and what follows both.
 fn split_front(text: &[u8]) -> (&[u8], &[u8], &[u8])
     requires { 0 < length text.now }
     ensures runs { (after : Bool) → shown after (runs text.now)
@@ -39,7 +39,7 @@ fn split_front(text: &[u8]) -> (&[u8], &[u8], &[u8])
     (gap, word, behind)
 }
 
-// How many other bytes stand in front.
+// How many other bytes stand at the start.
 fn word_front(text: &[u8]) -> usize
     ensures front { result ≡ prefix_len (λ byte. not (blank byte)) text.now }
     ensures within { result ≤ length text.now }
@@ -47,7 +47,7 @@ fn word_front(text: &[u8]) -> usize
     text.iter().take_while(|byte| !is_blank(**byte)).count()
 }
 
-// Appends a gap and the word behind it, decoded where that can be, and says whether it was: a gap between
+// Appends a gap and the word after it, decoded where that can be, and says whether it was: a gap between
 // two decoded words is dropped.
 fn push_word(
     alloc: Global,

@@ -19,7 +19,7 @@ const PIECE_ROOM: usize = 45;
 
 const MARK: &[u8; 2] = b"=?";
 
-/// The bytes of a character in UTF-8 behind its first are these and all between.
+/// The bytes of a character in UTF-8 after its first are these and all between.
 const FIRST_CONTINUATION: u8 = 128;
 
 const LAST_CONTINUATION: u8 = 191;
@@ -82,7 +82,7 @@ fn folding(eol: Ending) -> &'static str
     }
 }
 
-// As many characters as fit in one encoded word, and what stands behind them, where anything does.
+// As many characters as fit in one encoded word, and what follows them, where anything does.
 fn split_piece(text: &[u8]) -> Option<(&[u8], &[u8])>
     ensures pieces { MatchOption result (pieces (characters text.now) 0 ≡ text.now ∷ [])
         (λ p. pieces (characters text.now) 0 ≡ p.0.now ∷ pieces (characters p.1.now) 0) }
@@ -109,7 +109,7 @@ fn character_len(text: &[u8]) -> usize
     1 + continuation_front(&text[1..])
 }
 
-// How many bytes in front go on with a character.
+// How many bytes at the start go on with a character.
 fn continuation_front(bytes: &[u8]) -> usize
     ensures front { result ≡ prefix_len continues bytes.now }
     ensures within { result ≤ length bytes.now }

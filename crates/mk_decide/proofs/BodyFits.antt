@@ -45,7 +45,7 @@ regroup fields separator made ls = simp append_assoc refl
 true_false : {A : Type 0} → true ≡ false → A
 true_false e = cc
 
--- the lines of a body, behind a made separator or none
+-- the lines of a body, after a made separator or none
 body_are : (eol : Ending) (o : Option TextLine) (given : List ℕ) → is_open eol ≡ false → AreLines (made_separator eol o ++ cut given)
 body_are eol None given c = (separator_line eol None c tt, (λ m. true_false (ap is_open (sym m) ∙ c)), lines_cut given)
 body_are eol (Some l) given c = lines_cut given

@@ -178,7 +178,7 @@ ends_stay text path edit p s q h c =
       (λ k. same ∙ told.1 (k.0, λ x. subst BeginsPlain (changed_lines fields e) (root.1 k.1 x))),
     )
 
--- a section directly behind a message's fields has none, before an edit or after it
+-- a section directly after a message's fields has none, before an edit or after it
 glued_none : (text path : List ℕ) (edit : FieldEdit) (p : Placed) (s : IsSite text path p) (q : LinePut) → IsPutAt edit p q → FitsIn s.around (with_fields (lines_put q) p.entity) → frames_glued false s.around ≡ false
 glued_none text path edit p s q h f =
     let e = p.entity in

@@ -48,7 +48,7 @@ run_true (l ∷ ls) r = (rw (belongs_start l r.0) refl, r.1)
 pub fields_size : (ls : List TextLine) → IsRun false ls → raw_size (fields_of ls) ≡ size ls
 fields_size ls r = omega (arith, ap size (none_first ls r), behind_size ls (run_true ls r))
 
--- the fields in front of a text
+-- the fields at the start of a text
 run_from : (inside : Bool) (ls : List TextLine) → IsRun inside (fields_from inside ls)
 run_from inside [] = tt
 run_from inside (l ∷ ls) =
@@ -72,7 +72,7 @@ pub run_all : (inside : Bool) (ls : List TextLine) → IsRun inside ls → field
 run_all inside [] r = refl
 run_all inside (l ∷ ls) r = rw r.0 (ap (λ xs. l ∷ xs) (run_all true ls r.1))
 
--- a field that was found, behind so many bytes
+-- a field that was found, after so many bytes
 abbrev pub found_at : ℕ → Option Found → Option (ℕ × FieldText)
 found_at place o = option_map (λ (f : Found). (place + size f.before, field_text f.start f.more)) o
 

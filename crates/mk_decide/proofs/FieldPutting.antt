@@ -33,7 +33,7 @@ put_add r false text head p q l k = record { from = p ∙ sym (ap length (text_c
 pub put_set : (r : Put) (given : List TextLine) (f : Found) → r.from ≡ size f.before → r.count ≡ size (f.start ∷ f.more) → r.lines.items ≡ text_of given → r.kept ≡ 0 → PutsLines r (set_put given f)
 put_set r given f p q l k = record { from = p; count = q; lines = l; kept = k }
 
--- the name of a field start, and what stands behind it
+-- the name of a field start, and what follows it
 start_apart : (l : TextLine) → name_of l ++ (behind_name l.content ++ ending_bytes l.ending) ≡ printed_line l
 start_apart l = sym (append_assoc (name_of l) (behind_name l.content) (ending_bytes l.ending)) ∙ ap (λ xs. xs ++ ending_bytes l.ending) (name_before l.content)
 

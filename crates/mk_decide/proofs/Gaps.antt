@@ -1,4 +1,4 @@
--- Where the parts behind so many begin: by the sections of a multipart, and by its parts.
+-- Where the parts after so many begin: by the sections of a multipart, and by its parts.
 use Rattle.std.proofs.Common.{◌≡◌, ◌+◌, ◌-◌, ◌≤◌, ◌++◌, ◌||◌, ℕ, zero, suc, Bool, Option, None, Some, List, [], ◌∷◌, refl, ap, sym, ◌∙◌, length, arith}
 use Rattle.std.specs.Option.{option_map}
 use Rattle.mk_line.specs.Lines.{TextLine, text_of}
@@ -68,7 +68,7 @@ gap_within k place p h b pre ps t e g =
     let is : place ≡ p.start + size (head_lines h ++ (pre ++ front_lines k ps)) = some_at (p.start + size (head_lines h ++ (pre ++ front_lines k ps))) place (parts_at k ps) (sym (gap_told k p h b pre ps t e) ∙ g) in
     omega (arith, is, front_within k ps, ap (λ x. size (print x)) e, sum_of 0 (head_lines h) pre (front_lines k ps), size_append (head_lines h) (pre ++ (print_parts ps ++ tail_lines t)), size_append pre (print_parts ps ++ tail_lines t), size_append (print_parts ps) (tail_lines t))
 
--- what stands behind the preamble of a section
+-- what follows the preamble of a section
 pub preamble_within : (e : Entity) → size (preamble_lines e) ≤ size (body_lines e)
 preamble_within (leaf h ls) = omega arith
 preamble_within (message h e) = omega arith
@@ -79,7 +79,7 @@ print_apart (leaf h ls) = size_append (head_lines h) ls
 print_apart (message h e) = size_append (head_lines h) (print e)
 print_apart (multi h b pre ps t) = size_append (head_lines h) (pre ++ (print_parts ps ++ tail_lines t))
 
--- before the parts, by what stands behind it
+-- before the parts, by what follows it
 first_place : (start end body pre head : ℕ) → end ≡ start + (head + body) → pre ≤ body → end - (body - pre) ≡ start + head + pre
 first_place start end body pre head e h = omega (arith, e, h)
 

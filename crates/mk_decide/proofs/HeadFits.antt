@@ -1,4 +1,4 @@
--- The look at the line behind a section's fields tells whether new fields end there, and whether the first line is taken
+-- The look at the line after a section's fields tells whether new fields end there, and whether the first line is taken
 -- for an envelope.
 use Rattle.std.proofs.Common.{◌≡◌, ◌↔◌, ◌==◌, ◌<◌, ◌++◌, ◌&&◌, codes, nat_eq, ℕ, zero, suc, Bool, true, false, not, Option, None, Some, List, [], ◌∷◌, refl, sym, length, arith, inl, inr}
 use Rattle.std.proofs.lemmas.Bool.{cases_Bool, eqb-true}
@@ -47,7 +47,7 @@ bare_plain : (fields body : List TextLine) → has_line fields ≡ false → Beg
 bare_plain [] body n h = h
 bare_plain (f ∷ fields) body n h = true_false n
 
--- behind a separator the look isn't needed
+-- after a separator the look isn't needed
 there_some : (none first : Bool) (l : TextLine) (body : List TextLine) → has_separator (Some l) ≡ true → ends_there none first (Some l) body ≡ true
 there_some none first l body h = rw h refl
 

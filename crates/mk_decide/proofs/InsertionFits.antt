@@ -75,7 +75,7 @@ started : (t : Bool) → (t || (true && false)) ≡ false → not t ≡ true
 started true h = cc
 started false h = refl
 
--- the delimiter behind fields
+-- the delimiter after fields
 delimiter_stops : (eol : Ending) (b : List ℕ) (rest : List TextLine) → not (is_start (delimiter_line eol b)) ≡ true → Stops true (delimiter_line eol b ∷ rest)
 delimiter_stops eol b rest h = (stopped (is_start (delimiter_line eol b)) h, refl)
 

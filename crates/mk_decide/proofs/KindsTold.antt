@@ -49,7 +49,7 @@ alike_told g (Multi c digest) (multi h b pre ps t) = (
   (λ p. (bytes_eq-Decides b c).1 (sym (ap (kind_boundary b) p))),
 )
 
--- the fields of parts are those in front of their texts
+-- the fields of parts are those at the start of their texts
 abbrev pub FieldsRead : Parts → Type 0
 FieldsRead no_parts = Unit {0}
 FieldsRead (part l e ps) = (fields_in (text_of (field_lines e)) ≡ field_lines e) × FieldsRead ps

@@ -127,7 +127,7 @@ remove_fair : (o : Option (List Frame × Entity)) → Holds IsFair (remove o)
 remove_fair None = tt
 remove_fair (Some q) = plain_fair q.0 q.1 [] (λ b u. tt)
 
--- an ending put behind lines changes no content
+-- an ending put after lines changes no content
 one_unmarked : (b : List ℕ) (eol : Ending) (t : Bool) (l : TextLine) → Unmarked b (if t then text_line l.content eol ∷ [] else l ∷ text_line [] eol ∷ []) → Unmarked b (l ∷ [])
 one_unmarked b eol true l u = u
 one_unmarked b eol false l u = (u.0, tt)

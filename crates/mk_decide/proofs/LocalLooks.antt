@@ -52,7 +52,7 @@ ends_told false first old (l ∷ ls) s = (
 pub separator_there : (l : TextLine) → IsLine l → has_separator (Some l) ≡ true
 separator_there l h = lt-ltb 0 _ (some_text l [] h)
 
--- behind a message with a separator, and in a multipart, any entity may stand
+-- after a message with a separator, and in a multipart, any entity may stand
 fits_free : (fields : List TextLine) (o : Option TextLine) (e : Entity) → not (has_separator o) ≡ false → Continues fields o e
 fits_free fields None e h = true_false h
 fits_free fields (Some l) e h = tt
@@ -66,7 +66,7 @@ fits_unglued g [] e h = tt
 fits_unglued g (f ∷ []) e h = fits_frame f e h
 fits_unglued g (f ∷ k ∷ fs) e h = fits_unglued (frame_glues f) (k ∷ fs) e h
 
--- behind a message without one, only an entity without a head
+-- after a message without one, only an entity without a head
 bare_behind : (fields : List TextLine) (o : Option TextLine) (e : Entity) → Each (option_line o) → not (has_separator o) ≡ true → Continues fields o e → entity_head e ≡ open_head []
 bare_behind fields None e s h c = c.0
 bare_behind fields (Some l) e s h c = true_false (sym (separator_there l s.0) ∙ not_true (has_separator (Some l)) h)

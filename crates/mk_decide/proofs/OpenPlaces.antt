@@ -1,4 +1,4 @@
--- Whether a line stands open before a place, or a line behind it, by the bytes around.
+-- Whether a line stands open before a place, or a line after it, by the bytes around.
 use Rattle.std.proofs.Common.{◌≡◌, ◌++◌, ℕ, List, [], ◌∷◌, refl, ap, ◌∙◌, subst, length, take, arith, length-append, nat_lt}
 use Rattle.std.proofs.lemmas.Bool.{lt-ltb, le-ltb}
 use Rattle.std.proofs.lemmas.List.{take_at}

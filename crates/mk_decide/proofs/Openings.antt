@@ -59,7 +59,7 @@ pub open_text : (l : TextLine) (ls : List TextLine) → AreLines (l ∷ ls) → 
 open_text l [] h = ap ends_open (append_nil (printed_line l)) ∙ open_line l.content l.ending h.0
 open_text l (m ∷ ls) h = behind_some (printed_line l) (text_of (m ∷ ls)) (some_text m ls h.2.0) ∙ open_text m ls h.2
 
--- an open line that isn't the last, in two lists one behind the other
+-- an open line that isn't the last, in two lists one after the other
 pub or_assoc : (a b c : Bool) → ((a || b) || c) ≡ (a || (b || c))
 or_assoc true b c = refl
 or_assoc false b c = refl

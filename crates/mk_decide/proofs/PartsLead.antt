@@ -45,7 +45,7 @@ read_led envelope fs s text =
     let kept : text_of (print new) ≡ text = ap text_of (print_read (left_at levels fs) (default_at false fs) (cut text)) ∙ text_cut text in
     put_first envelope fs s new (text_of (print s)) text (subst (Within s new 0 (text_of (print s))) kept (whole_within s new))
 
--- another body, behind the separator or a made one
+-- another body, after the separator or a made one
 pub separated : (eol : Ending) (o : Option TextLine) → separator_or eol o ∷ [] ≡ option_line o ++ made_separator eol o
 separated eol None = refl
 separated eol (Some l) = refl
@@ -74,7 +74,7 @@ body_led envelope eol fs (leaf h ls) text =
       after = body_text eol h text;
     })
 
--- the lines of a multipart in front of a part, and behind it
+-- the lines of a multipart at the start of a part, and after it
 abbrev pub front_of : Head → List TextLine → Parts → List TextLine
 front_of h pre before = head_lines h ++ (pre ++ print_parts before)
 

@@ -71,7 +71,7 @@ place_again : (ks : List ℕ) (e : Entity) → PlaceAgain ks (place_at ks e)
 place_again [] e = λ js x. same_place (place_at js x)
 place_again (k ∷ ks) e = steps_again k ks (step_to k e) (step_again k e) (place_again ks)
 
--- with the root's number in front
+-- with the root's number at the start
 abbrev pub PathAgain : List ℕ → Option (List Frame × Entity) → Type 0
 PathAgain path None = Unit {0}
 PathAgain path (Some q) = (js : List ℕ) (x : Entity) → place_of (path ++ js) (plug q.0 x) ≡ below_place q.0 (place_at js x)

@@ -40,7 +40,7 @@ plan_found text path edit p s =
     ∙ (ap (λ o. with_place o (plan_at (plain_of path edit) eol)) (place_found text path p s)
     ∙ (plan_is path edit eol s.around p.entity ∙ ap (λ ls. plan_of_put s.around p.entity (puts edit ls)) (sym (head_cut text path p s))))
 
--- the lines before the place, and those behind it
+-- the lines before the place, and those after it
 abbrev pub before_put : (text path : List ℕ) (p : Placed) → IsSite text path p → LinePut → List TextLine
 before_put text path p s q = front_lines text path p s ++ q.before
 

@@ -72,7 +72,7 @@ same_test n =
 sizes_are : (text : List ℕ) (xs zs : List TextLine) → cut text ≡ xs ++ zs → length text ≡ size xs + size zs
 sizes_are text xs zs e = omega (arith, ap length (sym (text_cut text)), ap size e, size_append xs zs)
 
--- what stands behind a place, by whether it is the end
+-- what follows a place, by whether it is the end
 some_behind : (text : List ℕ) (xs zs : List TextLine) → cut text ≡ xs ++ zs → (size xs == length text) ≡ false → has_line zs ≡ true
 some_behind text xs [] e h =
     let same : length text ≡ size xs = omega (arith, sizes_are text xs [] e) in

@@ -29,7 +29,7 @@ lines_between : (xs : List TextLine) (y : TextLine) (ys zs : List TextLine) → 
 lines_between [] y ys zs h = lines_behind (y ∷ ys) zs h
 lines_between (x ∷ xs) y ys zs h = (h.0, (λ e. some_nil xs y (ys ++ zs) (h.1 e)), lines_between xs y ys zs h.2)
 
--- the first line behind a header, without a part
+-- the first line after a header, without a part
 tail_stops : (inside : Bool) (b : List ℕ) (l : TextLine) (ls : List TextLine) (t : Option (TextLine × List TextLine)) → mark b l.content ≡ Part → Closes b t → Stops inside (l ∷ ls) → Stops inside (tail_lines t)
 tail_stops inside b l ls None m c s = tt
 tail_stops inside b l ls (Some p) m c s = marks_stop inside b l p.0 ls p.1 (part_mark b l m) (close_mark b p.0 c) s

@@ -23,7 +23,7 @@ start_belongs inside l h = rw h refl
 pub belongs_start : (l : TextLine) → belongs false l ≡ true → is_start l ≡ true
 belongs_start l h = sym (or_false (is_start l)) ∙ h
 
--- a run of its own stands behind anything
+-- a run of its own stands after anything
 pub run_anywhere : (inside : Bool) (ls : List TextLine) → IsRun false ls → IsRun inside ls
 run_anywhere inside [] r = tt
 run_anywhere inside (l ∷ ls) r = (start_belongs inside l (belongs_start l r.0), r.1)
@@ -61,7 +61,7 @@ pub added_run : (top : Bool) (g fields : List TextLine) → IsRun false g → Is
 added_run true g fields r s = run_join false g fields r s
 added_run false g fields r s = run_join false fields g s r
 
--- the lines behind a field begin another
+-- the lines after a field begin another
 pub behind_run : (ls : List TextLine) → IsRun true ls → IsRun false (behind_continuations ls)
 behind_run [] r = tt
 behind_run (l ∷ ls) r =

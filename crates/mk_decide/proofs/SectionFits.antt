@@ -72,7 +72,7 @@ stops_of some l ls h = or_parts (belongs some l) (is_empty l) (not_false (belong
 of_stops : (some : Bool) (l : TextLine) (ls : List TextLine) → Stops some (l ∷ ls) → not (runs_on some l.content) ≡ true
 of_stops some l ls h = rw (h.0, h.1) refl
 
--- an entity behind the head of a message
+-- an entity after the head of a message
 stays_message : (n : ℕ) (h : Head) (x new : Entity) (ls : List TextLine) → not (is_nil (text_of h.fields)) ≡ has_line h.fields → (g : Bool) → not (has_separator h.separator) ≡ g
     → (g ≡ false → Continues h.fields h.separator new) → (g ≡ true → (Stops (has_line h.fields) ls ↔ Continues h.fields h.separator new)) → ((stays_behind (message h x) ls ≡ true) ↔ Continues h.fields h.separator new)
 stays_message n h x new [] m false e u k = ((λ q. u refl), (λ q. refl))
@@ -84,7 +84,7 @@ stays_message n h x new (l ∷ ls) m true e u k =
       (λ q. test ∙ of_stops (has_line h.fields) l ls ((k refl).1 q)),
     )
 
--- behind a separator, or none
+-- after a separator, or none
 free_behind : (fields : List TextLine) (o : Option TextLine) (new : Entity) → not (has_separator o) ≡ false → Continues fields o new
 free_behind fields None new h = true_false h
 free_behind fields (Some l) new h = tt

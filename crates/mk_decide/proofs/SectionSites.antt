@@ -69,7 +69,7 @@ site text (k ∷ ks) p e =
       | inr h ↦ let none : ◌≡◌ {A = Option Placed} None (Some p) = (rw h at e) in some_none p none
     ]
 
--- the lines before the fields of a section, and those behind them
+-- the lines before the fields of a section, and those after them
 abbrev pub front_lines : (text path : List ℕ) (p : Placed) → IsSite text path p → List TextLine
 front_lines text path p s = option_line (tree text).envelope ++ lines_before s.around
 

@@ -57,7 +57,7 @@ level_of (suc (suc n)) k e = (le-ltb 100 (k + 1) (omega (arith, e)), le-ltb 100 
 pub level_is : (ks : List ℕ) (fs : List Frame) → length fs ≡ length ks → IsLevel (left_at levels fs) (length ks + 1)
 level_is ks fs h = level_of (left_at levels fs) (length ks) (left_is levels fs ∙ ap (λ n. 100 - n) h)
 
--- the fields of an entity are those in front of their text
+-- the fields of an entity are those at the start of their text
 pub own_fields : (fields : List TextLine) → AreLines fields → IsRun false fields → fields_in (text_of fields) ≡ fields
 own_fields fields a r = ap (fields_from false) (cut_text fields a) ∙ run_all false fields r
 

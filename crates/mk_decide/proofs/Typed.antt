@@ -50,7 +50,7 @@ quoted_uncommented : (cs : List ℕ) → InQuotes cs → uncommented Quoted (cs 
 quoted_uncommented [] h = refl
 quoted_uncommented (c ∷ cs) h = rw (h.1, h.0) (ap (λ xs. c ∷ xs) (quoted_uncommented cs h.2))
 
--- what stands behind the colon of the made line
+-- what follows the colon of the made line
 abbrev pub made_value : List ℕ → List ℕ → List ℕ
 made_value subtype b = codes " multipart/" ++ (subtype ++ (codes "; boundary=\"" ++ (b ++ codes "\"")))
 

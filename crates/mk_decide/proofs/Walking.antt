@@ -28,7 +28,7 @@ pub none_is : (ls : List TextLine) → None ≡ slice_get ls 0 → ls ≡ []
 none_is [] e = refl
 none_is (m ∷ ls) e = absurd (some_none m e)
 
--- the line at a place, and what stands behind it
+-- the line at a place, and what follows it
 one_line : (l : TextLine) → length (text_of (l ∷ [])) ≡ length (printed_line l)
 one_line l = ap length (append_nil (printed_line l))
 

@@ -93,7 +93,7 @@ pub nil_told : (xs : List ℕ) → (length xs == 0) ≡ is_nil xs
 nil_told [] = refl
 nil_told (x ∷ xs) = not_zero (length (x ∷ xs)) (λ e. absurd (omega (arith, e)))
 
--- behind the tests of what is given
+-- after the tests of what is given
 same_in : (text path numbers subtype b : List ℕ) (p : Placed) → behind_first path ≡ numbers → is_boundary b ≡ true → is_token subtype ≡ true → wrap_in text numbers subtype b p ≡ wrap_answer text (behind_first path) subtype b p
 same_in text path numbers subtype b p n k h = sym (told_in text (behind_first path) subtype b p k h ∙ ap (λ ks. wrap_in text ks subtype b p) n)
 

@@ -23,7 +23,7 @@ use Rattle.mk_decide.proofs.Late.{IsFair, fair, told}
 use Rattle.mk_decide.proofs.EveryEdit.{plan_there}
 use Rattle.mk_decide.proofs.PlacesAgain.{below_place, PathAgain, path_again, section_there}
 
--- an ending put behind lines and taken away again
+-- an ending put after lines and taken away again
 open_kept : (e : Ending) (content : List ℕ) → is_open e ≡ true → text_of (text_line content Missing ∷ []) ≡ text_of (text_line content e ∷ [])
 open_kept Crlf content h = cc
 open_kept Lf content h = cc

@@ -178,7 +178,7 @@ left_named inside name l d h =
       | inr s ↦ rw s refl
     ]
 
--- its value is behind the others
+-- its value is after the others
 pub skip_others : (name : List ℕ) (inside : Bool) (ls ys : List TextLine) → Describes name → field_value name (other_fields inside ls ++ ys) ≡ field_value name ys
 skip_others name inside [] ys d = refl
 skip_others name inside (l ∷ ls) ys d =

@@ -32,7 +32,7 @@ pub any_join : (xs ys : List TextLine) → any_open (xs ++ ys) ≡ (any_open xs 
 any_join [] ys = refl
 any_join (x ∷ xs) ys = ap (λ t. is_open x.ending || t) (any_join xs ys) ∙ sym (or_assoc (is_open x.ending) (any_open xs) (any_open ys))
 
--- a line stands behind
+-- a line stands after
 early_front : (xs : List TextLine) (y : TextLine) (ys : List TextLine) → is_open_early (xs ++ (y ∷ ys)) ≡ (any_open xs || is_open_early (y ∷ ys))
 early_front [] y ys = refl
 early_front (x ∷ []) y ys = ap (λ t. t || is_open_early (y ∷ ys)) (sym (or_none (is_open x.ending)))
@@ -162,7 +162,7 @@ new_open eol front rest fs s subtype b c q r =
     ∙ (ap (λ t. any_open others || t) (inner_open eol fs s q)
     ∙ (sym (or_assoc (any_open others) (any_open content) (any_open body)) ∙ ap (λ t. t || any_open body) (divided_open false (field_lines s)))))))))))
 
--- the old lines, where others stand behind the section and where none do
+-- the old lines, where others stand after the section and where none do
 and_none : (a : Bool) → (a && false) ≡ false
 and_none true = refl
 and_none false = refl

@@ -23,7 +23,7 @@ use Rattle.mk_decide.proofs.PartChanges.{separator_line, separator_mark, separat
 use Rattle.mk_decide.proofs.WrapFields.{content_each, content_marks, are_runs, are_unmarked, content_kind}
 use Rattle.mk_decide.proofs.WrapLevels.{level_multi, kind_down, level_down, levels_down, level_fits}
 
--- an ending put behind lines
+-- an ending put after lines
 ended_by : (eol : Ending) (t : Bool) (l : TextLine) → is_open eol ≡ false → IsLine l → (t ≡ true → EndsWell eol l.content) → Each (if t then text_line l.content eol ∷ [] else l ∷ text_line [] eol ∷ [])
 ended_by eol true l c h m = (record { no_feed = h.no_feed; ends_well = m refl }, tt)
 ended_by eol false l c h m = (h, (made_line eol [] c refl refl, tt))

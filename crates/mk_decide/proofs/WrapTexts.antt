@@ -57,7 +57,7 @@ separator_told : (eol : Ending) (o : Option TextLine) → Each (option_line o) �
 separator_told eol None e = refl
 separator_told eol (Some l) e = ap (λ t. if t then ending_bytes eol else printed_line l ++ []) (no_text (text_of (l ∷ [])) (some_text l [] e.0)) ∙ append_nil (printed_line l)
 
--- the body, with an ending behind it or without
+-- the body, with an ending after it or without
 ended_one : (eol : Ending) (content : List ℕ) (e : Ending) → text_of (if is_open e then text_line content eol ∷ [] else text_line content e ∷ text_line [] eol ∷ []) ≡ ((content ++ ending_bytes e) ++ []) ++ ending_bytes eol
 ended_one eol content Crlf = ap (λ t. (content ++ ending_bytes Crlf) ++ t) (append_nil (ending_bytes eol)) ∙ ap (λ t. t ++ ending_bytes eol) (sym (append_nil (content ++ ending_bytes Crlf)))
 ended_one eol content Lf = ap (λ t. (content ++ ending_bytes Lf) ++ t) (append_nil (ending_bytes eol)) ∙ ap (λ t. t ++ ending_bytes eol) (sym (append_nil (content ++ ending_bytes Lf)))

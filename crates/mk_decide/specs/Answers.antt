@@ -4,7 +4,7 @@ use Rattle.mk_decide.specs.declared.errors.EditError.{EditError}
 use Rattle.mk_decide.specs.declared.errors.EditError.TheVariants as error
 use Rattle.mk_decide.specs.Edits.{Refusal, NoSuchSection, NotMultipart, NotLeaf, NotPart, NoSuchField, BadPlace, BadField, BadName, BadBoundary, BadSubtype, OpenLine, HoldsBoundary, Recut, NothingToUndo, NothingToRedo}
 
--- the reason that an error names; want of memory is none
+-- the reason that an error names; running out of memory is none
 abbrev pub refusal_of : EditError → Option Refusal
 refusal_of error.NoSuchSection = Some NoSuchSection
 refusal_of error.NotMultipart = Some NotMultipart
@@ -28,7 +28,7 @@ abbrev pub is_unnamed : Option Refusal → Bool
 is_unnamed None = true
 is_unnamed (Some e) = false
 
--- want of memory
+-- running out of memory
 abbrev pub is_memory : EditError → Bool
 is_memory e = is_unnamed (refusal_of e)
 

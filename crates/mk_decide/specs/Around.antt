@@ -18,7 +18,7 @@ abbrev pub hit_below : List TextLine → ℕ → List ℕ → Placed → Option 
 hit_below ls level [] p = None
 hit_below ls level (k ∷ ks) p = if marks_any ls (boundary_in p.entity) then Some level else option_and_then (hit_below ls (level + 1) ks) (counted k (children p))
 
--- a message whose fields have no separator behind them
+-- a message whose fields have no separator after them
 abbrev pub glues : Entity → Bool
 glues (leaf h ls) = false
 glues (message h e) = not (has_separator h.separator)

@@ -74,7 +74,7 @@ EditsAreReplacements = (e : PlainEdit) (t : Document) (fs : List Frame) (s : Ent
 abbrev pub FieldsAreCounted : Type 0
 FieldsAreCounted = (name : List ℕ) (k : ℕ) (fields : List TextLine) → option_map (λ f. field_text f.start f.more) (field_at name k fields) ≡ find_field name k (fields_of fields)
 
--- what is found: the lines are those before the field, its own, and those behind it
+-- what is found: the lines are those before the field, its own, and those after it
 abbrev pub IsApart : List TextLine → Option Found → Type 0
 IsApart ls None = Unit {0}
 IsApart ls (Some f) = f.before ++ (f.start ∷ (f.more ++ f.after)) ≡ ls
@@ -83,7 +83,7 @@ IsApart ls (Some f) = f.before ++ (f.start ∷ (f.more ++ f.after)) ≡ ls
 abbrev pub FieldsAreApart : Type 0
 FieldsAreApart = (name : List ℕ) (k : ℕ) (fields : List TextLine) → IsApart fields (field_at name k fields)
 
--- a field start under another name: the name is the new one, and what stands behind it is as it was
+-- a field start under another name: the name is the new one, and what follows it is as it was
 abbrev pub NamesAreReplaced : Type 0
 NamesAreReplaced = (to : List ℕ) (l : TextLine) → is_name to ≡ true → is_start l ≡ true → (name_of (renamed to l) ≡ to) × (behind_name (renamed to l).content ≡ behind_name l.content) × (name_of l ++ behind_name l.content ≡ l.content)
 

@@ -36,7 +36,7 @@ front_lines zero ps = []
 front_lines (suc k) no_parts = []
 front_lines (suc k) (part l e ps) = l ∷ (print e ++ front_lines k ps)
 
--- a part more of a multipart, behind so many
+-- a part more of a multipart, after so many
 abbrev pub part_splices : Ending → ℕ → ℕ → List ℕ → Entity → List Splice
 part_splices eol start place text (leaf h ls) = []
 part_splices eol start place text (message h e) = []

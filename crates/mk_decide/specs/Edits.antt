@@ -11,11 +11,11 @@ pub data PlainEdit : Type 0 where
   RenameField : (path name : List ℕ) → (k : ℕ) → (to : List ℕ) → PlainEdit
   -- a field stands in its place
   SetField : (path name : List ℕ) → (k : ℕ) → (text : List ℕ) → PlainEdit
-  -- other lines behind the head of a leaf
+  -- other lines after the head of a leaf
   SetBody : (path text : List ℕ) → PlainEdit
   -- the entity that a text is read as, in the place of a section
   SetSection : (path text : List ℕ) → PlainEdit
-  -- such an entity as a part more of a multipart, behind so many others
+  -- such an entity as a part more of a multipart, after so many others
   InsertPart : (path : List ℕ) → (place : ℕ) → (text : List ℕ) → PlainEdit
   -- a part goes, with its delimiter
   RemovePart : (path : List ℕ) → PlainEdit

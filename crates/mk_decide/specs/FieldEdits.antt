@@ -10,19 +10,19 @@ use Rattle.mk_head.specs.Fields.{continuations, field_text, is_named}
 abbrev pub starts_named : List ℕ → TextLine → Bool
 starts_named name l = is_start l && is_named name (field_text l [])
 
--- what stands behind the continuations in front
+-- what follows the continuations at the start
 abbrev pub behind_continuations : List TextLine → List TextLine
 behind_continuations [] = []
 behind_continuations (l ∷ ls) = if is_more l then behind_continuations ls else l ∷ ls
 
--- a field among others: the lines before it, its field start, the lines that continue it, the lines behind it
+-- a field among others: the lines before it, its field start, the lines that continue it, the lines after it
 pub record Found : Type 0 where
   pub before : List TextLine
   pub start : TextLine
   pub more : List TextLine
   pub after : List TextLine
 
--- a field found behind a line
+-- a field found after a line
 abbrev pub found_behind : TextLine → Option Found → Option Found
 found_behind l o = option_map (λ (f : Found). record { before = l ∷ f.before; start = f.start; more = f.more; after = f.after }) o
 
@@ -39,7 +39,7 @@ abbrev pub field_at : List ℕ → ℕ → List TextLine → Option Found
 field_at name zero ls = None
 field_at name (suc k) ls = find (starts_named name) k ls
 
--- what stands behind the name that a content begins with
+-- what follows the name that a content begins with
 abbrev pub behind_name : List ℕ → List ℕ
 behind_name [] = []
 behind_name (byte ∷ bytes) = if is_name_byte byte then behind_name bytes else byte ∷ bytes

@@ -17,7 +17,7 @@ plain_of path (Remove name k) = RemoveField path name.now k
 plain_of path (Rename name k to) = RenameField path name.now k to.now
 plain_of path (Set name k text) = SetField path name.now k text.now
 
--- lines in the place of others: those before, those that go, the given ones, those behind; `kept`: the bytes that stay at
+-- lines in the place of others: those before, those that go, the given ones, those after; `kept`: the bytes that stay at
 -- the end of those that go
 pub record LinePut : Type 0 where
   pub before : List TextLine
@@ -35,7 +35,7 @@ add_put false given fields = record { before = fields; old = []; given = given; 
 abbrev pub set_put : List TextLine → Found → LinePut
 set_put given f = record { before = f.before; old = f.start ∷ f.more; given = given; after = f.after; kept = [] }
 
--- a field under another name: what stands behind the name stays
+-- a field under another name: what follows the name stays
 abbrev pub name_put : List ℕ → Found → LinePut
 name_put to f = record {
   before = f.before;
@@ -102,7 +102,7 @@ abbrev pub first_line_size : List TextLine → ℕ
 first_line_size [] = 0
 first_line_size (l ∷ ls) = length (printed_line l)
 
--- the k-th field of a name among lines stands behind so many bytes
+-- the k-th field of a name among lines stands after so many bytes
 pub record IsFieldAt (wanted : List ℕ) (k : ℕ) (ls : List TextLine) (place : ℕ) (field : FieldText) : Type 0 where
   pub found : Found
   pub is : field_at wanted k ls ≡ Some found
@@ -111,7 +111,7 @@ pub record IsFieldAt (wanted : List ℕ) (k : ℕ) (ls : List TextLine) (place :
   pub raw : field.raw ≡ text_of (found.start ∷ found.more)
   pub lines : cut field.raw ≡ found.start ∷ found.more
 
--- what stands behind the name in the first line of a field
+-- what follows the name in the first line of a field
 abbrev pub behind_field_name : FieldText → List ℕ
 behind_field_name f = drop (length f.name) (take (first_line_size (cut f.raw)) f.raw)
 

@@ -8,7 +8,7 @@ use Rattle.mk_tree.specs.Tree.{Entity, leaf, message, multi}
 use Rattle.mk_tree.specs.Documents.{levels}
 use Rattle.mk_tree.specs.Sections.{Placed, children, head_text}
 
--- the fields in front of a text
+-- the fields at the start of a text
 abbrev pub fields_in : List ℕ → List TextLine
 fields_in text = fields_from false (cut text)
 

@@ -73,7 +73,7 @@ answer_puts text numbers p (Err e) = Err e
 abbrev pub answer_at : List ℕ → List ℕ → FieldEdit → Placed → Result PlainSplice Refusal
 answer_at text numbers edit p = answer_puts text numbers p (puts edit (cut (head_text p)))
 
--- the numbers behind the first
+-- the numbers after the first
 abbrev pub behind_first : List ℕ → List ℕ
 behind_first [] = []
 behind_first (k ∷ ks) = ks
@@ -87,7 +87,7 @@ answer_found text path edit (Some p) = answer_at text (behind_first path) edit p
 abbrev pub answer : List ℕ → List ℕ → FieldEdit → Result PlainSplice Refusal
 answer text path edit = answer_found text path edit (section_at path (tree text))
 
--- how many lines are looked at where lines are put in place: one behind the fields, and those of the parts that change
+-- how many lines are looked at where lines are put in place: one after the fields, and those of the parts that change
 -- their default
 abbrev pub looked_bytes : List ℕ → Placed → (from count : ℕ) → List ℕ → ℕ
 looked_bytes text p from count lines = if opens_at text (p.start + from) count lines then 0 else 1 + looked_below (spliced from count lines (head_text p)) p

@@ -1,4 +1,4 @@
--- What is looked at of a section: its lines, and the line behind its fields.
+-- What is looked at of a section: its lines, and the line after its fields.
 use Rattle.std.specs.Prelude.{◌≡◌, ◌<◌, ◌+◌, ◌++◌, ◌∷◌, ◌&&◌, if◌then◌else◌, ℕ, Bool, true, not, Option, List, [], nat_lt, take, drop}
 use Rattle.mk_line.specs.Lines.{TextLine, cut, printed_line}
 use Rattle.mk_line.specs.Kinds.{is_from_line}
@@ -6,7 +6,7 @@ use Rattle.mk_line.specs.Views.{BeginsLine}
 use Rattle.mk_head.specs.Split.{is_more, option_line}
 use Rattle.mk_tree.specs.Spans.{size}
 
--- a line of so many bytes stands at a place, and the next begins behind it
+-- a line of so many bytes stands at a place, and the next begins after it
 pub record IsNext (text : List ℕ) (place : ℕ) (l : TextLine) (n : ℕ) : Type 0 where
   pub lines : cut (drop place text) ≡ l ∷ cut (drop (place + n) text)
   pub front : take (place + n) text ≡ take place text ++ printed_line l

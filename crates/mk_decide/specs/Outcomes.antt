@@ -30,7 +30,7 @@ or_own (Some outer) hits level = Some outer
 abbrev pub hit_level : Plan → Option ℕ
 hit_level p = or_own (hit 1 p.around p.given) (has_mark p.boundary p.inside) (suc (length p.around))
 
--- the reasons behind OpenLine: a multipart is hit; the document would be read in another way
+-- the reasons after OpenLine: a multipart is hit; the document would be read in another way
 abbrev pub unless_hit : Option ℕ → Document → Result Document Refusal
 unless_hit None t = if is_stable t then Ok t else Err Recut
 unless_hit (Some level) t = Err (HoldsBoundary level)

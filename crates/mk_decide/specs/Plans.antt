@@ -36,7 +36,7 @@ plain_plan fs new given = record { around = fs; new = new; given = given; bounda
 abbrev pub fields_plan : List Frame → Entity → List TextLine → List TextLine → Plan
 fields_plan fs s fields given = plain_plan fs (with_fields fields s) given
 
--- with lines put before its fields (top) or behind them
+-- with lines put before its fields (top) or after them
 abbrev pub add_plan : List Frame → Entity → Bool → List TextLine → Plan
 add_plan fs s top given = fields_plan fs s (added top given (field_lines s)) given
 
@@ -66,7 +66,7 @@ with_field (Some x) f = f x
 abbrev pub read_plan : List Frame → List TextLine → Plan
 read_plan fs given = plain_plan fs (read (left_at levels fs) (default_at false fs) given) given
 
--- a leaf with another body, behind its separator or a made one
+-- a leaf with another body, after its separator or a made one
 abbrev pub body_plan : Ending → List Frame → Head → List TextLine → Plan
 body_plan eol fs h given = plain_plan fs (leaf (record { fields = h.fields; separator = Some (separator_or eol h.separator) }) given) given
 
@@ -76,7 +76,7 @@ set_body eol fs (leaf h ls) given = Ok (body_plan eol fs h given)
 set_body eol fs (message h e) given = Err NotLeaf
 set_body eol fs (multi h b pre ps t) given = Err NotLeaf
 
--- parts with so many in front, and the others
+-- parts with so many at the start, and the others
 abbrev pub parts_at : ℕ → Parts → Option (Parts × Parts)
 parts_at zero ps = Some (no_parts, ps)
 parts_at (suc k) no_parts = None

@@ -24,11 +24,11 @@ outer_path path = take (length path - 1) path
 abbrev pub last_number : List ℕ → ℕ
 last_number path = slice_index path (length path - 1)
 
--- whether a line of a content behind fields, some or none, would belong to them or be their separator
+-- whether a line of a content after fields, some or none, would belong to them or be their separator
 abbrev pub runs_on : Bool → List ℕ → Bool
 runs_on some content = (is_field_start content || (some && is_continuation content)) || is_nil content
 
--- whether the first of these lines may stand behind the head of an entity
+-- whether the first of these lines may stand after the head of an entity
 abbrev pub stays_behind : Entity → List TextLine → Bool
 stays_behind e [] = true
 stays_behind e (l ∷ ls) = if glues e then not (runs_on (not (is_nil (text_of (entity_head e).fields))) l.content) else true
@@ -49,7 +49,7 @@ section_answer text numbers given around p =
     answer_by (opens_at text p.start (length (raw_of p)) given) (hit_below (cut given) 1 numbers (root_of (tree text)))
     (stays around p.start (cut given)) (record { place = p.start; count = length (raw_of p); new = given })
 
--- another body of a leaf, behind its separator or a made one
+-- another body of a leaf, after its separator or a made one
 abbrev pub separator_bytes : List ℕ → Placed → List ℕ
 separator_bytes text p = if has_separator (entity_head p.entity).separator then [] else ending_bytes (eol_of (cut text))
 
@@ -81,7 +81,7 @@ body_answer text numbers given p = body_answer_of text numbers given p p.entity
 abbrev pub end_of : Placed → ℕ
 end_of p = p.start + length (raw_of p)
 
--- where the parts behind so many begin, where there are so many
+-- where the parts after so many begin, where there are so many
 abbrev pub gap_at : ℕ → Placed → Option ℕ
 gap_at zero p = Some (body_place p + size (preamble_lines p.entity))
 gap_at (suc k) p = option_map end_of (counted (suc k) (children p))

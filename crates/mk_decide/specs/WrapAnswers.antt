@@ -19,11 +19,11 @@ use Rattle.mk_decide.specs.KindsKept.{keeps_default}
 use Rattle.mk_decide.specs.Around.{hit_below, glued_below}
 use Rattle.mk_decide.specs.LocalAnswers.{PlainSplice, answer_by}
 
--- the fields in front of a text that describe the content, and the others
+-- the fields at the start of a text that describe the content, and the others
 abbrev pub content_part : List ℕ → List ℕ
 content_part head = text_of (content_fields false (cut head))
 
--- the other fields in front of a text
+-- the other fields at the start of a text
 abbrev pub other_part : List ℕ → List ℕ
 other_part head = text_of (other_fields false (cut head))
 
@@ -61,7 +61,7 @@ is_leaf (leaf h ls) = true
 is_leaf (message h e) = false
 is_leaf (multi h b pre ps t) = false
 
--- whether an ending is put behind a section
+-- whether an ending is put after a section
 abbrev pub gains_end : Placed → Bool
 gains_end p = not p.followed && is_leaf p.entity
 

@@ -50,7 +50,7 @@ abbrev pub separator_or : Ending → Option TextLine → TextLine
 separator_or eol None = text_line [] eol
 separator_or eol (Some l) = l
 
--- lines with an ending put behind them: an open last line gets it, else it is an empty line more
+-- lines with an ending put after them: an open last line gets it, else it is an empty line more
 abbrev pub ended_lines : Ending → List TextLine → List TextLine
 ended_lines eol [] = text_line [] eol ∷ []
 ended_lines eol (l ∷ []) = if is_open l.ending then text_line l.content eol ∷ [] else l ∷ text_line [] eol ∷ []
@@ -60,7 +60,7 @@ ended_lines eol (l ∷ m ∷ ls) = l ∷ ended_lines eol (m ∷ ls)
 abbrev pub inner_head : Ending → Head → Head
 inner_head eol h = record { fields = content_fields false h.fields; separator = Some (separator_or eol h.separator) }
 
--- the part: a leaf that no line follows gets an ending, which belongs to the close line behind it
+-- the part: a leaf that no line follows gets an ending, which belongs to the close line after it
 abbrev pub inner_part : Ending → List Frame → Entity → Entity
 inner_part eol fs (leaf h ls) = leaf (inner_head eol h) (if has_line (lines_after fs) then ls else ended_lines eol ls)
 inner_part eol fs (message h e) = message (inner_head eol h) e

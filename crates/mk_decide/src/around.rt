@@ -59,7 +59,7 @@ fn is_mark(mark: Mark) -> bool
     }
 }
 
-/// Whether the section that these numbers lead to from the root stands directly behind the fields of a message, without
+/// Whether the section that these numbers lead to from the root stands directly after the fields of a message, without
 /// a separator between them.
 pub(crate) fn is_glued(doc: &Doc, numbers: &[u32]) -> bool
     ensures { result ≡ glued_below false numbers.now (root_of (tree doc.now)) }
@@ -76,7 +76,7 @@ pub(crate) fn is_glued(doc: &Doc, numbers: &[u32]) -> bool
     glued
 }
 
-// Whether a section is a message whose fields have no separator behind them.
+// Whether a section is a message whose fields have no separator after them.
 pub(crate) fn glues(section: &Section<'_>) -> bool
     ensures { result ≡ glues_below section.now.entity }
 {

@@ -36,7 +36,7 @@ pub fn fields_are_counted()
     ensures { FieldsAreCounted }
 {}
 
-/// The lines before a field that is found, its own and those behind it are all lines.
+/// The lines before a field that is found, its own and those after it are all lines.
 pub fn fields_are_apart()
     ensures { FieldsAreApart }
 {}

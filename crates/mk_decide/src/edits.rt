@@ -4,7 +4,7 @@
 /// its name, without regard to ASCII case, and by its number `k` among the fields of that name, counted from 1.
 #[derive(Debug, Drop)]
 pub enum Edit {
-    /// Puts `text`, exactly one field with its line endings, behind the last field of the section, or before the first
+    /// Puts `text`, exactly one field with its line endings, after the last field of the section, or before the first
     /// where `top` holds.
     AddField {
         path: Vec<u32>,
@@ -31,7 +31,7 @@ pub enum Edit {
         k: u32,
         text: Vec<u8>,
     },
-    /// Puts the lines of `text` in the place of the body of a leaf, behind its separator or an empty line that is made.
+    /// Puts the lines of `text` in the place of the body of a leaf, after its separator or an empty line that is made.
     SetBody {
         path: Vec<u32>,
         text: Vec<u8>,
@@ -41,7 +41,7 @@ pub enum Edit {
         path: Vec<u32>,
         text: Vec<u8>,
     },
-    /// Puts the entity that `text` alone is read as into a multipart, as a part behind `place` others. Its delimiter is
+    /// Puts the entity that `text` alone is read as into a multipart, as a part after `place` others. Its delimiter is
     /// made.
     InsertPart {
         path: Vec<u32>,

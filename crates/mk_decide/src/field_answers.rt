@@ -42,7 +42,7 @@ pub(crate) fn decide_fields(
     }
 }
 
-// The same at a section, by the numbers behind the root's own.
+// The same at a section, by the numbers after the root's own.
 fn decide_at(
     alloc: Global,
     doc: &Doc,

@@ -19,7 +19,7 @@ use std::alloc::{AllocError, Global};
 /// among the fields of that name, counted from 1.
 #[derive(Clone, Copy, Debug)]
 pub enum FieldEdit<'a> {
-    /// Puts `text`, exactly one field with its line endings, behind the last field, or before the first where `top`
+    /// Puts `text`, exactly one field with its line endings, after the last field, or before the first where `top`
     /// holds.
     Add {
         top: bool,
@@ -136,7 +136,7 @@ fn put_name(alloc: Global, head: &[u8], name: &[u8], k: u32, to: &[u8]) -> Resul
     }
 }
 
-// What stands behind the name in the first line of a field.
+// What follows the name in the first line of a field.
 fn behind_name<'a>(field: &Field<'a>) -> &'a [u8]
     requires { length field.now.name.now ≤ first_line_size (lines_of field.now.raw.now) }
     ensures { result.now ≡ behind_field_name (field_view field.now) }
@@ -177,7 +177,7 @@ fn find<'a>(head: &'a [u8], name: &[u8], k: u32) -> Option<(usize, Field<'a>)>
     field_at(head, name, k)
 }
 
-// The k-th field of a name in front of a text, counted from 1, and how many bytes stand before it.
+// The k-th field of a name at the start of a text, counted from 1, and how many bytes stand before it.
 fn field_at<'a>(head: &'a [u8], name: &[u8], k: u32) -> Option<(usize, Field<'a>)>
     ensures { option_map (λ r. (r.0, field_view r.1)) result ≡ placed_field name.now k 0 (fields_of (fields_from false (lines_of head.now))) }
 {

@@ -76,7 +76,7 @@ fn ends_before(body: &[u8], none: bool, first: bool, meter: &mut Meter) -> bool
     }
 }
 
-/// Whether a separator stands behind the fields of a section.
+/// Whether a separator stands after the fields of a section.
 pub fn has_separator(section: &Section<'_>) -> bool
     ensures { result ≡ holds_separator (entity_head section.now.entity).separator }
 {

@@ -75,7 +75,7 @@ fn remove_from(
     }
 }
 
-// Where the parts behind so many begin, in bytes, where there are so many.
+// Where the parts after so many begin, in bytes, where there are so many.
 fn gap(section: &Section<'_>, place: u32) -> Option<usize>
     ensures { result ≡ gap_at place section.now }
 {
@@ -158,7 +158,7 @@ fn insert_between(
     })
 }
 
-// The lines of a part more, behind its delimiter.
+// The lines of a part more, after its delimiter.
 fn with_delimiter(
     alloc: Global,
     doc: &Doc,

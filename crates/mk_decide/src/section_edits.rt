@@ -76,14 +76,14 @@ fn stays(around: &Option<Section<'_>>, start: usize, text: &[u8]) -> bool
     }
 }
 
-// Whether a line may be the first behind the head of a section.
+// Whether a line may be the first after the head of a section.
 fn stays_behind(outer: &Section<'_>, line: &Line<'_>) -> bool
     ensures { result ≡ may_stay_behind outer.now.entity (line_of line.now ∷ []) }
 {
     !glues(outer) || !runs_on(!outer.head().is_empty(), line.content)
 }
 
-// Whether a line behind fields, some or none, would belong to them or be their separator.
+// Whether a line after fields, some or none, would belong to them or be their separator.
 fn runs_on(some: bool, content: &[u8]) -> bool
     ensures { result ≡ may_run_on some content.now }
 {

@@ -68,7 +68,7 @@ fn wrap(
     wrap_in_place(alloc, doc, &path[1..], section, subtype, boundary, meter)
 }
 
-// The same at a section, by the numbers behind the root's own.
+// The same at a section, by the numbers after the root's own.
 fn wrap_in_place(
     alloc: Global,
     doc: &Doc,

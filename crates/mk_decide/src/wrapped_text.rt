@@ -25,7 +25,7 @@ pub(crate) struct Divided {
     pub others: Vec<u8>,
 }
 
-/// Divides the fields in front of a text.
+/// Divides the fields at the start of a text.
 pub(crate) fn divide(alloc: Global, head: &[u8]) -> Result<Divided, AllocError>
     ensures content { IfOk result (λ d. d.content.items ≡ content_part head.now) }
     ensures others { IfOk result (λ d. d.others.items ≡ other_part head.now) }
@@ -147,7 +147,7 @@ fn version_line(
     Ok(line)
 }
 
-/// The made lines, one behind another.
+/// The made lines, one after another.
 pub(crate) fn all_made(alloc: Global, made: &Made) -> Result<Vec<u8>, AllocError>
     ensures { IfOk result (λ v. v.items ≡ ((made.now.version.items ++ made.now.kind.items) ++ made.now.delimiter.items) ++ made.now.close.items) }
 {

@@ -20,7 +20,7 @@ behind_leads : (x y : List ℕ) (ss : List Splice) (r : Together) → LeadsTo ss
 behind_leads x y ss (Ok p) l h = (leads_on ss p.1 x y (printed p.0) l h.0, h.1)
 behind_leads x y ss (Err q) l h = tt
 
--- the edits behind an accepted one are made in what it gave, which is read back
+-- the edits after an accepted one are made in what it gave, which is read back
 next_leads : (e : PlainEdit) (es : List PlainEdit) (x : List ℕ) (r : Result Document Refusal) → edited e (tree x) ≡ r → ((y : List ℕ) → LeadsFrom y (together es (tree y)))
     → LeadsFrom x (made_on (splices_of e (tree x)) (together es) r)
 next_leads e es x (Ok t) o others =

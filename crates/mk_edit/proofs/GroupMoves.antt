@@ -1,4 +1,4 @@
--- A group as a step in memory: what a session's fields are behind it.
+-- A group as a step in memory: what a session's fields are after it.
 use Rattle.std.proofs.Common.{◌≡◌, ◌+◌, ◌++◌, ℕ, Ok, List, [], ◌∷◌, ap, sym, ◌∙◌, subst, take, map}
 use Rattle.std.specs.Global.{Vec}
 use Rattle.mk_tree.specs.Documents.{tree}

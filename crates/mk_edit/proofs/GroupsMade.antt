@@ -29,7 +29,7 @@ made_so e x y r old d o t =
       text = t ∙ ap (λ k. spliced r.place k r.new x) (sym at.1);
     }
 
--- splices made behind others
+-- splices made after others
 goes_append : (ss rs : List Splice) (x : List ℕ) → GoesForth ss x → GoesForth rs (forth_step ss x) → GoesForth (ss ++ rs) x
 goes_append [] rs x g h = h
 goes_append (s ∷ ss) rs x g h = (g.0, goes_append ss rs (forth_one s x) g.1 h)
@@ -40,7 +40,7 @@ goes_next e first x y ss more s m q t g = subst (λ rs. GoesForth rs first) (sym
 pub text_next : (e : PlainEdit) (first x y : List ℕ) (ss more : List Splice) (s : Splice) → IsMade e x s y → more ≡ ss ++ s ∷ [] → x ≡ forth_step ss first → y ≡ forth_step more first
 text_next e first x y ss more s m q t = m.text ∙ (ap (forth_one s) t ∙ (sym (forth_append ss (s ∷ []) first) ∙ ap (λ rs. forth_step rs first) (sym q)))
 
--- one edit more behind those that were made
+-- one edit more after those that were made
 one_more : (i k : ℕ) → i + (1 + k) ≡ (i + 1) + k
 one_more i k = omega arith
 

@@ -1,4 +1,4 @@
--- Fields behind others: the k-th of a name, what an edit puts in its place, and where the search goes on behind it.
+-- Fields after others: the k-th of a name, what an edit puts in its place, and where the search goes on after it.
 use Rattle.std.proofs.Common.{◌≡◌, ◌+◌, ◌-◌, ◌<◌, ◌≤◌, ◌++◌, if◌then◌else◌, ℕ, zero, suc, Bool, true, false, not, Option, None, Some, Result, Ok, Err, List, [], ◌∷◌, Bor, IfSome, refl, ap, sym, ◌∙◌, subst, filter, length, drop, arith, inl, inr}
 use Rattle.std.proofs.lemmas.Bool.{cases_Bool}
 use Rattle.std.proofs.Math.Seq.{drop-append_seam}
@@ -131,7 +131,7 @@ later_refused before (Some e) x h = ap (later_puts before) h
 pub refused_later : (edit : SilentEdit) (ls : List TextLine) (name : List ℕ) (bytes fields k : ℕ) (o : Option Refusal) → (h : HasPassed ls name bytes fields) → IsBehind name fields edit k → IsRefusedBy o (puts (numbered edit k) h.behind) → IsRefusedBy o (puts (numbered edit edit.k) ls)
 refused_later edit ls name bytes fields k o h b r = subst (IsRefusedBy o) (sym (puts_behind edit ls name bytes fields k h b)) (later_refused h.before o (puts (numbered edit k) h.behind) r)
 
--- the text behind the fields that were passed over
+-- the text after the fields that were passed over
 passed_text : (text : List ℕ) (name : List ℕ) (bytes fields : ℕ) → (h : HasPassed (cut text) name bytes fields) → text ≡ text_of h.before ++ text_of h.behind
 passed_text text name bytes fields h = sym (text_cut text) ∙ (ap text_of (sym h.whole) ∙ text_append h.before h.behind)
 
@@ -164,7 +164,7 @@ counted test k [] = tt
 counted test zero (l ∷ ls) = counted_here test l ls (test l) refl (counted test zero ls)
 counted test (suc k) (l ∷ ls) = counted_next test k l ls (test l) refl (counted test (if test l then k else suc k) ls)
 
--- an edit leaves the lines before the field, and a run of fields behind them
+-- an edit leaves the lines before the field, and a run of fields after them
 pub record GoesOn (name : List ℕ) (k : ℕ) (q : LinePut) : Type 0 where
   pub some : 1 ≤ k
   pub holds : length (filter (starts_named name) q.before) ≡ k - 1

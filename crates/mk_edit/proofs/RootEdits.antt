@@ -247,7 +247,7 @@ opens_put text start r q t m b o =
     ∙ (ap (λ n. opens_at text (start + n) (size q.old) (text_of q.given)) (sym m.from)
     ∙ (ap (λ n. opens_at text (start + r.from) n (text_of q.given)) (sym m.count) ∙ (ap (opens_at text (start + r.from) r.count) (sym m.lines) ∙ o)))
 
--- the search goes on behind the splice
+-- the search goes on after the splice
 held_behind : (text : List ℕ) (edit : SilentEdit) (q : LinePut) (r : PlainSplice) (start size : ℕ) → puts (numbered edit edit.k) (lines_in text) ≡ Ok q → IsReplaced text (numbered edit edit.k) q r → start ≡ (root_in text).start → size ≡ length (head_text (root_in text))
     → r.place ≡ start + length (text_of q.before) → Replaces edit text start size r
 held_behind text edit q r start size h d b t p =

@@ -18,7 +18,7 @@ linked_forth x [] (s ∷ ss) h = absurd h
 linked_forth x (y ∷ ys) [] h = absurd h
 linked_forth x (y ∷ ys) (s ∷ ss) h = (h.0.found, subst (AllForth ss) (sym h.0.forth) (linked_forth y ys ss h.1))
 
--- the steps before a text can be taken back from it, and those behind it made
+-- the steps before a text can be taken back from it, and those after it made
 linked_back : (x : List ℕ) (ys : List (List ℕ)) (ss : List (List Splice)) (n : ℕ) → AreLinked x ys ss → n ≤ length ss → AllBack (take n ss) (get_or (x ∷ ys) n []) × (back_all (take n ss) (get_or (x ∷ ys) n []) ≡ x)
 linked_back x ys ss zero h l = (tt, refl)
 linked_back x [] [] (suc n) h l = absurd (omega (arith, l))

@@ -24,7 +24,7 @@ use Rattle.mk_decide.proofs.Renaming.{both, renamed_start}
 use Rattle.mk_decide.proofs.Runs.{more_behind}
 use Rattle.mk_decide.proofs.WrapFields.{start_more}
 
--- lines of which the first continues no field stand behind others
+-- lines of which the first continues no field stand after others
 continued : (xs ys zs : List TextLine) → continuations ys ≡ [] → continuations zs ≡ [] → continuations (xs ++ ys) ≡ continuations (xs ++ zs)
 continued [] ys zs h k = h ∙ sym k
 continued (x ∷ xs) ys zs h k = ap (λ ls. if is_more x then x ∷ ls else []) (continued xs ys zs h k)

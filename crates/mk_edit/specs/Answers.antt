@@ -11,18 +11,18 @@ use Rattle.mk_decide.specs.Answers.{refusal_of, IsRefusedBy}
 use Rattle.mk_edit.specs.History.{History}
 use Rattle.mk_edit.specs.Histories.{left_by, refusal}
 
--- a reply as plain data: nothing where an order was obeyed, or the reason against it; want of memory is no reply
+-- a reply as plain data: nothing where an order was obeyed, or the reason against it; running out of memory is no reply
 abbrev pub reply_of : Reply → Option (Option Refusal)
 reply_of Obeyed = Some None
 reply_of (Refused e) = option_map (λ r. Some r) (refusal_of e)
 reply_of (MemberRefused index e) = option_map (λ r. Some (Member index r)) (refusal_of e)
 
--- what a call answered and left is what is defined; after a refusal, and after want of memory, all is as before
+-- what a call answered and left is what is defined; after a refusal, and after running out of memory, all is as before
 abbrev pub Does : {X : Type 0} → Result X EditError → Result History Refusal → History → History → Type 0
 Does (Ok x) defined old new = defined ≡ Ok new
 Does (Err e) defined old new = (new ≡ old) × IsRefusedBy (refusal_of e) defined
 
--- a group is refused for the member and the reason that are named; want of memory names none
+-- a group is refused for the member and the reason that are named; running out of memory names none
 abbrev pub IsGroupRefusedBy : {X : Type 0} → GroupError → Result X Refusal → Type 0
 IsGroupRefusedBy (MemberIn index e) r = (reason : Refusal) × (refusal_of e ≡ Some reason) × (r ≡ Err (Member index reason))
 IsGroupRefusedBy MemoryIn r = Unit {0}

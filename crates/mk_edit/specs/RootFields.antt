@@ -23,13 +23,13 @@ root_in text = root_of (tree text)
 abbrev pub lines_in : List ℕ → List TextLine
 lines_in text = cut (head_text (root_in text))
 
--- the root's fields take so many bytes at a place, and a separator stands behind them
+-- the root's fields take so many bytes at a place, and a separator stands after them
 pub record HasFields (text : List ℕ) (start size : ℕ) : Type 0 where
   pub begins : start ≡ (root_in text).start
   pub takes : size ≡ length (head_text (root_in text))
   pub separated : has_separator (entity_head (root_in text).entity).separator ≡ true
 
--- fields in front take so many bytes, and so many of them have a name
+-- fields at the start take so many bytes, and so many of them have a name
 pub record HasPassed (ls : List TextLine) (name : List ℕ) (bytes fields : ℕ) : Type 0 where
   pub before : List TextLine
   pub behind : List TextLine
@@ -38,7 +38,7 @@ pub record HasPassed (ls : List TextLine) (name : List ℕ) (bytes fields : ℕ)
   pub holds : length (filter (starts_named name) before) ≡ fields
   pub run : IsRun false behind
 
--- the field of an edit is the k-th of its name behind fields that were passed over
+-- the field of an edit is the k-th of its name after fields that were passed over
 pub record IsBehind (name : List ℕ) (fields : ℕ) (edit : SilentEdit) (k : ℕ) : Type 0 where
   pub named : name ≡ edit.name.now
   pub number : edit.k ≡ fields + k
@@ -49,7 +49,7 @@ pub record IsHeld (text : List ℕ) (start size : ℕ) (name : List ℕ) (bytes 
   pub fields : HasFields text start size
   pub passed : HasPassed (lines_in text) name bytes named
 
--- an edit of the root is accepted, these bytes are its splice, and the root's fields stand at the same place behind it, where
+-- an edit of the root is accepted, these bytes are its splice, and the root's fields stand at the same place after it, where
 -- those before the splice were passed over
 pub record Replaces (edit : SilentEdit) (text : List ℕ) (start size : ℕ) (r : PlainSplice) : Type 0 where
   pub decided : IsDecided (plain_of (1 ∷ []) (numbered edit edit.k)) text r

@@ -36,7 +36,7 @@ described_by text (Err offset) = Err (JournalSyntax offset)
 abbrev pub loaded : List ℕ → List ℕ → Result History JournalRefusal
 loaded text file = described_by text (journal file)
 
--- an error says why the file is refused; want of memory says nothing of it
+-- an error says why the file is refused; running out of memory says nothing of it
 abbrev pub RefusesJournal : LoadError → Result History JournalRefusal → Type 0
 RefusesJournal (SyntaxIn offset) r = r ≡ Err (JournalSyntax offset)
 RefusesJournal OtherIn r = r ≡ Err JournalOther

@@ -1,4 +1,4 @@
-//! A field is looked for behind those that were passed over before.
+//! A field is looked for after those that were passed over before.
 ghost use Rattle.std.specs.Prelude.{◌≡◌, ◌&&◌, false, nat_lt, IfOk, IfErr, IfNone, IfSome};
 ghost use Rattle.std.specs.Str.{bytes_eq};
 ghost use Rattle.mk_line.specs.Lines.{cut as lines_of};
@@ -12,7 +12,7 @@ use crate::silent_edits::SilentEdit;
 use mk_decide::{EditError, Put, put_of};
 use std::alloc::Global;
 
-/// Fields in front.
+/// Fields at the start.
 #[derive(Debug, Drop)]
 pub(crate) struct Passed {
     /// How many bytes they take.
@@ -60,7 +60,7 @@ pub(crate) fn put_behind(
     }
 }
 
-// The same for a field behind those that were passed over, where its number is `k`.
+// The same for a field after those that were passed over, where its number is `k`.
 fn put_at(
     alloc: Global,
     fields: &[u8],
@@ -85,7 +85,7 @@ fn put_at(
     }
 }
 
-// The number of an edit's field among those of its name behind the ones that were passed over. `None` where it isn't known.
+// The number of an edit's field among those of its name after the ones that were passed over. `None` where it isn't known.
 fn number_behind(passed: &Passed, edit: &SilentEdit<'_>) -> Option<u32>
     ensures some { IfSome result (λ k. IsBehind passed.now.name.items passed.now.fields edit.now k) }
     ensures none { IfNone result ((nat_lt passed.now.fields edit.now.k && bytes_eq passed.now.name.items edit.now.name.now) ≡ false) }

@@ -19,7 +19,7 @@ use mk_tree::Doc;
 use std::alloc::{AllocError, Global};
 use std::marker::Model;
 
-/// A text whose root has a separator behind its fields.
+/// A text whose root has a separator after its fields.
 #[derive(Drop)]
 pub(crate) struct RootFields {
     text: Vec<u8>,
@@ -120,7 +120,7 @@ impl RootFields {
     }
 }
 
-// Where the fields of the root begin, and how many bytes they take, where a separator stands behind them.
+// Where the fields of the root begin, and how many bytes they take, where a separator stands after them.
 fn fields_place(doc: &Doc) -> Option<(usize, usize)>
     ensures { IfSome result (λ r. HasFields doc.now r.0 r.1) }
 {

@@ -175,7 +175,7 @@ impl Session {
         }
     }
 
-    /// Makes an edit, and drops the steps that were undone. A refused edit changes nothing, and so does want of memory.
+    /// Makes an edit, and drops the steps that were undone. A refused edit changes nothing, nor does running out of memory.
     pub fn edit(&mut self, edit: &Edit, meter: &mut Meter) -> Result<(), EditError>
         ensures does { Does result (step (Do (edit_of edit.now)) self.old) self.old self.new }
         ensures most { meter.new ≤ meter.old + 2 * edit_lines (edit_of edit.now) (tree (text_now self.old)) + 2 }
@@ -186,7 +186,7 @@ impl Session {
     }
 
     /// Makes edits one after another, as one step, and drops the steps that were undone; a group of no edits is a step
-    /// too. Where one of the edits is refused, nothing changes, and the same for want of memory.
+    /// too. Where one of the edits is refused, or memory runs out, nothing changes.
     pub fn group(&mut self, list: &[Edit], meter: &mut Meter) -> Result<(), GroupError>
         ensures { DoesGroup result (step (Group (map edit_of list.now)) self.old) self.old self.new }
     {

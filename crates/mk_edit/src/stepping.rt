@@ -72,7 +72,7 @@ fn change_of(edit: &Edit, place: usize, count: usize, text: Vec<u8>) -> Change
     }
 }
 
-/// Puts a step behind those that are done, in the place of others.
+/// Puts a step after those that are done, in the place of others.
 pub(crate) fn put_step(steps: &mut Vec<Vec<Splice>>, done: usize, step: Vec<Splice>)
     requires { vec_len steps.old < vec_capacity steps.old }
     ensures { steps.new.items ≡ take done steps.old.items ++ step ∷ [] }

@@ -1,4 +1,4 @@
--- A head and the lines behind it, apart, are read as they are; and what is read is apart.
+-- A head and the lines after it, apart, are read as they are; and what is read is apart.
 use Rattle.std.proofs.Common.{◌≡◌, ◌&&◌, ◌||◌, ◌++◌, ℕ, Bool, true, false, Option, None, Some, List, [], ◌∷◌, refl, ap, sym, ◌∙◌, inl, inr, append_assoc}
 use Rattle.std.proofs.lemmas.Bool.{cases_Bool}
 use Rattle.mk_line.specs.Lines.{TextLine, is_nil}

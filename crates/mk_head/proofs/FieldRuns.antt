@@ -1,4 +1,4 @@
--- One field after another: a field start, its continuations, and the fields behind them.
+-- One field after another: a field start, its continuations, and the fields after them.
 use Rattle.std.proofs.Common.{◌≡◌, ◌==◌, ◌||◌, ◌+◌, ◌≤◌, ◌<◌, if◌then◌else◌, ℕ, suc, zero, Bool, true, false, Option, None, Some, List, [], ◌∷◌, ◌++◌, refl, ap, sym, ◌∙◌, inl, inr, length, take, drop, get_or, arith, length-append, length-drop}
 use Rattle.std.proofs.lemmas.Bool.{cases_Bool, eqb-true}
 use Rattle.mk_line.specs.Ascii.{is_blank, is_name_byte}
@@ -10,7 +10,7 @@ use Rattle.mk_line.proofs.Cuts.{text_append, text_apart, cut_rest, append_nil, l
 use Rattle.mk_head.specs.Split.{is_start, is_more, belongs, fields_from, rest_from}
 use Rattle.mk_head.specs.Fields.{continuations, name_of, field_text, fields_of, counted}
 
--- the lines behind the continuations in front
+-- the lines after the continuations at the start
 abbrev pub behind_more : List TextLine → List TextLine
 behind_more [] = []
 behind_more (l ∷ ls) = if is_more l then behind_more ls else l ∷ ls
@@ -43,7 +43,7 @@ or_true : (a : Bool) → (a || true) ≡ true
 or_true true = refl
 or_true false = refl
 
--- inside a field, the fields are its continuations and the fields behind them
+-- inside a field, the fields are its continuations and the fields after them
 pub fields_inside : (ls : List TextLine) → fields_from true ls ≡ continuations ls ++ fields_from false (behind_more ls)
 fields_inside [] = refl
 fields_inside (l ∷ ls) =
@@ -84,7 +84,7 @@ continuations_inside (l ∷ ls) =
 text_first : (l : TextLine) (ls : List TextLine) → is_start l ≡ true → fields_of (l ∷ ls) ≡ field_text l (continuations ls) ∷ fields_of ls
 text_first l ls h = rw h refl
 
--- the field in front, and the fields behind it
+-- the field at the start, and the fields after it
 pub first_fields : (l : TextLine) (ls : List TextLine) → is_start l ≡ true → fields_from false (l ∷ ls) ≡ l ∷ (continuations ls ++ fields_from false (behind_more ls))
 first_fields l ls h = rw h (ap (λ xs. l ∷ xs) (fields_inside ls))
 
@@ -101,7 +101,7 @@ first_text l ls h =
 first_none : (l : TextLine) (ls : List TextLine) → is_start l ≡ false → fields_from false (l ∷ ls) ≡ []
 first_none l ls h = rw h refl
 
--- what a text shows of the field in front, n bytes long
+-- what a text shows of the field at the start, n bytes long
 pub record FieldInFront (text : List ℕ) (l : TextLine) (ls : List TextLine) (n : ℕ) : Type 0 where
   pub first : length (printed_line l) ≤ length text
   pub behind : cut (drop (length (printed_line l)) text) ≡ ls
@@ -153,7 +153,7 @@ added_size text l ls first more behind e f b m =
 field_same : (l : TextLine) (ms : List TextLine) (name raw : List ℕ) → name ≡ name_of l → raw ≡ text_of (l ∷ ms) → field_text l ms ≡ record { name = name; raw = raw }
 field_same l ms name raw e r = λ i. record { name = sym e i; raw = sym r i }
 
--- what the field in front leaves to say of the fields
+-- what the field at the start leaves to say of the fields
 pub front_text : (text : List ℕ) (l : TextLine) (ls : List TextLine) (n : ℕ) (name raw rest : List ℕ) → cut text ≡ l ∷ ls → is_start l ≡ true → FieldInFront text l ls n → name ≡ name_of l → raw ≡ take n text → rest ≡ drop n text
     → fields_of (fields_from false (cut text)) ≡ record { name = name; raw = raw } ∷ fields_of (fields_from false (cut rest))
 front_text text l ls n name raw rest e s h m r q =

@@ -1,4 +1,4 @@
--- A header as its view: fields counted from 1, and the places behind them.
+-- A header as its view: fields counted from 1, and the places after them.
 use Rattle.std.proofs.Common.{◌≡◌, ◌≢◌, ◌+◌, ◌-◌, ◌≤◌, ◌<◌, ℕ, suc, zero, Bool, true, false, Option, None, Some, List, [], ◌∷◌, ◌++◌, refl, ap, sym, ◌∙◌, length, drop, map, filter, get_or, arith, length-append}
 use Rattle.std.proofs.lemmas.List.{length-map, drop_more}
 use Rattle.std.specs.Option.{option_map}
@@ -56,7 +56,7 @@ append_end : (xs : List FieldText) → xs ++ [] ≡ xs
 append_end [] = refl
 append_end (x ∷ xs) = ap (λ ys. x ∷ ys) (append_end xs)
 
--- the header's view where a separator stands behind its fields
+-- the header's view where a separator stands after its fields
 pub view_some : (fs : List TextLine) (o : Option TextLine) (fields : List FieldText) (end size : ℕ) → fields ≡ fields_of fs → Some size ≡ option_map (λ l. length (printed_line l)) o → end ≡ length (text_of fs) → record { fields = fields; separator = Some end; body = end + size } ≡ header_view (record { fields = fs; separator = o })
 view_some fs None fields end size f e p = absurd (some_none size e)
 view_some fs (Some l) fields end size f e p =

@@ -1,4 +1,4 @@
--- Names byte by byte: blanks before and behind don't count, and case doesn't.
+-- Names byte by byte: blanks before and after don't count, and case doesn't.
 use Rattle.std.proofs.Common.{◌≡◌, ◌==◌, ◌&&◌, ◌+◌, ◌<◌, ◌≤◌, if◌then◌else◌, ℕ, suc, zero, Bool, true, false, not, List, [], ◌∷◌, refl, ap, sym, ◌∙◌, inl, inr, length, drop, get_or, nat_lt, arith, eqb-true}
 use Rattle.std.proofs.lemmas.Bool.{cases_Bool, lt-ltb, ne_eqb}
 use Rattle.std.proofs.lemmas.Bool.Decides.{nat_tests}

@@ -1,4 +1,4 @@
--- Pieces of values, and what stands before and behind a byte.
+-- Pieces of values, and what stands before and after a byte.
 use Rattle.std.proofs.Common.{◌≡◌, ◌==◌, ◌&&◌, ◌+◌, ◌-◌, ℕ, suc, zero, false, Option, None, Some, Result, List, [], ◌∷◌, ◌++◌, refl, ap, sym, ◌∙◌, inl, inr, length, take, drop, slice_index, arith, append_assoc}
 use Rattle.std.proofs.lemmas.Bool.{cases_Bool}
 use Rattle.std.proofs.lemmas.Bool.Decides.{eqb_tells}
@@ -32,7 +32,7 @@ pieces_parts s (b ∷ bytes) =
 one_more : (n : ℕ) → 1 + n ≡ suc n
 one_more n = omega arith
 
--- without the blanks in front
+-- without the blanks at the start
 pub unled_at : (text : List ℕ) → unled text ≡ drop (prefix_len is_blank text) text
 unled_at [] = refl
 unled_at (b ∷ text) =
@@ -55,7 +55,7 @@ pub last_space : (bytes : List ℕ) → (slice_index bytes (length bytes - 1) ==
 last_space [] = refl
 last_space (b ∷ bytes) = last_at b bytes (length (b ∷ bytes) - 1) (omega arith)
 
--- behind the colon of a field's lines
+-- after the colon of a field's lines
 with_contents : (b : ℕ) (content : List ℕ) (e : Ending) (ls : List TextLine) → (b == 58) ≡ false → behind 58 (contents (with_byte b (text_line content e) ∷ ls)) ≡ behind 58 (contents (text_line content e ∷ ls))
 with_contents b content Crlf ls h = rw h refl
 with_contents b [] Lf ls h =
@@ -106,7 +106,7 @@ pub some_token : (text : List ℕ) → (length text == 0) ≡ false → is_nil t
 some_token [] h = cc
 some_token (b ∷ text) h = refl
 
--- the pieces behind a semicolon
+-- the pieces after a semicolon
 pub behind_parts : (rest behind others : List ℕ) (end : ℕ) (b : ℕ) → rest ≡ b ∷ behind → other_pieces Plain behind ≡ pieces_behind (drop end behind) → others ≡ drop end behind → pieces_behind rest ≡ first_piece Plain behind ∷ pieces_behind others
 behind_parts rest behind others end b e o q = ap pieces_behind e ∙ (pieces_parts Plain behind ∙ ap (λ ps. first_piece Plain behind ∷ ps) (o ∙ ap pieces_behind (sym q)))
 

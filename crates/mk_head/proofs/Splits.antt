@@ -1,4 +1,4 @@
--- Nothing is lost in a split: the head's lines and what stands behind them are all lines.
+-- Nothing is lost in a split: the head's lines and what follows them are all lines.
 use Rattle.std.proofs.Common.{◌≡◌, Bool, true, false, List, [], ◌∷◌, ◌++◌, refl, ap, ◌∙◌, append_assoc, inl, inr}
 use Rattle.std.proofs.lemmas.Bool.{cases_Bool}
 use Rattle.mk_line.specs.Lines.{TextLine}

@@ -16,12 +16,12 @@ abbrev pub first_piece : Scan → List ℕ → List ℕ
 first_piece s [] = []
 first_piece s (byte ∷ bytes) = if is_plain s && byte == semicolon then [] else byte ∷ first_piece (scan s byte) bytes
 
--- the pieces behind it
+-- the pieces after it
 abbrev pub other_pieces : Scan → List ℕ → List (List ℕ)
 other_pieces s [] = []
 other_pieces s (byte ∷ bytes) = if is_plain s && byte == semicolon then pieces s bytes else other_pieces (scan s byte) bytes
 
--- the pieces behind a semicolon, where a text begins with it
+-- the pieces after a semicolon, where a text begins with it
 abbrev pub pieces_behind : List ℕ → List (List ℕ)
 pieces_behind [] = []
 pieces_behind (byte ∷ bytes) = pieces Plain bytes

@@ -11,7 +11,7 @@ pub record FieldText : Type 0 where
   pub name : List ℕ
   pub raw : List ℕ
 
--- the continuations in front
+-- the continuations at the start
 abbrev pub continuations : List TextLine → List TextLine
 continuations [] = []
 continuations (l ∷ ls) = if is_more l then l ∷ continuations ls else []
@@ -24,7 +24,7 @@ name_of l = take (prefix_len is_name_byte l.content) l.content
 abbrev pub field_text : TextLine → List TextLine → FieldText
 field_text start more = record { name = name_of start; raw = text_of (start ∷ more) }
 
--- the fields of the lines of a header: each field start, and all continuations directly behind it
+-- the fields of the lines of a header: each field start, and all continuations directly after it
 abbrev pub fields_of : List TextLine → List FieldText
 fields_of [] = []
 fields_of (l ∷ ls) = if is_start l then field_text l (continuations ls) ∷ fields_of ls else fields_of ls
@@ -55,7 +55,7 @@ pub record HeaderView : Type 0 where
   pub separator : Option ℕ
   pub body : ℕ
 
--- where the separator begins, in bytes: behind the fields
+-- where the separator begins, in bytes: after the fields
 abbrev pub place_behind : List TextLine → Option TextLine → Option ℕ
 place_behind fields None = None
 place_behind fields (Some l) = Some (length (text_of fields))

@@ -1,4 +1,4 @@
--- A header and what stands behind it (RFC 5322, 2.1; that the empty line between them may be missing is our own).
+-- A header and what follows it (RFC 5322, 2.1; that the empty line between them may be missing is our own).
 use Rattle.std.specs.Prelude.{◌&&◌, ◌||◌, ◌++◌, if◌then◌else◌, Bool, true, false, Option, None, Some, List, [], ◌∷◌}
 use Rattle.mk_line.specs.Lines.{TextLine, is_nil}
 use Rattle.mk_line.specs.Kinds.{is_field_start, is_continuation}
@@ -19,17 +19,17 @@ is_empty l = is_nil l.content
 abbrev pub belongs : Bool → TextLine → Bool
 belongs inside l = is_start l || (inside && is_more l)
 
--- the lines of the longest run of fields in front
+-- the lines of the longest run of fields at the start
 abbrev pub fields_from : Bool → List TextLine → List TextLine
 fields_from inside [] = []
 fields_from inside (l ∷ ls) = if belongs inside l then l ∷ fields_from true ls else []
 
--- what stands behind that run
+-- what follows that run
 abbrev pub rest_from : Bool → List TextLine → List TextLine
 rest_from inside [] = []
 rest_from inside (l ∷ ls) = if belongs inside l then rest_from true ls else l ∷ ls
 
--- an empty line behind the fields is the separator
+-- an empty line after the fields is the separator
 abbrev pub separator_of : List TextLine → Option TextLine
 separator_of [] = None
 separator_of (l ∷ ls) = if is_empty l then Some l else None
@@ -48,7 +48,7 @@ pub record Head : Type 0 where
 abbrev pub head_of : List TextLine → Head
 head_of ls = record { fields = fields_from false ls; separator = separator_of (rest_from false ls) }
 
--- the body behind it
+-- the body after it
 abbrev pub behind_head : List TextLine → List TextLine
 behind_head ls = body_of (rest_from false ls)
 

@@ -1,4 +1,4 @@
--- A head and the lines behind it, apart.
+-- A head and the lines after it, apart.
 use Rattle.std.specs.Prelude.{◌≡◌, Bool, true, false, Option, None, Some, List, [], ◌∷◌}
 use Rattle.mk_line.specs.Lines.{TextLine}
 use Rattle.mk_head.specs.Split.{Head, belongs, is_empty}
@@ -18,12 +18,12 @@ abbrev pub Stops : Bool → List TextLine → Type 0
 Stops inside [] = Unit {0}
 Stops inside (l ∷ ls) = (belongs inside l ≡ false) × (is_empty l ≡ false)
 
--- behind a separator nothing is asked; without one the first line must stop the fields
+-- after a separator nothing is asked; without one the first line must stop the fields
 abbrev pub Follows : Bool → Option TextLine → List TextLine → Type 0
 Follows inside (Some l) ls = is_empty l ≡ true
 Follows inside None ls = Stops inside ls
 
--- the head and the lines behind it are apart
+-- the head and the lines after it are apart
 pub record IsSplit (h : Head) (ls : List TextLine) : Type 0 where
   pub run : IsRun false h.fields
   pub next : Follows (has_line h.fields) h.separator ls

@@ -14,6 +14,6 @@ abbrev pub or_nothing : Option (List ℕ) → List ℕ
 or_nothing None = []
 or_nothing (Some bytes) = bytes
 
--- what stands behind the first colon
+-- what follows the first colon
 abbrev pub value_in : List TextLine → List ℕ
 value_in ls = or_nothing (behind colon (contents ls))

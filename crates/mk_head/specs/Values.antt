@@ -7,7 +7,7 @@ use Rattle.mk_line.specs.Lines.{is_nil}
 use Rattle.mk_line.specs.Marks.{trimmed}
 use Rattle.mk_line.specs.Parting.{before, behind}
 
--- where a byte of a value stands: outside, in a quoted string, or in a comment with so many comments around it; behind
+-- where a byte of a value stands: outside, in a quoted string, or in a comment with so many comments around it; after
 -- a backslash a byte is escaped
 pub data Scan : Type 0 where
   Plain : Scan
@@ -16,7 +16,7 @@ pub data Scan : Type 0 where
   Comment : ℕ → Scan
   CommentEscaped : ℕ → Scan
 
--- behind the end of a comment
+-- after the end of a comment
 abbrev pub out_of : ℕ → Scan
 out_of zero = Plain
 out_of (suc depth) = Comment depth
@@ -60,7 +60,7 @@ abbrev pub pieces : Scan → List ℕ → List (List ℕ)
 pieces s [] = [] ∷ []
 pieces s (byte ∷ bytes) = if is_plain s && byte == semicolon then [] ∷ pieces s bytes else push_first byte (pieces (scan s byte) bytes)
 
--- without the blanks in front
+-- without the blanks at the start
 abbrev pub unled : List ℕ → List ℕ
 unled [] = []
 unled (byte ∷ bytes) = if is_blank byte then unled bytes else byte ∷ bytes
@@ -69,7 +69,7 @@ unled (byte ∷ bytes) = if is_blank byte then unled bytes else byte ∷ bytes
 abbrev pub stripped : List ℕ → List ℕ
 stripped bytes = trimmed (unled bytes)
 
--- a quoted string up to its closing quote, each backslash replaced by the byte behind it
+-- a quoted string up to its closing quote, each backslash replaced by the byte after it
 abbrev pub unquoted : Bool → List ℕ → List ℕ
 unquoted escaped [] = []
 unquoted true (byte ∷ bytes) = byte ∷ unquoted false bytes

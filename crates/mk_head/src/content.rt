@@ -122,7 +122,7 @@ fn parameters(alloc: Global, text: &[u8]) -> Result<Vec<(Vec<u8>, Vec<u8>)>, All
     Ok(params)
 }
 
-// Puts the parameter that a piece is behind others. Other pieces are skipped.
+// Puts the parameter that a piece is after others. Other pieces are skipped.
 fn push_parameter(
     alloc: Global,
     params: &mut Vec<(Vec<u8>, Vec<u8>)>,

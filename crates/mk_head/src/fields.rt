@@ -6,7 +6,7 @@ ghost use Rattle.mk_head.specs.Views.{field_view};
 
 use std::marker::Model;
 
-/// A field of a header: a field start and all continuations directly behind it.
+/// A field of a header: a field start and all continuations directly after it.
 #[derive(Clone, Copy, Debug)]
 pub struct Field<'a> {
     /// The name as it is spelt.

@@ -4,12 +4,12 @@ ghost use Rattle.mk_head.specs.Laws.{BoundariesAreTrimmed, ParametersAreBytes, R
 ghost use Rattle.mk_head.specs.Types.{header_type};
 ghost use Rattle.mk_head.specs.Values.{media_type};
 
-/// A head and lines behind it that don't run on into it are read as that head and those lines.
+/// A head and lines after it that don't run on into it are read as that head and those lines.
 pub fn splits_are_read()
     ensures { SplitsAreRead }
 {}
 
-/// The head that lines are read as, and the lines behind it, are apart.
+/// The head that lines are read as, and the lines after it, are apart.
 pub fn reads_are_split()
     ensures { ReadsAreSplit }
 {}

@@ -1,4 +1,4 @@
-//! The fields in front of a text, one by one and without memory.
+//! The fields at the start of a text, one by one and without memory.
 ghost use Rattle.std.specs.Prelude.{◌≡◌, ◌≤◌, false, length};
 ghost use Rattle.std.specs.Iterator.{YieldsFirstBy, item_count};
 ghost use Rattle.mk_line.specs.Lines.{cut as lines_of};
@@ -10,7 +10,7 @@ use crate::fields::Field;
 use crate::reading::first_field;
 use std::marker::Model;
 
-/// The fields in front of a text that are still to come, from the first on.
+/// The fields at the start of a text that are still to come, from the first on.
 #[derive(Drop)]
 pub struct Fields<'a> {
     rest: &'a [u8],
@@ -41,7 +41,7 @@ impl<'a> Iterator for Fields<'a> {
     }
 }
 
-/// The fields in front of a text, the longest run of them.
+/// The fields at the start of a text, the longest run of them.
 pub fn each_field(text: &[u8]) -> Fields<'_>
     ensures fields { result ≡ fields_of (fields_from false (lines_of text.now)) }
     ensures few { length result ≤ length text.now }

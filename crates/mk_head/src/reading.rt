@@ -11,7 +11,7 @@ use crate::fields::{Field, Header};
 use mk_line::{Lines, cut, is_continuation, name_len};
 use std::alloc::{AllocError, Global};
 
-/// The header that a text begins with: the longest run of fields in front, and the empty line behind it, if one is there.
+/// The header that a text begins with: the longest run of fields at the start, and the empty line after it, if one is there.
 pub fn header(alloc: Global, text: &[u8]) -> Result<Header<'_>, AllocError>
     ensures { IfOk result (λ h. h ≡ header_view (head_of (lines_of text.now))) }
 {
@@ -59,7 +59,7 @@ fn all_continue(lines: Lines<'_>) -> bool
     true
 }
 
-// The field in front, and what stands behind it.
+// The field at the start, and what follows it.
 pub(crate) fn first_field(text: &[u8]) -> Option<(Field<'_>, &[u8])>
     ensures none { IfNone result (fields_from false (lines_of text.now) ≡ []) }
     ensures field { IfSome result (λ r. fields_of (fields_from false (lines_of text.now)) ≡ field_view r.0 ∷ fields_of (fields_from false (lines_of r.1.now))) }
@@ -79,7 +79,7 @@ pub(crate) fn first_field(text: &[u8]) -> Option<(Field<'_>, &[u8])>
     Some((field, rest))
 }
 
-// How many bytes the continuations in front take.
+// How many bytes the continuations at the start take.
 fn continuations_size(text: &[u8]) -> usize
     ensures { result ≡ length (text_of (continuations (lines_of text.now))) }
 {
@@ -93,7 +93,7 @@ fn continuations_size(text: &[u8]) -> usize
     size
 }
 
-// How many bytes the empty line in front takes, if there is one.
+// How many bytes the empty line at the start takes, if there is one.
 fn separator_size(text: &[u8]) -> Option<usize>
     ensures { result ≡ option_map (λ l. length (printed_line l)) (separator_of (lines_of text.now)) }
 {

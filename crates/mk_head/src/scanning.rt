@@ -32,7 +32,7 @@ impl Scan {
     ghost use Rattle.mk_head.specs.ValueViews.{scan_of};
     ghost use Rattle.mk_head.specs.Depths.{depth_of};
 
-    /// Where the byte behind this one stands.
+    /// Where the byte after this one stands.
     pub fn next(self, byte: u8) -> Scan
         requires { depth_of (scan_of self) + 1 < 2 ^ 64 }
         ensures is { scan_of result ≡ scanned (scan_of self) byte }
@@ -102,7 +102,7 @@ fn in_comment(byte: u8, depth: usize) -> Scan
     }
 }
 
-// Behind the end of a comment.
+// After the end of a comment.
 fn outer(depth: usize) -> Scan
     ensures is { scan_of result ≡ out_of depth }
     ensures depth { depth_of (scan_of result) ≤ depth }
@@ -145,8 +145,8 @@ pub fn piece_end(text: &[u8]) -> usize
     text.len()
 }
 
-/// A quoted string from behind its opening quote on, up to its closing quote, each backslash replaced by the byte
-/// behind it.
+/// A quoted string from after its opening quote on, up to its closing quote, each backslash replaced by the byte
+/// after it.
 pub fn unquote(alloc: Global, text: &[u8]) -> Result<Vec<u8>, AllocError>
     ensures { IfOk result (λ value. value.items ≡ unquoted false text.now) }
 {

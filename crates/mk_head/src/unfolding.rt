@@ -9,7 +9,7 @@ use std::alloc::{AllocError, Global};
 
 const COLON: u8 = b':';
 
-/// The value of a field: the contents of its lines, joined, from behind the first colon.
+/// The value of a field: the contents of its lines, joined, from after the first colon.
 pub fn unfold(alloc: Global, field: &Field<'_>) -> Result<Vec<u8>, AllocError>
     ensures { IfOk result (λ v. v.items ≡ value_in (lines_of field.now.raw.now)) }
 {

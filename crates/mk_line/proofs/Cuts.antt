@@ -195,7 +195,7 @@ cut_unfound text l h o e =
     cut_whole text o (no_feed text (λ k q. false_from_ne_true (slice_index text k == 10) (h k (omega arith) q)))
     ∙ (ap (λ m. m ∷ []) (sym e) ∙ ap (λ xs. l ∷ cut xs) (sym (take_rest text (length text) ∙ drop-length text)))
 
--- lines behind lines of a text
+-- lines after lines of a text
 pub lines_behind : (xs ys : List TextLine) → AreLines (xs ++ ys) → AreLines ys
 lines_behind [] ys h = h
 lines_behind (x ∷ xs) ys h = lines_behind xs ys h.2
@@ -208,7 +208,7 @@ drop_front : (xs ys : List ℕ) → drop (length xs) (xs ++ ys) ≡ ys
 drop_front [] ys = refl
 drop_front (x ∷ xs) ys = drop_front xs ys
 
--- where a text's lines are apart, so are their bytes, and what stands behind is cut the same way
+-- where a text's lines are apart, so are their bytes, and what follows is cut the same way
 pub text_apart : (text : List ℕ) (xs ys : List TextLine) → cut text ≡ xs ++ ys → text ≡ text_of xs ++ text_of ys
 text_apart text xs ys e = sym (text_cut text) ∙ (ap text_of e ∙ text_append xs ys)
 
@@ -258,7 +258,7 @@ begins_behind text (x ∷ xs) (y ∷ ys) e o l =
     let f = feed_before (x ∷ xs) y ys (subst AreLines e (lines_cut text)) (some_nil x xs) in
     feed_place text f.0 (text_of (y ∷ ys)) (length (text_of (x ∷ xs))) (text_apart text (x ∷ xs) (y ∷ ys) e ∙ ap (λ t. t ++ text_of (y ∷ ys)) f.1) (ap length f.1)
 
--- a line begins behind lines of a text
+-- a line begins after lines of a text
 pub begins_line : (text : List ℕ) (xs ys : List TextLine) → cut text ≡ xs ++ ys → BeginsLine text (length (text_of xs))
 begins_line text xs ys e = record {
   within = let size : length text ≡ length (text_of xs ++ text_of ys) = ap length (text_apart text xs ys e) in omega (arith, size, length-append (text_of xs) (text_of ys));

@@ -30,7 +30,7 @@ split_first b text n h = lacks_front b text n (λ k l. false_from_ne_true (slice
 pub split_unfound : (b : ℕ) (text : List ℕ) → IsFirstByte (is_byte b) text None → has_byte b text ≡ false
 split_unfound b text h = lacks_all b text (λ k l. false_from_ne_true (slice_index text k == b) (h k (omega arith) l))
 
--- before and behind the first byte of a kind
+-- before and after the first byte of a kind
 before_none : (mark : ℕ) (text : List ℕ) → ((k : ℕ) → k < length text → (slice_index text k == mark) ≡ false) → behind mark text ≡ None
 before_none mark [] h = refl
 before_none mark (b ∷ text) h = rw (h 0 (omega arith)) (before_none mark text (λ k l. h (suc k) (omega arith)))

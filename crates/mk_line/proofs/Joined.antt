@@ -1,4 +1,4 @@
--- Bytes written one behind another.
+-- Bytes written one after another.
 use Rattle.std.proofs.Common.{◌≡◌, ◌++◌, if◌then◌else◌, ℕ, List, Result, Ok, Err, OnOk, is_ok, ap, ◌∙◌, append_assoc}
 
 pub on_ok : {A E : Type 0} (r : Result A E) (P Q : Type 0) → OnOk r P → (P → Q) → OnOk r Q
@@ -10,6 +10,6 @@ pub written : {A E : Type 0} (r : Result A E) (old other new : List ℕ) → new
 written (Ok x) old other new h = h
 written (Err e) old other new h = tt
 
--- a piece, and the rest behind it
+-- a piece, and the rest after it
 pub joined : (t a rest u w : List ℕ) → u ≡ t ++ a → w ≡ u ++ rest → w ≡ t ++ (a ++ rest)
 joined t a rest u w p q = q ∙ (ap (λ x. x ++ rest) p ∙ append_assoc t a rest)

@@ -9,7 +9,7 @@ use Rattle.mk_line.specs.Kinds.{is_past_blanks_colon, is_after_name, is_field_st
 one_more : (n : ℕ) → 1 + n ≡ suc n
 one_more n = omega arith
 
--- the colon stands behind the blanks in front
+-- the colon stands after the blanks at the start
 pub past_at : (cs : List ℕ) → is_past_blanks_colon cs ≡ (slice_index cs (prefix_len is_blank cs) == 58)
 past_at [] = refl
 past_at (c ∷ cs) =
@@ -26,7 +26,7 @@ beyond (c ∷ cs) (suc n) h = beyond cs n (omega (arith, h))
 pub past_beyond : (cs : List ℕ) (n : ℕ) → n ≡ prefix_len is_blank cs → length cs ≤ n → false ≡ is_past_blanks_colon cs
 past_beyond cs n e h = sym (past_at cs ∙ (ap (λ k. slice_index cs k == 58) (sym e) ∙ ap (λ c. c == 58) (beyond cs n h)))
 
--- behind the bytes of the name
+-- after the bytes of the name
 pub after_at : (cs : List ℕ) → is_after_name cs ≡ is_past_blanks_colon (drop (prefix_len is_name_byte cs) cs)
 after_at [] = refl
 after_at (c ∷ cs) =
@@ -51,7 +51,7 @@ start_past (c ∷ cs) o =
       | inr h ↦ let none : 0 < 0 = (rw h at o) in absurd (omega (arith, none))
     ]
 
--- a name of n bytes in front, by what stands behind it
+-- a name of n bytes at the start, by what follows it
 pub unnamed : (cs : List ℕ) (n : ℕ) → n ≡ prefix_len is_name_byte cs → n ≡ 0 → None ≡ name_len cs
 unnamed cs n e z = rw (start_none cs (sym e ∙ z)) refl
 

@@ -31,6 +31,6 @@ mark boundary content =
 abbrev pub delimiter_line : Ending → List ℕ → TextLine
 delimiter_line eol boundary = text_line (dashed boundary) eol
 
--- the close line behind the last part (RFC 2046, 5.1.1)
+-- the close line after the last part (RFC 2046, 5.1.1)
 abbrev pub close_line : Ending → List ℕ → TextLine
 close_line eol boundary = text_line (dashed boundary ++ codes "--") eol

@@ -1,4 +1,4 @@
--- What stands before and behind the first of some bytes.
+-- What stands before and after the first of some bytes.
 use Rattle.std.specs.Prelude.{◌==◌, if◌then◌else◌, ℕ, Bool, Option, None, Some, List, [], ◌∷◌}
 use Rattle.std.specs.List.{list_any}
 
@@ -11,7 +11,7 @@ abbrev pub before : ℕ → List ℕ → List ℕ
 before mark [] = []
 before mark (byte ∷ bytes) = if byte == mark then [] else byte ∷ before mark bytes
 
--- what stands behind it, where it is there
+-- what follows it, where it is there
 abbrev pub behind : ℕ → List ℕ → Option (List ℕ)
 behind mark [] = None
 behind mark (byte ∷ bytes) = if byte == mark then Some bytes else behind mark bytes

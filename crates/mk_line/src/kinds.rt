@@ -73,7 +73,7 @@ fn is_name_byte(byte: u8) -> bool
     byte >= FIRST_OF_NAME && byte <= LAST_OF_NAME && byte != COLON
 }
 
-// How many bytes of a name stand in front.
+// How many bytes of a name stand at the start.
 fn name_front(content: &[u8]) -> usize
     ensures front { result ≡ prefix_len name_byte content.now }
     ensures within { result ≤ length content.now }
@@ -92,7 +92,7 @@ pub fn leading_blanks(bytes: &[u8]) -> usize
     bytes.iter().take_while(|byte| is_blank(**byte)).count()
 }
 
-// Whether blanks or none and then a colon stand in front.
+// Whether blanks or none and then a colon stand at the start.
 fn opens_value(content: &[u8]) -> bool
     ensures { result ≡ is_past_blanks_colon content.now }
 {

@@ -4,7 +4,7 @@ ghost use Rattle.mk_line.specs.Parting.{before, behind, has_byte};
 
 use memchr::memchr;
 
-/// What stands before the first byte of a kind, and what stands behind it; `None` where no such byte is there.
+/// What stands before the first byte of a kind, and what follows it; `None` where no such byte is there.
 pub fn split_at_first(text: &[u8], mark: u8) -> Option<(&[u8], &[u8])>
     ensures none { IfNone result (behind mark text.now ≡ None) }
     ensures some { IfSome result (λ p. (p.0.now ≡ before mark text.now) × (behind mark text.now ≡ Some p.1.now)) }

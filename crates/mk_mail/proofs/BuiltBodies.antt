@@ -1,4 +1,4 @@
--- The body of a part: an encoded text with an ending behind it.
+-- The body of a part: an encoded text with an ending after it.
 use Rattle.std.proofs.Common.{◌≡◌, ◌==◌, ◌&&◌, ◌++◌, if◌then◌else◌, ℕ, Bool, true, false, List, [], ◌∷◌, refl, ap, sym, ◌∙◌, inl, inr, append_assoc}
 use Rattle.std.proofs.lemmas.Bool.{cases_Bool, eqb-true, ne_eqb}
 use Rattle.std.proofs.lemmas.List.Folds.{list_all-append}
@@ -26,7 +26,7 @@ abbrev pub AreFree : List TextLine → Type 0
 AreFree [] = Unit {0}
 AreFree (l ∷ ls) = (begins_hyphen l.content ≡ false) × AreFree ls
 
--- none behind the first
+-- none after the first
 abbrev AreFreeBehind : List TextLine → Type 0
 AreFreeBehind [] = Unit {0}
 AreFreeBehind (l ∷ ls) = AreFree ls
@@ -59,7 +59,7 @@ first_free : (byte : ℕ) (ls : List TextLine) → AreFree (onto_first byte ls) 
 first_free byte [] h = h.0
 first_free byte (l ∷ ls) h = by_first ((is_lf l.ending && is_nil l.content) && byte == 13) byte l (λ t. (both (is_lf l.ending && is_nil l.content) (byte == 13) t).1) h.0
 
--- an ending behind a text makes no line begin with a hyphen
+-- an ending after a text makes no line begin with a hyphen
 mutual
   pub free_ended : (text : List ℕ) (e : Ending) → is_open e ≡ false → AreFree (cut text) → AreFree (cut (text ++ ending_bytes e))
   free_ended [] Crlf c h = (refl, tt)

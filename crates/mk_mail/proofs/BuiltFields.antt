@@ -1,4 +1,4 @@
--- The fields in front of a built message: their lines are fields, and none says a content.
+-- The fields at the start of a built message: their lines are fields, and none says a content.
 use Rattle.std.proofs.Common.{◌≡◌, ◌==◌, ◌&&◌, ◌-◌, ◌++◌, if◌then◌else◌, ℕ, suc, Bool, true, false, not, List, [], ◌∷◌, refl, ap, sym, ◌∙◌, subst, append_assoc, codes, drop, length, nat_eq, inl, inr, arith}
 use Rattle.std.proofs.lemmas.Bool.{cases_Bool, eqb-true, or_parts}
 use Rattle.std.specs.Cmp.Lexicographic.{pointwise}
@@ -35,7 +35,7 @@ all_more : (ls : List TextLine) → list_all is_more ls ≡ true → AreMore ls
 all_more [] h = tt
 all_more (l ∷ ls) h = let p = both (is_more l) (list_all is_more ls) h in (p.0, all_more ls p.1)
 
--- lines that continue behind the first
+-- lines that continue after the first
 abbrev AreMoreBehind : List TextLine → Type 0
 AreMoreBehind [] = Unit {0}
 AreMoreBehind (l ∷ ls) = AreMore ls
@@ -91,7 +91,7 @@ fed_rest : (byte : ℕ) (bytes : List ℕ) → ends_fed (byte ∷ bytes) ≡ fal
 fed_rest byte [] h = refl
 fed_rest byte (next ∷ bytes) h = h
 
--- an ending behind an open last line
+-- an ending after an open last line
 mutual
   more_ended : (text : List ℕ) (e : Ending) → is_open e ≡ false → is_nil text ≡ false → ends_fed text ≡ false → AreMore (cut text) → AreMore (cut (text ++ ending_bytes e))
   more_ended [] e c n f h = absurd cc
@@ -132,7 +132,7 @@ closed_fed (byte ∷ []) h =
     unfed byte n h = let bad : false ≡ true = sym n ∙ h in cc
 closed_fed (byte ∷ next ∷ bytes) h = one_more (byte == 10) byte (cut (next ∷ bytes)) (closed_fed (next ∷ bytes) h)
 
--- the lines of a field that may stand in front
+-- the lines of a field that may stand at the start
 pub record IsFieldLines (ls : List TextLine) : Type 0 where
   pub first : TextLine
   pub more : List TextLine
@@ -207,7 +207,7 @@ abbrev pub fields_lines : Ending → List (List ℕ) → List TextLine
 fields_lines eol [] = []
 fields_lines eol (field ∷ fields) = cut (closed_field eol field) ++ fields_lines eol fields
 
--- all may stand in front
+-- all may stand at the start
 abbrev pub AreFreeFields : List (List ℕ) → Type 0
 AreFreeFields [] = Unit {0}
 AreFreeFields (field ∷ fields) = (is_free_field field ≡ true) × AreFreeFields fields

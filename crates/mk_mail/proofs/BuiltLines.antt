@@ -1,4 +1,4 @@
--- The lines of texts that end with an ending, one text behind another.
+-- The lines of texts that end with an ending, one text after another.
 use Rattle.std.proofs.Common.{◌≡◌, ◌==◌, ◌&&◌, ◌++◌, if◌then◌else◌, ℕ, Bool, true, false, List, [], ◌∷◌, refl}
 use Rattle.mk_line.specs.declared.cutting.Ending.{Ending}
 use Rattle.mk_line.specs.declared.cutting.Ending.TheVariants.{Crlf, Lf, Missing}
@@ -34,7 +34,7 @@ pub one_more : (t : Bool) (byte : ℕ) (ls : List TextLine) → AreSome ls → A
 one_more true byte ls h = (refl, some_closed ls h)
 one_more false byte ls h = closed_onto byte ls h
 
--- a text with an ending behind it has no open line
+-- a text with an ending after it has no open line
 pub cut_ended : (text : List ℕ) (e : Ending) → is_open e ≡ false → AreSome (cut (text ++ ending_bytes e))
 cut_ended [] Crlf h = (refl, tt)
 cut_ended [] Lf h = (refl, tt)
@@ -46,7 +46,7 @@ absurd_open Crlf m h = absurd cc
 absurd_open Lf m h = absurd cc
 absurd_open Missing m h = absurd cc
 
--- closed lines with lines behind them
+-- closed lines with lines after them
 pub lines_joined : (xs ys : List TextLine) → AreLines xs → AreClosed xs → AreLines ys → AreLines (xs ++ ys)
 lines_joined [] ys h c k = k
 lines_joined (x ∷ xs) ys h c k = (h.0, λ m. absurd_open x.ending m c.0, lines_joined xs ys h.2 c.1 k)

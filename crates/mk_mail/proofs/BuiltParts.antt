@@ -238,7 +238,7 @@ content_by : (eol : Ending) (base64 : Bool) (text : List ℕ) → is_open eol �
 content_by eol true text c small = base64_back eol text (not_missing eol c) small
 content_by eol false text c small = sym (qp_back eol text (not_missing eol c) small)
 
--- the content of the part, where lines stand behind it, is what was attached
+-- the content of the part, where lines stand after it, is what was attached
 pub part_content : (start : ℕ) (digest : Bool) (eol : Ending) (a : Attached) → is_open eol ≡ false → AreBytes a.text → IsContentOf (record { start = start; followed = true; digest = digest; entity = part_entity eol a }) a.text
 part_content start digest eol a c small =
     rw (says_encoding eol a.media a.name a.base64, body_content (encoded eol a) eol c (no_returns eol a small)) (content_by eol a.base64 a.text c small)

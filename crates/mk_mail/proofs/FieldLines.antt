@@ -13,7 +13,7 @@ abbrev pub first_content : List TextLine → List ℕ
 first_content [] = []
 first_content (l ∷ ls) = l.content
 
--- the bytes of a name in front
+-- the bytes of a name at the start
 abbrev pub name_in : List ℕ → List ℕ
 name_in bytes = take (prefix_len is_name_byte bytes) bytes
 
@@ -78,7 +78,7 @@ name_first (byte ∷ bytes) =
           (name_one byte (first_content (cut bytes)) ∙ (ap (λ ns. if is_name_byte byte then byte ∷ ns else []) (name_first bytes) ∙ sym (name_one byte bytes))))
     ]
 
--- bytes behind change neither
+-- bytes after change neither
 past_more : (x y : List ℕ) → is_past_blanks_colon x ≡ true → is_past_blanks_colon (x ++ y) ≡ true
 past_more [] y h = absurd cc
 past_more (byte ∷ bytes) y h =

@@ -231,7 +231,7 @@ envelope_some : (ls : List TextLine) → AreSomeLines (option_line (document_of 
 envelope_some [] = tt
 envelope_some (l ∷ ls) = env_some (is_from_line l.content) l ls refl
 
--- a From-line in front is the envelope
+-- a From-line at the start is the envelope
 env_begins : (t : Bool) (l : TextLine) (ls more : List TextLine) → is_from_line l.content ≡ t → t ≡ true → begins_from (option_line (enveloped t l ls).envelope ++ more) ≡ true
 env_begins true l ls more h e = h
 env_begins false l ls more h e = cc
@@ -246,7 +246,7 @@ root_run text =
     let s = site text (1 ∷ []) p refl in
     subst (IsRun false) (head_cut text (1 ∷ []) p s) (head_is_run text (1 ∷ []) p s)
 
--- ---- such lines change nothing of what stands behind them
+-- ---- such lines change nothing of what follows them
 
 whole_behind : (ls rest : List TextLine) → AreSomeLines ls → IsWhole false rest → IsWhole false (ls ++ rest)
 whole_behind [] rest h w = w
@@ -260,7 +260,7 @@ ends_behind : (ls rest : List TextLine) → AreSomeLines ls → ends_empty false
 ends_behind [] rest h = refl
 ends_behind (l ∷ ls) rest h = ap (λ e. ends_empty e (ls ++ rest)) h.0 ∙ ends_behind ls rest h.1
 
--- lines with the same rest behind others that aren't empty
+-- lines with the same rest after others that aren't empty
 same_rest : (old new front other rest : List TextLine) → old ≡ front ++ rest → new ≡ other ++ rest → AreSomeLines front → AreSomeLines other
     → (begins_from old ≡ true → begins_from new ≡ true) → IsWhole false old → IsKept old new
 same_rest old new front other rest o n f g b w = record {

@@ -64,7 +64,7 @@ later_from : (ms : List TextLine) → begins_from ms ≡ true → later true ms 
 later_from [] b = refl
 later_from (m ∷ ms) b = rw b refl
 
--- the lines of a message, and behind them those of others
+-- the lines of a message, and after them those of others
 parted_before : (ls ms : List TextLine) → AreMessage ls → ends_empty false ls ≡ true → begins_from ms ≡ true → parted (ls ++ ms) ≡ ls ∷ parted ms
 parted_before [] ms a e b = cc
 parted_before (l ∷ ls) ms a e b =
@@ -84,7 +84,7 @@ parted_alone (l ∷ ls) a =
 
 -- ---- joined texts
 
--- an empty line has an ending, so lines may stand behind it
+-- an empty line has an ending, so lines may stand after it
 closed_empty : (l : TextLine) (ms : List TextLine) → IsLine l → is_nil l.content ≡ true → l.ending ≡ Missing → ms ≡ []
 closed_empty l ms h n m = absurd (no_empty l.ending l.content h m n)
   where

@@ -68,7 +68,7 @@ plain_pieces : (cs rest x : List ℕ) (ps : List (List ℕ)) → Simple cs → p
 plain_pieces [] rest x ps h e = e
 plain_pieces (c ∷ cs) rest x ps h e = rw (h.2, h.0, h.1) (ap (push_first c) (plain_pieces cs rest x ps h.5 e))
 
--- what may stand behind a type: it has no comment, and begins a piece of its own
+-- what may stand after a type: it has no comment, and begins a piece of its own
 record IsBehind (tail : List ℕ) : Type 0 where
   kept : uncommented Plain tail ≡ tail
   others : List (List ℕ)
@@ -135,7 +135,7 @@ type_behind : (m sub : List ℕ) → Simple m → behind 47 (m ++ 47 ∷ sub) �
 type_behind [] sub h = refl
 type_behind (c ∷ m) sub h = rw h.3 (type_behind m sub h.5)
 
--- the value behind the colon, of a type and a subtype
+-- the value after the colon, of a type and a subtype
 made_uncommented : (m sub tail : List ℕ) → Simple m → Simple sub → IsBehind tail → uncommented Plain (32 ∷ (m ++ 47 ∷ (sub ++ tail))) ≡ 32 ∷ (m ++ 47 ∷ (sub ++ tail))
 made_uncommented m sub tail h k b =
     ap (λ xs. 32 ∷ xs)

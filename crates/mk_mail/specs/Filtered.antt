@@ -24,7 +24,7 @@ filtered l text = text_left text (outcome l text)
 abbrev pub is_left : List ℕ → Bool
 is_left text = not (is_nil text)
 
--- the filtered messages of a mailbox, one behind another, are cut into just these messages again, but for one of which no byte
+-- the filtered messages of a mailbox, one after another, are cut into just these messages again, but for one of which no byte
 -- is left
 abbrev pub FilteredStayApart : Type 0
 FilteredStayApart = (l : PlainLetters) (text : List ℕ) →

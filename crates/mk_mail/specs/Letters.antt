@@ -38,7 +38,7 @@ pub record PlainLetters : Type 0 where
 abbrev pub is_given_field : List ℕ → Bool
 is_given_field text = is_one_field (cut text) && ends_open text
 
--- only blanks stand behind the first colon; a line feed is none
+-- only blanks stand after the first colon; a line feed is none
 abbrev pub is_bare : List ℕ → Bool
 is_bare text = list_all is_blank (unwrap_or (behind colon text) [])
 
@@ -110,7 +110,7 @@ renamed_all old new names = record { names = replaced old (λ own. new) names; e
 abbrev pub greatest_number : ℕ
 greatest_number = 4294967295
 
--- the number behind a number, as far as numbers go
+-- the number after a number, as far as numbers go
 abbrev pub next_number : ℕ → Option ℕ
 next_number k = if nat_lt k greatest_number then Some (k + 1) else None
 
@@ -155,11 +155,11 @@ added_full eol field names = if is_bare field then untouched names else added eo
 abbrev pub then_do : Work → (List (List ℕ) → Work) → Work
 then_do w f = record { names = (f w.names).names; edits = w.edits ++ (f w.names).edits }
 
--- a name behind `Old-`
+-- a name after `Old-`
 abbrev pub old_name : List ℕ → List ℕ
 old_name own = codes "Old-" ++ own
 
--- all fields of a name get theirs behind `Old-`
+-- all fields of a name get theirs after `Old-`
 abbrev pub made_old : List ℕ → List (List ℕ) → Work
 made_old name names = record { names = replaced name old_name names; edits = map (λ own. RenameField root_path name 1 (old_name own)) (those name names) }
 

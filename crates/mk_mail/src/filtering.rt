@@ -67,7 +67,7 @@ impl Filter {
         }
     }
 
-    /// Adds a field behind the others.
+    /// Adds a field after the others.
     pub(crate) fn add(&mut self, field: &[u8], eol: Ending) -> Result<(), AllocError>
         ensures { OnOk result (work_of self.new ≡ then_do (work_of self.old) (added_field eol field.now)) }
     {
@@ -311,7 +311,7 @@ fn root(alloc: Global) -> Result<Vec<u32>, AllocError>
     Vec::from_slice(alloc, &[1])
 }
 
-// A name behind `Old-`.
+// A name after `Old-`.
 fn behind_old(alloc: Global, name: &[u8]) -> Result<Vec<u8>, AllocError>
     ensures { IfOk result (λ old. old.items ≡ old_name name.now) }
 {
@@ -338,7 +338,7 @@ fn is_same(name: &[u8], own: &[u8]) -> bool
     own.eq_ignore_ascii_case(name)
 }
 
-/// Whether only blanks stand behind the first colon.
+/// Whether only blanks stand after the first colon.
 pub(crate) fn is_bare(field: &[u8]) -> bool
     ensures { result ≡ bare field.now }
 {
@@ -373,7 +373,7 @@ fn name_of(field: &[u8]) -> &[u8]
     &field[..name_size(field)]
 }
 
-// How many bytes of a name stand in front.
+// How many bytes of a name stand at the start.
 fn name_size(field: &[u8]) -> usize
     ensures size { result ≡ prefix_len name_byte field.now }
     ensures within { result ≤ length field.now }

@@ -32,7 +32,7 @@ pub struct Letters {
     pub first: Option<Vec<u8>>,
     /// `-U`: of the fields of a name keeps the last.
     pub last: Option<Vec<u8>>,
-    /// `-x`: gives what stands behind the colons of the fields of a name; no edit.
+    /// `-x`: gives what follows the colons of the fields of a name; no edit.
     pub take: Option<Vec<u8>>,
     /// `-X`: gives the fields of a name; no edit.
     pub whole: Option<Vec<u8>>,

@@ -30,7 +30,7 @@ first_of old piece pieces e = ap (λ x. slice_get (mailbox_pieces x) 0) (sym (ap
 none_long : {A : Type 0} (xs : List ℕ) → xs ≡ [] → 0 < length xs → A
 none_long xs e h = let z : length xs ≡ 0 = ap length e in absurd (omega (arith, z, h))
 
--- a message is whole, whatever is read behind it
+-- a message is whole, whatever is read after it
 pub piece_next : (piece read : List ℕ) (old new : Held) → IsSplit piece (old.kept ++ read) new.kept → IsNextPiece piece old read new
 piece_next piece read old new s = record {
   whole = s.parts;

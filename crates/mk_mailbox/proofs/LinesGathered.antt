@@ -49,7 +49,7 @@ gathered_on bytes content line e g w t = record {
   some = λ _. dropped bytes line (whole_some (drop line bytes) content w);
 }
 
--- what stands before a line and behind it
+-- what stands before a line and after it
 apart : (bytes more : List ℕ) (line : ℕ) → bytes ++ more ≡ take line bytes ++ (drop line bytes ++ more)
 apart bytes more line = ap (λ x. x ++ more) (sym (take-append-drop line bytes)) ∙ append_assoc (take line bytes) (drop line bytes) more
 
@@ -72,7 +72,7 @@ split_is bytes content line e g w t = record {
   closed = λ more. whole_closed (drop line bytes) content more w;
 }
 
--- more bytes behind
+-- more bytes after
 pub split_on : (piece old new rest : List ℕ) → IsSplit piece old new → IsSplit piece (old ++ rest) (new ++ rest)
 split_on piece old new rest s = record {
   parts = ap (λ x. x ++ rest) s.parts ∙ append_assoc piece new rest;

@@ -20,7 +20,7 @@ none_both xs ys e f = ap (λ zs. zs ++ ys) e ∙ f
 regrouped : (kept read rest more : List ℕ) → (kept ++ (read ++ rest)) ++ more ≡ (kept ++ read) ++ (rest ++ more)
 regrouped kept read rest more = ap (λ x. x ++ more) (sym (append_assoc kept read rest)) ∙ append_assoc (kept ++ read) rest more
 
--- a call, and what comes behind it
+-- a call, and what comes after it
 by_reply : (reply : Reply) (old next : Held) (read rest more : List ℕ) (pieces : List (List ℕ)) → IsReply reply old read next → (next.ended ≡ true → rest ++ more ≡ [])
     → mailbox_pieces ((next.kept ++ rest) ++ more) ≡ pieces → mailbox_pieces ((old.kept ++ (read ++ rest)) ++ more) ≡ message_of reply ++ pieces
 by_reply (message piece) old next read rest more pieces h o e =

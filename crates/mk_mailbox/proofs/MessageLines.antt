@@ -93,7 +93,7 @@ later_first e line content more w t =
     ∙ (later_begins e (ended w.before) (cut more) (first_is e true line content w t)
     ∙ ap (λ ls. map text_of (parted ls)) (sym (whole_cut line content more w)))
 
--- the first message, and those behind it
+-- the first message, and those after it
 parted_some : (ls : List TextLine) → 0 < length (text_of ls) → map text_of (parted ls) ≡ text_of (front false ls) ∷ map text_of (later false ls)
 parted_some [] h = absurd (omega (arith, h))
 parted_some (l ∷ ls) h = refl

@@ -12,7 +12,7 @@ use Rattle.mk_mailbox.specs.Pieces.{is_first, front, later, parted, mailbox_piec
 abbrev joined : List (List TextLine) → List ℕ
 joined ps = flat_map (λ p. p) (map text_of ps)
 
--- the front, and then the messages behind it, are all lines
+-- the front, and then the messages after it, are all lines
 front_and_later : (e : Bool) (ls : List TextLine) → text_of (front e ls) ++ joined (later e ls) ≡ text_of ls
 front_and_later e [] = refl
 front_and_later e (l ∷ ls) =

@@ -5,11 +5,11 @@ use Rattle.mk_line.specs.Lines.{cut, ended, has_line_feed, text_of}
 use Rattle.mk_mailbox.specs.Mailboxes.{IsOpenInFront, chunk_bytes}
 use Rattle.mk_mailbox.specs.Pieces.{front, later, mailbox_pieces}
 
--- the bytes of a text that still belong to a message, and the messages behind them
+-- the bytes of a text that still belong to a message, and the messages after them
 abbrev pub front_of : Bool → List ℕ → List ℕ
 front_of behind_empty text = text_of (front behind_empty (cut text))
 
--- the messages behind the one that a text goes on with
+-- the messages after the one that a text goes on with
 abbrev pub later_of : Bool → List ℕ → List (List ℕ)
 later_of behind_empty text = map text_of (later behind_empty (cut text))
 
@@ -28,7 +28,7 @@ pub record IsWholeLine (line content : List ℕ) : Type 0 where
 abbrev pub IsOnePiece : List ℕ → Bool → Type 0
 IsOnePiece text behind_empty = (more : List ℕ) → (front_of false (text ++ more) ≡ text ++ front_of behind_empty more) × (later_of false (text ++ more) ≡ later_of behind_empty more)
 
--- the bytes before a place are whole lines of one message, and behind it stands at most one line
+-- the bytes before a place are whole lines of one message, and after it stands at most one line
 pub record IsGathered (bytes : List ℕ) (line : ℕ) (behind_empty : Bool) : Type 0 where
   pub within : line ≤ length bytes
   pub before : IsOnePiece (take line bytes) behind_empty

@@ -61,7 +61,7 @@ CallsGiveMessages = (calls : List Call) (now : Held) → AreCalls unread_mailbox
 abbrev pub EndsAreWhole : Type 0
 EndsAreWhole = (calls : List Call) (last now : Held) (read : List ℕ) → AreCalls unread_mailbox calls last → IsOver last read now → mailbox_pieces (read_by calls ++ read) ≡ given_by calls
 
--- nothing is read or given behind such a call
+-- nothing is read or given after such a call
 abbrev pub EndsStay : Type 0
 EndsStay = (calls : List Call) (last : Held) (read : List ℕ) (over now : Held) → IsOver last read over → AreCalls over calls now → (read_by calls ≡ []) × (given_by calls ≡ [])
 

@@ -10,7 +10,7 @@ abbrev pub IsOpenInFront : List TextLine → Type 0
 IsOpenInFront [] = ⊥
 IsOpenInFront (l ∷ ls) = is_open l.ending ≡ true
 
--- a piece is the first message of what was kept and read, and what stands behind it is kept
+-- a piece is the first message of what was kept and read, and what follows it is kept
 pub record IsNextPiece (piece : List ℕ) (old : Held) (read : List ℕ) (new : Held) : Type 0 where
   pub whole : old.kept ++ read ≡ piece ++ new.kept
   pub first : slice_get (mailbox_pieces (old.kept ++ read)) 0 ≡ Some piece

@@ -13,7 +13,7 @@ const LINE_FEED: u8 = b'\n';
 
 const CARRIAGE_RETURN: &[u8; 1] = b"\r";
 
-/// The lines of a message so far. Behind a place stands at most one line, of which it isn't known yet whether it begins
+/// The lines of a message so far. After a place stands at most one line, of which it isn't known yet whether it begins
 /// the next message.
 #[derive(Drop)]
 pub(crate) struct Gathered {
@@ -44,7 +44,7 @@ impl Gathered {
         &self.bytes[self.line..]
     }
 
-    /// Puts more of that line behind it.
+    /// Puts more of that line after it.
     pub(crate) fn take(&mut self, bytes: &[u8]) -> Result<(), AllocError>
         requires gathered { IsGathered self.old.bytes.items self.old.line self.old.behind_empty }
         requires undecided { has_line_feed (drop self.old.line self.old.bytes.items) ≡ false }

@@ -12,7 +12,7 @@ pub fn ends_are_whole()
     ensures { EndsAreWhole }
 {}
 
-/// Behind a call that says that there is none nothing is read or given.
+/// After a call that says that there is none nothing is read or given.
 pub fn ends_stay()
     ensures { EndsStay }
 {}

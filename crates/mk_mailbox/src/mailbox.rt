@@ -1,4 +1,4 @@
-//! Mailboxes: messages one behind another, each begun by a From-line (own).
+//! Mailboxes: messages one after another, each begun by a From-line (own).
 ghost use Rattle.std.specs.Prelude.{◌≡◌, ◌≤◌, ◌++◌, ◌⊎◌, [], ℕ, List, true, false, length, IfErr, MatchResult, OnOk};
 ghost use Rattle.std.specs.Io.KnownBytes.{Consumes, IsAtEnd};
 ghost use Rattle.std.specs.Option.{option_map};

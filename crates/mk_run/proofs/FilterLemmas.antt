@@ -36,7 +36,7 @@ use Rattle.mk_run.specs.Unpacking.{Said, said_behind, silence}
 use Rattle.mk_run.proofs.Fronts.{AppendsFront-behind, not-is_nil-append}
 use Rattle.mk_run.proofs.RunLemmas.{AppendsFront-none}
 
--- ---- what is said of messages, one behind another
+-- ---- what is said of messages, one after another
 
 behind_behind : (a b c : Said) → said_behind (said_behind a b) c ≡ said_behind a (said_behind b c)
 behind_behind a b c = λ i. record { output = append_assoc a.output b.output c.output i; errors = append_assoc a.errors b.errors c.errors i }

@@ -5,7 +5,7 @@ use Rattle.std.proofs.KnownBytes.{Appends-trans}
 use Rattle.mk_line.specs.Lines.{is_nil}
 use Rattle.mk_mailbox.specs.Devices.{AppendsFront, Rose}
 
--- a front of further bytes, behind bytes that went out
+-- a front of further bytes, after bytes that went out
 pub AppendsFront-behind : (a b c : Option (List ℕ)) (front bytes more all : List ℕ) → Appends a b front → AppendsFront b c bytes
     → all ≡ front ++ (bytes ++ more) → AppendsFront a c all
 AppendsFront-behind a b c front bytes more all sent part e = (

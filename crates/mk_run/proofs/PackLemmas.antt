@@ -1,4 +1,4 @@
--- The last piece of a text, and the body behind a head.
+-- The last piece of a text, and the body after a head.
 use Rattle.std.proofs.Common.{◌≡◌, ◌≢◌, ◌++◌, ℕ, suc, Bool, true, false, Option, None, Some, List, [], ◌∷◌, length, nat_lt, sym, ap, ◌∙◌, refl, subst, inl, inr}
 use Rattle.std.proofs.lemmas.Bool.{cases_Bool}
 use Rattle.std.specs.Option.{option_map, unwrap_or}
@@ -29,7 +29,7 @@ pub last_whole : {A : Type 0} (f : A → List ℕ × List ℕ) (separator : ℕ)
 last_whole f separator text None e n = ap last_of (pieces_of-whole separator text (sym e))
 last_whole f separator text (Some p) e n = absurd (n p refl)
 
--- the text goes on behind its head exactly where there is a body
+-- the text goes on after its head exactly where there is a body
 pub body_told : (text : List ℕ) (h : HeaderView) (body : ℕ) → h ≡ header_view (head_of (cut text)) → body ≡ h.body → nat_lt body (length text) ≡ has_body (cut text)
 body_told text h body e b =
     let apart = head_body (cut text) in
@@ -49,7 +49,7 @@ more_or : (o : Option ℕ) (n : ℕ) → unwrap_or (option_map suc o) (suc n) �
 more_or None n = refl
 more_or (Some k) n = refl
 
--- behind others one fails
+-- after others one fails
 failing_behind : {X : Type 0} (test : X → Bool) (xs : List X) (y : X) → test y ≡ false → first_failing test (xs ++ y ∷ []) ≡ Some (unwrap_or (first_failing test xs) (length xs))
 failing_behind test [] y h = rw h refl
 failing_behind test (x ∷ xs) y h = elim (cases_Bool (test x)) [

@@ -14,7 +14,7 @@ use Rattle.mk_run.specs.Reports.{reason_name, behind_name, error_line}
 use Rattle.mk_script.specs.ScriptSteps.{ScriptStep}
 use Rattle.mk_run.specs.Runs.{ordered_by, numbers_of, path_at, line_at, refusal_line, report_of, reported, IsReportedAt}
 
--- behind the name of any other reason stands nothing
+-- after the name of any other reason stands nothing
 pub behind_name-none : (e : EditError) (path bytes : List ℕ) → ((level : ℕ) → e ≡ error.HoldsBoundary level → ⊥)
     → IfSome (refusal_of e) (λ r. bytes ≡ bytes ++ behind_name path r)
 behind_name-none error.NoSuchSection path bytes h = sym (append-nil bytes)
@@ -37,7 +37,7 @@ behind_name-none error.Memory path bytes h = tt
 error_line-row : (a b c d e f : List ℕ) → ((a ++ (b ++ (c ++ d))) ++ e) ++ f ≡ a ++ (b ++ (c ++ (d ++ (e ++ f))))
 error_line-row a b c d e f = simp append_assoc
 
--- the line is its front with the name, what stands behind that, and its ending
+-- the line is its front with the name, what follows that, and its ending
 pub report_joined : (word : List ℕ) (reason : Option Refusal) (path name front line : List ℕ) (number : ℕ) → front ≡ word ++ (decimal number ++ (codes ": " ++ name))
     → IfSome reason (λ r. name ≡ reason_name r) → IfSome reason (λ r. line ≡ front ++ behind_name path r)
     → IfSome reason (λ r. line ++ line_feed ∷ [] ≡ word ++ (decimal number ++ (codes ": " ++ (reason_name r ++ (behind_name path r ++ line_feed ∷ [])))))

@@ -111,7 +111,7 @@ GetsNext-more over t (y ∷ ys) more old new h = h
 leaves_apart : (xs done rest more : List Named) → xs ++ ((done ++ rest) ++ more) ≡ (xs ++ done) ++ (rest ++ more)
 leaves_apart xs done rest more = simp append_assoc
 
--- leaves were unpacked, and then some of others, behind which stand more
+-- leaves were unpacked, and then some of others, after which stand more
 pub UnpackedSome-behind : (manner : Manner) (t : Document) (xs ys more leaves : List Named) (refused : Bool) (a b c : Written) → UnpackedAll manner t xs refused a b
     → UnpackedSome manner t ys b c → leaves ≡ xs ++ (ys ++ more) → UnpackedSome manner t leaves a c
 UnpackedSome-behind manner t xs ys more leaves refused a b c u v e = record {

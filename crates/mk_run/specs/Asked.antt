@@ -7,7 +7,7 @@ use Rattle.mk_mail.specs.Letters.{PlainLetters, passes}
 use Rattle.mk_script.specs.Paths.{parted}
 use Rattle.mk_run.specs.declared.letters.LetterWords.{LetterWords}
 
--- the words that stand behind letters, each where its letter was given
+-- the words that stand after letters, each where its letter was given
 pub record PlainWords : Type 0 where
   -- --rename
   pub rename : Option (List ℕ)
@@ -42,7 +42,7 @@ words_of w = record {
   whole = option_map (λ s. s.now) w.whole;
 }
 
--- what stands before a colon, where nothing stands behind it
+-- what stands before a colon, where nothing stands after it
 abbrev pub name_of_parts : Option (List ℕ × List ℕ) → Option (List ℕ)
 name_of_parts None = None
 name_of_parts (Some p) = if is_nil p.1 then Some p.0 else None

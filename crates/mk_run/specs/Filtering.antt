@@ -20,20 +20,20 @@ use Rattle.mk_run.specs.Unpacking.{Said, said_behind, silence}
 abbrev pub fields_named : List ℕ → List ℕ → List FieldText
 fields_named name text = filter (is_named name) (section_fields (root_of (tree text)))
 
--- what stands behind a separator, where there is one
+-- what follows a separator, where there is one
 abbrev pub part_behind : Option (List ℕ × List ℕ) → List ℕ
 part_behind None = []
 part_behind (Some p) = p.1
 
--- what stands behind the colon of a field, all its lines and endings as they stand
+-- what follows the colon of a field, all its lines and endings as they stand
 abbrev pub behind_colon : List ℕ → List ℕ
 behind_colon raw = part_behind (parted colon raw)
 
--- what the fields of a name hold, one behind another (`-x`)
+-- what the fields of a name hold, one after another (`-x`)
 abbrev pub contents_named : List ℕ → List ℕ → List ℕ
 contents_named name text = flat_map (λ f. behind_colon f.raw) (fields_named name text)
 
--- the fields of a name, one behind another (`-X`)
+-- the fields of a name, one after another (`-X`)
 abbrev pub wholes_named : List ℕ → List ℕ → List ℕ
 wholes_named name text = flat_map (λ f. f.raw) (fields_named name text)
 

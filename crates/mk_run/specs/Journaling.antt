@@ -43,7 +43,7 @@ journal_reason (JournalMismatch entry) = codes "JournalMismatch " ++ decimal ent
 abbrev pub journal_line : JournalRefusal → List ℕ
 journal_line reason = codes "journal: " ++ (journal_reason reason ++ line_feed ∷ [])
 
--- the reason that an error names; want of memory is none
+-- the reason that an error names; running out of memory is none
 abbrev pub named_by : LoadError → Option JournalRefusal
 named_by (SyntaxIn offset) = Some (JournalSyntax offset)
 named_by OtherIn = Some JournalOther

@@ -11,15 +11,15 @@ use Rattle.mk_build.specs.Building.{Attached, build_refusal, built, first_failin
 use Rattle.mk_run.specs.Runs.{Run}
 use Rattle.mk_run.specs.Shown.{shown}
 
--- the fields in front of lines, each with all its bytes
+-- the fields at the start of lines, each with all its bytes
 abbrev pub fields_in_front : List TextLine → List (List ℕ)
 fields_in_front ls = map (λ f. f.raw) (fields_of (fields_from false ls))
 
--- more than a separator stands behind the fields
+-- more than a separator stands after the fields
 abbrev pub has_body : List TextLine → Bool
 has_body ls = has_line (behind_head ls)
 
--- what lines give for fields: those in front and, where they have a body, an empty text for it, which is no field
+-- what lines give for fields: those at the start and, where they have a body, an empty text for it, which is no field
 abbrev pub fields_given : List TextLine → List (List ℕ)
 fields_given ls = fields_in_front ls ++ (if has_body ls then [] ∷ [] else [])
 
@@ -39,7 +39,7 @@ index_of (refused.BadName index) = Some index
 index_of refused.BadBoundary = None
 index_of refused.Memory = None
 
--- an index behind a name, where there is one
+-- an index after a name, where there is one
 abbrev pub behind_name : Option ℕ → List ℕ
 behind_name None = []
 behind_name (Some index) = space ∷ decimal index
@@ -63,7 +63,7 @@ packed boundary parts text =
 abbrev pub IsPacked : List ℕ → List Attached → List ℕ → Run → Type 0
 IsPacked boundary parts text run = run ≡ packed boundary parts text
 
--- a text with a body is never packed: the reason names its first field that can't stand in front, or their number where all can
+-- a text with a body is never packed: the reason names its first field that can't stand at the start, or their number where all can
 abbrev pub BodiesAreRefused : Type 0
 BodiesAreRefused = (text : List ℕ) (parts : List Attached) (boundary : List ℕ) → has_body (cut text) ≡ true →
     let fields = fields_in_front (cut text) in

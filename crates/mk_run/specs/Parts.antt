@@ -24,7 +24,7 @@ last_of [] = []
 last_of (x ∷ []) = x
 last_of (x ∷ y ∷ ys) = last_of (y ∷ ys)
 
--- the name of a file is what stands behind the last slash of its path
+-- the name of a file is what follows the last slash of its path
 abbrev pub file_name : List ℕ → List ℕ
 file_name path = last_of (pieces_of slash path)
 

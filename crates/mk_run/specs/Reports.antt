@@ -23,7 +23,7 @@ reason_name NothingToUndo = codes "NothingToUndo"
 reason_name NothingToRedo = codes "NothingToRedo"
 reason_name (Member index reason) = reason_name reason
 
--- behind the name stands the path of the multipart of which a line would be a mark: a front of the edit's path
+-- after the name stands the path of the multipart of which a line would be a mark: a front of the edit's path
 abbrev pub behind_name : List ℕ → Refusal → List ℕ
 behind_name path (HoldsBoundary level) = space ∷ path_text (take level path)
 behind_name path reason = []

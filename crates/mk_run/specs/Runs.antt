@@ -137,7 +137,7 @@ pub record IsReportedAt (order : Order) (index : ℕ) (reason : Refusal) (define
   pub refused : defined ≡ Err named
   pub line : (numbers : List ℕ) → refusal_line numbers order named ≡ line_at numbers order index reason
 
--- what obeying an order answered is what is defined; a refusal, and want of memory, change nothing
+-- what obeying an order answered is what is defined; a refusal, and running out of memory, change nothing
 abbrev pub IsObeyed : Order → Result Unit (ℕ × EditError) → History → History → Type 0
 IsObeyed order (Ok x) old new = step order old ≡ Ok new
 IsObeyed order (Err p) old new = (new ≡ old) × IfSome (refusal_of p.1) (λ reason. IsReportedAt order p.0 reason (step order old))

@@ -16,7 +16,7 @@ use Rattle.mk_run.specs.Shown.{extract_line, is_wanting}
 abbrev pub most_tries : ℕ
 most_tries = 100
 
--- the names that are tried: the name itself, and that with the numbers from 1 on behind it
+-- the names that are tried: the name itself, and that with the numbers from 1 on after it
 abbrev pub tried : List ℕ → ℕ → List ℕ
 tried name number = if number == 0 then name else numbered name number
 
@@ -44,7 +44,7 @@ pub record Said : Type 0 where
 abbrev pub silence : Said
 silence = record { output = []; errors = [] }
 
--- what is said, and what is said behind it
+-- what is said, and what is said after it
 abbrev pub said_behind : Said → Said → Said
 said_behind first more = record { output = first.output ++ more.output; errors = first.errors ++ more.errors }
 

@@ -119,7 +119,7 @@ fn given(alloc: Global, letters: &Letters, doc: &Doc) -> Result<Option<Vec<u8>>,
     }
 }
 
-// What the fields of a name hold, one behind another.
+// What the fields of a name hold, one after another.
 fn contents(alloc: Global, doc: &Doc, name: &[u8]) -> Result<Vec<u8>, AllocError>
     ensures { IfOk result (λ text. text.items ≡ contents_named name.now doc.now) }
 {
@@ -132,7 +132,7 @@ fn contents(alloc: Global, doc: &Doc, name: &[u8]) -> Result<Vec<u8>, AllocError
     Ok(text)
 }
 
-// The fields of a name, one behind another.
+// The fields of a name, one after another.
 fn wholes(alloc: Global, doc: &Doc, name: &[u8]) -> Result<Vec<u8>, AllocError>
     ensures { IfOk result (λ text. text.items ≡ wholes_named name.now doc.now) }
 {
@@ -145,7 +145,7 @@ fn wholes(alloc: Global, doc: &Doc, name: &[u8]) -> Result<Vec<u8>, AllocError>
     Ok(text)
 }
 
-// What stands behind the colon of a field.
+// What follows the colon of a field.
 fn behind_colon(field: &[u8]) -> &[u8]
     ensures { result.now ≡ is_behind_colon field.now }
 {

@@ -2,7 +2,7 @@
 
 ghost use Rattle.mk_run.specs.Packing.{BodiesAreRefused};
 
-/// A text with a body is never packed: its first field that can't stand in front is named, or else their number.
+/// A text with a body is never packed: its first field that can't stand at the start is named, or else their number.
 pub fn bodies_are_refused()
     ensures { BodiesAreRefused }
 {}

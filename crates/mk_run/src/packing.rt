@@ -71,7 +71,7 @@ fn message(
     }
 }
 
-// The fields in front of a text. Where more than a separator stands behind them, an empty one is put behind them too, which
+// The fields at the start of a text. Where more than a separator stands after them, an empty one is put after them too, which
 // is no field.
 fn fields(alloc: Global, text: &[u8]) -> Result<Vec<Vec<u8>>, AllocError>
     ensures { IfOk result (λ fields. map (λ f. f.items) fields.items ≡ fields_given (lines_of text.now)) }
@@ -93,7 +93,7 @@ fn fields_in_front(alloc: Global, text: &[u8]) -> Result<Vec<Vec<u8>>, AllocErro
     Ok(fields)
 }
 
-// Whether more than a separator stands behind the fields.
+// Whether more than a separator stands after the fields.
 fn has_body(alloc: Global, text: &[u8]) -> Result<bool, AllocError>
     ensures { IfOk result (λ has. has ≡ has_a_body (lines_of text.now)) }
 {

@@ -50,7 +50,7 @@ impl<'a> Spec<'a> {
     }
 }
 
-// What stands behind the last slash of a path.
+// What follows the last slash of a path.
 fn file_name(path: &[u8]) -> &[u8]
     ensures { result.now ≡ name_of_file path.now }
 {

@@ -80,7 +80,7 @@ fn message_line(alloc: Global, number: u64, reason: EditError) -> Result<Vec<u8>
     Ok(line)
 }
 
-// Writes what stands behind the name: the path of the multipart of which a line would be a delimiter.
+// Writes what follows the name: the path of the multipart of which a line would be a delimiter.
 fn push_place(line: &mut Vec<u8>, path: &[u32], reason: EditError) -> Result<(), AllocError>
     ensures { OnOk result (IfSome (refusal_of reason) (λ refusal. line.new.items ≡ line.old.items ++ behind_name path.now refusal)) }
 {

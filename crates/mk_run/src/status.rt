@@ -13,7 +13,7 @@ pub enum Status {
     Usage,
     /// A device failed: the run was given up.
     Fault,
-    /// Memory was wanting: the run was given up.
+    /// Memory ran out: the run was given up.
     Memory,
 }
 

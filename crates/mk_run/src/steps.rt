@@ -242,7 +242,7 @@ fn piece_copy(alloc: Global, pieces: &[Vec<u8>], number: u32) -> Result<Vec<u8>,
     }
 }
 
-// Puts the ending of a text behind a field.
+// Puts the ending of a text after a field.
 fn end_field(field: &mut Vec<u8>, text: &[u8]) -> Result<(), AllocError>
     ensures { OnOk result (field.new.items ≡ field_text field.old.items text.now) }
 {

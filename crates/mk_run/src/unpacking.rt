@@ -20,7 +20,7 @@ use mk_mail::{ExtractError, Fault, Leaf, Sink, Source, content, leaves, numbered
 use mk_tree::Section;
 use std::alloc::{AllocError, Global};
 
-/// How many names are tried for a leaf: its own, and that with the numbers from 1 on behind it.
+/// How many names are tried for a leaf: its own, and that with the numbers from 1 on after it.
 const MOST_TRIES: u64 = 100;
 
 /// How files are put.

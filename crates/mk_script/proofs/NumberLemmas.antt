@@ -30,7 +30,7 @@ digits_tell (d ∷ ds) h = let small : nat_lt (digit_value d) 10 ≡ true = lt-l
 decimals : IsNumeralModel (AllDigits 10) (digits_value 10)
 decimals = numerals_by_value (AllDigits 10) tells_digits
 
--- only zero is written with a zero in front
+-- only zero is written with a zero at the start
 positive_from : (n byte : ℕ) (bytes : List ℕ) → byte ≢ zero_digit → decimal n ≡ byte ∷ bytes → 0 < n
 positive_from zero byte bytes first e =
     let same : (48 + 0) ∷ [] ≡ byte ∷ bytes = sym (decimal_digit 0 (omega arith)) ∙ e in

@@ -69,7 +69,7 @@ pieces_of-alone separator (byte ∷ bytes) h = elim (cases_Bool (byte == separat
       rw f (ap (onto_first_piece byte) rest)
 ]
 
--- a text with a separator is the piece before it and the pieces behind it
+-- a text with a separator is the piece before it and the pieces after it
 pub pieces_of-parted : (separator : ℕ) (text : List ℕ) (p : List ℕ × List ℕ) → parted separator text ≡ Some p
     → pieces_of separator text ≡ p.0 ∷ pieces_of separator p.1
 pieces_of-parted separator text p e =

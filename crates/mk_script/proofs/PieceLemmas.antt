@@ -84,7 +84,7 @@ join-pieces_of separator (byte ∷ bytes) = elim (eqb_tells byte separator) [
   | inr h ↦ rw h.0 (join-onto_first separator byte (pieces_of separator bytes) ∙ ap (λ rest. byte ∷ rest) (join-pieces_of separator bytes))
 ]
 
--- ---- the text before the first separator, and that behind it
+-- ---- the text before the first separator, and that after it
 
 parted-here : (separator : ℕ) (rest : List ℕ) → parted separator (separator ∷ rest) ≡ Some ([], rest)
 parted-here separator rest =

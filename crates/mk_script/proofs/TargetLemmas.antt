@@ -105,12 +105,12 @@ whole_target-written target h =
     rw (parted-append space (written_path target.path) (target.name ++ (space ∷ decimal target.k)) (path_holds target.path h.path), parted-append space target.name (decimal target.k) (name_holds target.name h.name))
     (target_of-written target h)
 
--- a field and what stands behind it, in one row
+-- a field and what follows it, in one row
 written_front : (target : Target) (rest : List ℕ)
     → written_target target ++ (space ∷ rest) ≡ written_path target.path ++ (space ∷ (target.name ++ (space ∷ (decimal target.k ++ (space ∷ rest)))))
 written_front target rest = simp append_assoc
 
--- a text whose front picks a field is that field as it is written, a space and what stands behind
+-- a text whose front picks a field is that field as it is written, a space and what follows
 pub target_front-read : (text : List ℕ) (front : Target × List ℕ) → target_front text ≡ Some front → IsTarget front.0 × (text ≡ written_target front.0 ++ (space ∷ front.1))
 target_front-read text front e =
     let p = and_then-some (λ (p : List ℕ × List ℕ). option_and_then (λ q. option_and_then (λ r. before_rest r.1 (target_of p.0 q.0 r.0)) (parted space q.1)) (parted space p.1)) (parted space text) front e in

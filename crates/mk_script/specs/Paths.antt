@@ -17,11 +17,11 @@ zero_digit = 48
 abbrev pub max_components : ℕ
 max_components = 101
 
--- what stands before the first separator and what stands behind it, where there is one
+-- what stands before the first separator and what follows it, where there is one
 abbrev pub parted : ℕ → List ℕ → Option (List ℕ × List ℕ)
 parted separator text = option_map (λ n. (take n text, drop (n + 1) text)) (position (λ byte. byte == separator) text)
 
--- pieces of which the first gets one more byte in front
+-- pieces of which the first gets one more byte at the start
 abbrev pub onto_first_piece : ℕ → List (List ℕ) → List (List ℕ)
 onto_first_piece byte [] = (byte ∷ []) ∷ []
 onto_first_piece byte (piece ∷ pieces) = (byte ∷ piece) ∷ pieces
@@ -31,12 +31,12 @@ abbrev pub pieces_of : ℕ → List ℕ → List (List ℕ)
 pieces_of separator [] = [] ∷ []
 pieces_of separator (byte ∷ bytes) = if byte == separator then [] ∷ pieces_of separator bytes else onto_first_piece byte (pieces_of separator bytes)
 
--- the pieces of the text behind a separator, where there was one
+-- the pieces of the text after a separator, where there was one
 abbrev pub pieces_behind : ℕ → Option (List ℕ) → List (List ℕ)
 pieces_behind separator None = []
 pieces_behind separator (Some text) = pieces_of separator text
 
--- the number that digits write behind those of a number, where it fits 32 bits
+-- the number that digits write after those of a number, where it fits 32 bits
 abbrev pub number_behind : ℕ → List ℕ → Option ℕ
 number_behind before digits =
     let number = digits_value_after 10 before digits in

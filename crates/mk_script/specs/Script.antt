@@ -87,7 +87,7 @@ with_subtype path p = if is_name p.0 then Some (Wraps path p.0 p.1) else None
 abbrev pub with_wrapping : List ℕ × List ℕ → Option ScriptWord
 with_wrapping p = option_and_then (λ path. option_and_then (with_subtype path) (parted space p.1)) (path_of p.0)
 
--- the words behind `wrap`
+-- the words after `wrap`
 abbrev pub wrapping : List ℕ → Option ScriptWord
 wrapping rest = option_and_then with_wrapping (parted space rest)
 

@@ -15,7 +15,7 @@ has_end [] = false
 has_end ((number, Some Ends) ∷ lines) = true
 has_end (line ∷ lines) = has_end lines
 
--- whether a line is a fault, inside a group or outside, where an `end` comes behind it or none: a line that says nothing
+-- whether a line is a fault, inside a group or outside, where an `end` comes after it or none: a line that says nothing
 -- is one; inside, whatever is no edit and no `end`; outside, an `end`, and a `begin` whose `end` is missing
 abbrev pub is_fault : (inside ended : Bool) → Option ScriptLine → Bool
 is_fault inside ended None = true
@@ -25,7 +25,7 @@ is_fault inside ended (Some Redoes) = inside
 is_fault inside ended (Some Begins) = inside || not ended
 is_fault inside ended (Some Ends) = not inside
 
--- whether the line behind is inside a group
+-- whether the line after is inside a group
 abbrev pub inside_behind : Bool → Option ScriptLine → Bool
 inside_behind inside (Some Begins) = true
 inside_behind inside (Some Ends) = false
@@ -48,7 +48,7 @@ steps_at number (Some Begins) group = []
 steps_at number (Some Ends) None = []
 steps_at number (Some Ends) (Some words) = Groups words ∷ []
 
--- the group that is open behind a line
+-- the group that is open after a line
 abbrev pub group_behind : ℕ → Option ScriptLine → Option (List (ℕ × ScriptWord)) → Option (List (ℕ × ScriptWord))
 group_behind number None group = group
 group_behind number (Some (Edits word)) None = None

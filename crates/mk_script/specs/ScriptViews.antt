@@ -60,7 +60,7 @@ step_by (Group words) = Groups (map numbered words.items)
 step_by (UndoAt number) = TakesBack number
 step_by (RedoAt number) = MakesAgain number
 
--- an error is the first fault of a script, or want of memory, which may come in place of any answer
+-- an error is the first fault of a script, or running out of memory, which may come in place of any answer
 abbrev pub Explains : ScriptError → Result (List ScriptStep) ℕ → Type 0
 Explains (Syntax number) defined = defined ≡ Err number
 Explains Memory defined = Unit {0}

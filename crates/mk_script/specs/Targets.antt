@@ -33,10 +33,10 @@ target_of place name number = option_and_then (λ path. if is_name name then wit
 abbrev pub whole_target : List ℕ → Option Target
 whole_target text = option_and_then (λ p. option_and_then (λ q. target_of p.0 q.0 q.1) (parted space p.1)) (parted space text)
 
--- a field with what stands behind it
+-- a field with what follows it
 abbrev pub before_rest : List ℕ → Option Target → Option (Target × List ℕ)
 before_rest rest target = option_map (λ t. (t, rest)) target
 
--- the field that the front of a text picks, and what stands behind the space after it
+-- the field that the front of a text picks, and what follows the space after it
 abbrev pub target_front : List ℕ → Option (Target × List ℕ)
 target_front text = option_and_then (λ p. option_and_then (λ q. option_and_then (λ r. before_rest r.1 (target_of p.0 q.0 r.0)) (parted space q.1)) (parted space p.1)) (parted space text)

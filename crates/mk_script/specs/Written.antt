@@ -57,7 +57,7 @@ IsLine count Redoes = Unit {0}
 IsLine count Begins = Unit {0}
 IsLine count Ends = Unit {0}
 
--- a path and a number behind it
+-- a path and a number after it
 abbrev pub written_place : List ℕ → ℕ → List ℕ
 written_place path number = written_path path ++ (space ∷ decimal number)
 

@@ -74,7 +74,7 @@ fn first_fault(lines: &[NumberedLine]) -> Option<usize>
     None
 }
 
-// Whether a line is a fault, inside a group or outside, with these lines behind it.
+// Whether a line is a fault, inside a group or outside, with these lines after it.
 fn is_fault(line: &NumberedLine, inside: bool, behind: &[NumberedLine]) -> bool
     ensures { result ≡ faulty inside (ends (map line_in behind.now)) (option_map line_by line.now.said) }
 {

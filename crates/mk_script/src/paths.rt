@@ -15,7 +15,7 @@ const ZERO_DIGIT: u8 = b'0';
 /// The most components of a path: no section lies deeper.
 pub const MAX_COMPONENTS: usize = 101;
 
-/// What stands before the first separator and what stands behind it, where there is one.
+/// What stands before the first separator and what follows it, where there is one.
 pub fn parted(text: &[u8], separator: u8) -> Option<(&[u8], &[u8])>
     ensures parts { option_map (λ p. (p.0.now, p.1.now)) result ≡ parted_at separator text.now }
     ensures less { IfSome result (λ p. length p.1.now < length text.now) }
@@ -68,7 +68,7 @@ pub fn numbers(alloc: Global, text: &[u8]) -> Result<Option<Vec<u32>>, AllocErro
     }
 }
 
-// The text before the first dot, and the text behind that dot.
+// The text before the first dot, and the text after that dot.
 fn first_piece(text: &[u8]) -> (&[u8], Option<&[u8]>)
     ensures pieces { pieces_of dot text.now ≡ result.0.now ∷ pieces_behind dot (option_copied result.1) }
     ensures less { IfSome result.1 (λ rest. length rest.now < length text.now) }

@@ -9,7 +9,7 @@ pub length-spliced : (place n : ℕ) (new x : List ℕ) → place + n ≤ length
 length-spliced place n new x h =
     omega (arith, length-append (take place x) (new ++ drop (place + n) x), length-append new (drop (place + n) x), length-take-le place x (omega arith), length-drop (place + n) x)
 
--- what stands before the place stays, and what stands behind
+-- what stands before the place stays, and what follows
 before_spliced : (place n : ℕ) (new x : List ℕ) → place ≤ length x → take place (spliced place n new x) ≡ take place x
 before_spliced place n new x h = take_at (take place x) (new ++ drop (place + n) x) place (length-take-le place x h)
 
@@ -95,7 +95,7 @@ leads_to ss x y g e =
       back = ap (back_step ss) (sym e) ∙ p.1;
     }
 
--- splices behind others
+-- splices after others
 pub forth_append : (ss rs : List Splice) (x : List ℕ) → forth_step (ss ++ rs) x ≡ forth_step rs (forth_step ss x)
 forth_append [] rs x = refl
 forth_append (s ∷ ss) rs x = forth_append ss rs (forth_one s x)

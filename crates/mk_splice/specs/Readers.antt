@@ -6,7 +6,7 @@ abbrev pub named : {A B : Type 0} → (A → B) → Result (A × List ℕ) (List
 named f (Ok p) = Ok (f p.0, p.1)
 named f (Err rest) = Err rest
 
--- a value in front of another
+-- a value at the start of another
 abbrev pub with_first : {A B : Type 0} → A → Result (B × List ℕ) (List ℕ) → Result ((A × B) × List ℕ) (List ℕ)
 with_first x (Ok q) = Ok ((x, q.0), q.1)
 with_first x (Err rest) = Err rest
@@ -16,7 +16,7 @@ abbrev pub and_then : {A B : Type 0} → Result (A × List ℕ) (List ℕ) → (
 and_then (Ok p) q = with_first p.0 (q p.0 p.1)
 and_then (Err rest) q = Err rest
 
--- a value in front of a list
+-- a value at the start of a list
 abbrev pub onto : {A : Type 0} → A × List A → List A
 onto p = p.0 ∷ p.1
 

@@ -3,7 +3,7 @@
 use clap::{Arg, ArgAction, Command};
 use std::alloc::{AllocError, Global};
 
-/// What `--version` prints behind the program's name.
+/// What `--version` prints after the program's name.
 const VERSION: &str = "0.1.0";
 
 /// The subcommand that edits a message by a script.

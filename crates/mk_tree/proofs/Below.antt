@@ -35,7 +35,7 @@ pub record IsBelow (ss : List Span) (text : List ℕ) (place : ℕ) (followed di
   pub over : AreSpansOver ss text digest left
   pub placed : placed_along ss text place followed digest left ≡ ps
 
--- a span in front of others, over its delimiter's lines and its own
+-- a span at the start of others, over its delimiter's lines and its own
 abbrev front_span : ℕ → Bool → List TextLine → List TextLine → Span
 front_span n d xs ls = span_of d (size xs) (read n d ls)
 
@@ -63,7 +63,7 @@ first_placed n d text xs ls rest place start f g e p q =
     let s : place + delimiter_of (front_span n d xs ls) ≡ start = omega (arith, p, delimiter_span d (size xs) (read n d ls)) in
     λ i. record { start = s i; followed = q i; digest = d; entity = read n d (first_cut n d text xs ls rest e i) }
 
--- parts one behind another
+-- parts one after another
 part_apart : (text : List ℕ) (p : TextLine × List TextLine) (ps : List (TextLine × List TextLine)) (rest : List TextLine) → cut text ≡ parts_lines (p ∷ ps) ++ rest → cut text ≡ (p.0 ∷ []) ++ (p.1 ++ (parts_lines ps ++ rest))
 part_apart text p ps rest e = e ∙ ap (λ xs. p.0 ∷ xs) (append_assoc p.1 (parts_lines ps) rest)
 
@@ -93,7 +93,7 @@ parts_along n d (p ∷ ps) rest text place start f e s =
     (behind_cut n d text (p.0 ∷ []) p.1 (parts_lines ps ++ rest) q) next in
     λ i. first i ∷ others i
 
--- the first of the sections below begins behind the head and the preamble
+-- the first of the sections below begins after the head and the preamble
 abbrev pub front_of : Entity → ℕ
 front_of e = size (head_lines (entity_head e)) + size (preamble_lines e)
 

@@ -10,7 +10,7 @@ use Rattle.mk_tree.specs.Nodes.{form_of, spans_with, span_step, node_span}
 use Rattle.mk_tree.specs.Changed.{LeadsAt, LeadsTo, Resizes, changed_at, resized, respan}
 use Rattle.mk_tree.proofs.SectionViews.{opens}
 
--- nodes as spans one behind another
+-- nodes as spans one after another
 abbrev pub spans_along : List Node → Spans
 spans_along nodes = spans_with (map node_span nodes) no_spans
 

@@ -9,7 +9,7 @@ counted_none (x ∷ xs) = refl
 two_less : (n : ℕ) → suc (suc n) - 1 ≡ suc n
 two_less n = omega arith
 
--- the first is the one that is counted, or one less is counted behind it
+-- the first is the one that is counted, or one less is counted after it
 pub counted_first : {X : Type 0} (x : X) (xs : List X) (left : ℕ) → left ≡ 1 → counted left (x ∷ xs) ≡ Some x
 counted_first x xs left e = ap (λ k. counted k (x ∷ xs)) e
 

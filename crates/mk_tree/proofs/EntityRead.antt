@@ -50,7 +50,7 @@ span_until left digest bs delimiter ls body fields separator whole form spans d 
     (λ i. span delimiter ((f ∙ ap (λ (h : Head). size h.fields) (sym head)) i) ((s ∙ ap (λ (h : Head). size (option_line h.separator)) (sym head)) i) (printed i) (kept.0 i) (kept.1 i))
     ∙ (sym (span_parts digest delimiter (entity_until left digest bs ls body)) ∙ ap (span_of digest delimiter) (sym is))
 
--- what stands behind the entity
+-- what follows the entity
 pub entity_rest : (bs : List (List ℕ)) (text behind body rest : List ℕ)
     → rest_until bs false (lines_of text) ≡ lines_of behind → body_of (lines_of behind) ≡ lines_of body → lines_of rest ≡ beyond bs (lines_of body)
     → lines_of rest ≡ beyond bs (lines_of text)

@@ -26,7 +26,7 @@ run_again : (inside : Bool) (ls : List TextLine) → IsRun inside ls → fields_
 run_again inside [] h = refl
 run_again inside (l ∷ ls) h = rw h.0 (ap (λ xs. l ∷ xs) (run_again true ls h.1))
 
--- what stands behind the fields in the lines of an entity
+-- what follows the fields in the lines of an entity
 abbrev pub behind_fields : Entity → List TextLine
 behind_fields e = option_line (entity_head e).separator ++ body_lines e
 

@@ -72,7 +72,7 @@ placed_join p f x fs s = λ i. record {
   entity = s;
 }
 
--- a part in its place, by the parts before it and behind it
+-- a part in its place, by the parts before it and after it
 abbrev part_placed : ℕ → Bool → Bool → Parts × TextLine × Entity × Parts → Placed
 part_placed place followed digest q = record {
   start = place + size (print_parts q.0 ++ (q.1 ∷ []));

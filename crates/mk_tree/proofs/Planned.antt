@@ -73,7 +73,7 @@ nil_behind : (xs : List ℕ) → xs ++ [] ≡ xs
 nil_behind [] = refl
 nil_behind (x ∷ xs) = ap (λ ys. x ∷ ys) (nil_behind xs)
 
--- another entity in the place of a section, or of what stands behind its head
+-- another entity in the place of a section, or of what follows its head
 pub entity_made : (p : Placed) (left : ℕ) (e : Entity) (new whole : List ℕ) (place count : ℕ) (node : Node) → AreChanged p e new place count → text_of (print e) ≡ whole → node_span node ≡ span_of p.digest 0 (read left p.digest (cut whole))
     → AreLines (print e) → IsWellRead left p.digest e → Makes p e new (record { place = place; count = count; own = own.Entity node })
 entity_made p left e new whole place count node c t n l w = record {

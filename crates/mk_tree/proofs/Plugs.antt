@@ -22,7 +22,7 @@ pub print_append : (ps qs : Parts) → print_parts (append_parts ps qs) ≡ prin
 print_append no_parts qs = refl
 print_append (part l e ps) qs = ap (λ xs. l ∷ xs) (ap (λ xs. print e ++ xs) (print_append ps qs) ∙ sym (append_assoc (print e) (print_parts ps) (print_parts qs)))
 
--- the lines with an entity at a place are those before, its own, and those behind
+-- the lines with an entity at a place are those before, its own, and those after
 pub print_plug : (fs : List Frame) (e : Entity) → print (plug fs e) ≡ lines_before fs ++ (print e ++ lines_after fs)
 print_plug [] e = sym (lines_end (print e))
 print_plug (in_message h ∷ fs) e = ap (λ xs. head_lines h ++ xs) (print_plug fs e) ∙ sym (append_assoc (head_lines h) (lines_before fs) (print e ++ lines_after fs))
@@ -125,7 +125,7 @@ ends_of fields ls s =
 pub of_ends : (fields ls : List TextLine) → Ends fields ls → IsSplit (open_head fields) ls
 of_ends fields ls h = subst (λ k. IsSplit k ls) h.head (subst (IsSplit (head_of (fields ++ ls))) h.body (reads_split (fields ++ ls)))
 
--- an entity that is read back behind a head of a message continues it
+-- an entity that is read back after a head of a message continues it
 pub continues_of : (n : ℕ) (d : Bool) (fields : List TextLine) (o : Option TextLine) (e : Entity) → IsRun false fields → Follows (has_line fields) o (print e) → IsWellRead n d e → Continues fields o e
 continues_of n d fields (Some l) e r h w = tt
 continues_of n d fields None e r h w =
@@ -143,7 +143,7 @@ fits_in_of n d (in_message h ∷ g ∷ fs) e w = fits_in_of (below n) false (g �
 fits_in_of n d (in_multi h b pre before l after t ∷ g ∷ fs) e w =
     fits_in_of (below n) (digest_below d h) (g ∷ fs) e (part_is (below n) (digest_below d h) b before l (plug (g ∷ fs) e) after w.2).1
 
--- behind a head without a separator nothing stands deeper than one level
+-- after a head without a separator nothing stands deeper than one level
 nothing_deeper : (inside : Bool) (n : ℕ) (f : Frame) (fs : List Frame) (s : Entity) → Stops inside (print (plug (f ∷ fs) s)) → IsWellRead n false (plug (f ∷ fs) s) → ⊥
 nothing_deeper inside n f fs s h w = has_fields n f fs s w (ap (λ k. k.fields) (bare inside n false (plug (f ∷ fs) s) h w))
 

@@ -1,4 +1,4 @@
--- The root of a document over what stands behind its envelope.
+-- The root of a document over what follows its envelope.
 use Rattle.std.proofs.Common.{◌≡◌, ◌≤◌, ℕ, Bool, true, false, List, [], ◌∷◌, refl, ap, sym, ◌∙◌, length, drop, arith}
 use Rattle.mk_line.specs.Lines.{TextLine, cut}
 use Rattle.mk_line.specs.Kinds.{is_from_line}

@@ -147,7 +147,7 @@ body_is raw left digest n m p q =
 pub body_cut : (raw : List ℕ) (left : ℕ) (digest : Bool) → cut (text_of (body_lines (read left digest (cut raw)))) ≡ body_lines (read left digest (cut raw))
 body_cut raw left digest = behind_cut raw (head_lines (entity_head (read left digest (cut raw)))) (body_lines (read left digest (cut raw))) (raw_head raw left digest)
 
--- the content of a section that lines follow, and of one behind which none stand
+-- the content of a section that lines follow, and of one after which none stand
 pub content_ended : (raw : List ℕ) (start : ℕ) (followed digest : Bool) (left : ℕ) → followed ≡ true → text_of (unended (cut (body_text (placed_over raw start followed digest left)))) ≡ content_text (placed_over raw start followed digest left)
 content_ended raw start true digest left e = ap (λ ls. text_of (unended ls)) (body_cut raw left digest)
 content_ended raw start false digest left e = cc

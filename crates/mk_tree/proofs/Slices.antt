@@ -1,4 +1,4 @@
--- Lines one behind another, as bytes one behind another.
+-- Lines one after another, as bytes one after another.
 use Rattle.std.proofs.Common.{◌≡◌, ◌≤◌, ◌+◌, ℕ, List, ◌++◌, refl, ap, sym, subst, ◌∙◌, length, take, drop, arith}
 use Rattle.std.proofs.lemmas.List.{take_at}
 use Rattle.mk_line.specs.Lines.{TextLine, cut, text_of, AreLines}
@@ -7,7 +7,7 @@ use Rattle.mk_tree.specs.Spans.{size}
 use Rattle.mk_tree.proofs.Descent.{size_append, size_cut}
 use Rattle.mk_tree.proofs.Heads.{lines_front}
 
--- lines in front of a text: how long they are, their bytes, and that these are cut into them
+-- lines at the start of a text: how long they are, their bytes, and that these are cut into them
 pub front_within : (text : List ℕ) (xs ys : List TextLine) → cut text ≡ xs ++ ys → size xs ≤ length text
 front_within text xs ys e = let h : length text ≡ size (xs ++ ys) = sym (size_cut text) ∙ ap size e in omega (arith, h, size_append xs ys)
 
@@ -17,7 +17,7 @@ front_text text xs ys e = ap (take (size xs)) (text_apart text xs ys e) ∙ take
 pub front_cut : (text : List ℕ) (xs ys : List TextLine) → cut text ≡ xs ++ ys → cut (text_of xs) ≡ xs
 front_cut text xs ys e = cut_text xs (lines_front xs ys (subst AreLines e (lines_cut text)))
 
--- the same of the lines behind them
+-- the same of the lines after them
 pub behind_cut : (text : List ℕ) (xs ys : List TextLine) → cut text ≡ xs ++ ys → cut (text_of ys) ≡ ys
 behind_cut text xs ys e = cut_text ys (lines_behind xs ys (subst AreLines e (lines_cut text)))
 

@@ -31,7 +31,7 @@ kept_stable t k = ap document_of k.lines ∙ k.tree
 pub read_stable : (text : List ℕ) → IsStable (tree text)
 read_stable text = ap tree (text_kept text)
 
--- the envelope is the line in front that is a From-line, where there is one
+-- the envelope is the line at the start that is a From-line, where there is one
 abbrev pub BeginsWell : Option TextLine → List TextLine → Type 0
 BeginsWell (Some l) ls = is_from_line l.content ≡ true
 BeginsWell None ls = BeginsPlain ls

@@ -11,17 +11,17 @@ redigested digest leaf_form = leaf_form
 redigested digest message_form = message_form
 redigested digest (multi_form boundary old preamble tail) = multi_form boundary digest preamble tail
 
--- the lengths behind another delimiter
+-- the lengths after another delimiter
 abbrev pub redelimited : ℕ → Span → Span
 redelimited delimiter (span old fields separator whole form spans) = span delimiter fields separator whole form spans
 
--- spans with one more, behind so many
+-- spans with one more, after so many
 abbrev pub with_span : ℕ → Span → Spans → Spans
 with_span zero s ss = more_spans s ss
 with_span (suc k) s no_spans = more_spans s no_spans
 with_span (suc k) s (more_spans r ss) = more_spans r (with_span k s ss)
 
--- spans without the one behind so many
+-- spans without the one after so many
 abbrev pub without_span : ℕ → Spans → Spans
 without_span k no_spans = no_spans
 without_span zero (more_spans s ss) = ss

@@ -5,13 +5,13 @@ use Rattle.mk_line.specs.declared.marks.Mark.TheVariants.{No, Part, Close}
 use Rattle.mk_line.specs.Lines.{TextLine}
 use Rattle.mk_line.specs.Marks.{mark}
 
--- the preamble; each part, behind its delimiter; the close line and the epilogue, where there is one
+-- the preamble; each part, after its delimiter; the close line and the epilogue, where there is one
 pub record Cut : Type 0 where
   pub preamble : List TextLine
   pub parts : List (TextLine × List TextLine)
   pub tail : Option (TextLine × List TextLine)
 
--- a line before lines whose cut is known; behind a close line nothing is looked for
+-- a line before lines whose cut is known; after a close line nothing is looked for
 abbrev pub cut_before : Mark → TextLine → List TextLine → Cut → Cut
 cut_before No l ls c = record { preamble = l ∷ c.preamble; parts = c.parts; tail = c.tail }
 cut_before Part l ls c = record { preamble = []; parts = (l, c.preamble) ∷ c.parts; tail = c.tail }
@@ -22,7 +22,7 @@ abbrev pub cut_by : List ℕ → List TextLine → Cut
 cut_by b [] = record { preamble = []; parts = []; tail = None }
 cut_by b (l ∷ ls) = cut_before (mark b l.content) l ls (cut_by b ls)
 
--- the lines of parts, each behind its delimiter
+-- the lines of parts, each after its delimiter
 abbrev pub parts_lines : List (TextLine × List TextLine) → List TextLine
 parts_lines [] = []
 parts_lines (p ∷ ps) = p.0 ∷ (p.1 ++ parts_lines ps)

@@ -19,7 +19,7 @@ abbrev pub enveloped : Bool → TextLine → List TextLine → Document
 enveloped true l ls = record { envelope = Some l; root = read levels false ls }
 enveloped false l ls = record { envelope = None; root = read levels false (l ∷ ls) }
 
--- the document that lines are read as: a From-line in front is the envelope
+-- the document that lines are read as: a From-line at the start is the envelope
 abbrev pub document_of : List TextLine → Document
 document_of [] = record { envelope = None; root = read levels false [] }
 document_of (l ∷ ls) = enveloped (is_from_line l.content) l ls

@@ -40,7 +40,7 @@ abbrev pub has_sizes : Option (ℕ × ℕ) → Bool
 has_sizes None = false
 has_sizes (Some t) = true
 
--- how many bytes the epilogue has behind a close line
+-- how many bytes the epilogue has after a close line
 abbrev pub epilogue_size : Option (ℕ × ℕ) → ℕ
 epilogue_size None = 0
 epilogue_size (Some t) = t.1

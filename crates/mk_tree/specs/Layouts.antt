@@ -1,4 +1,4 @@
--- How nodes lie over a text: each over the bytes of its entity, and the nodes of parts one behind another.
+-- How nodes lie over a text: each over the bytes of its entity, and the nodes of parts one after another.
 use Rattle.std.specs.Prelude.{◌≡◌, ◌+◌, ◌≤◌, ◌<◌, ◌^◌, ◌||◌, ℕ, Bool, true, false, List, [], ◌∷◌, length, map, take, drop}
 use Rattle.mk_line.specs.Lines.{cut}
 use Rattle.mk_head.specs.Split.{option_line}
@@ -35,28 +35,28 @@ pub record IsNodeOver (node : Node) (raw : List ℕ) (start : ℕ) (digest : Boo
   pub lengths : IsSpanOver (node_span node) raw digest left
   pub fits : start + length raw < 2 ^ 64
 
--- the bytes of the first of some spans, behind its delimiter, and all bytes behind them
+-- the bytes of the first of some spans, after its delimiter, and all bytes after them
 abbrev pub first_text : Span → List ℕ → List ℕ
 first_text s text = take (whole_of s) (drop (delimiter_of s) text)
 
--- what stands behind an entity in the text that its delimiter begins
+-- what follows an entity in the text that its delimiter begins
 abbrev pub text_behind : Span → List ℕ → List ℕ
 text_behind s text = drop (whole_of s) (drop (delimiter_of s) text)
 
--- the sections that spans stand for, one behind another from a place on; `followed`: whether lines stand behind the last
+-- the sections that spans stand for, one after another from a place on; `followed`: whether lines stand after the last
 abbrev pub placed_along : List Span → List ℕ → ℕ → Bool → Bool → ℕ → List Placed
 placed_along [] text place followed digest left = []
 placed_along (s ∷ ss) text place followed digest left =
     placed_over (first_text s text) (place + delimiter_of s) (has_span ss || followed) digest left
     ∷ placed_along ss (text_behind s text) (place + delimiter_of s + whole_of s) followed digest left
 
--- spans are those of entities one behind another in a text
+-- spans are those of entities one after another in a text
 abbrev pub AreSpansOver : List Span → List ℕ → Bool → ℕ → Type 0
 AreSpansOver [] text digest left = Unit {0}
 AreSpansOver (s ∷ ss) text digest left =
     (delimiter_of s + whole_of s ≤ length text) × IsSpanOver s (first_text s text) digest left × AreSpansOver ss (text_behind s text) digest left
 
--- nodes one behind another
+-- nodes one after another
 pub record AreNodesOver (nodes : List Node) (text : List ℕ) (start : ℕ) (digest : Bool) (left : ℕ) : Type 0 where
   pub lengths : AreSpansOver (map node_span nodes) text digest left
   pub fits : start + length text < 2 ^ 64

@@ -23,17 +23,17 @@ first_line (l ∷ ls) = l ∷ []
 abbrev pub open_head : List TextLine → Head
 open_head fields = record { fields = fields; separator = None }
 
--- fields and one line behind them, or none, are read as these fields without a separator, and that line as the body
+-- fields and one line after them, or none, are read as these fields without a separator, and that line as the body
 pub record Ends (fields first : List TextLine) : Type 0 where
   pub head : head_of (fields ++ first) ≡ open_head fields
   pub body : behind_head (fields ++ first) ≡ first
 
--- an entity behind the fields of a message: without a separator it has no head, and the fields end at its first line
+-- an entity after the fields of a message: without a separator it has no head, and the fields end at its first line
 abbrev pub Continues : List TextLine → Option TextLine → Entity → Type 0
 Continues fields (Some l) e = Unit {0}
 Continues fields None e = (entity_head e ≡ open_head []) × Ends fields (first_line (print e))
 
--- an entity behind the head of a message doesn't run on into it (own); a part stands behind a delimiter
+-- an entity after the head of a message doesn't run on into it (own); a part stands after a delimiter
 abbrev pub FitsFrame : Frame → Entity → Type 0
 FitsFrame (in_message h) e = Continues h.fields h.separator e
 FitsFrame (in_multi h b pre before l after t) e = Unit {0}

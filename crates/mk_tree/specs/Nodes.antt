@@ -19,7 +19,7 @@ form_of shape.Leaf = leaf_form
 form_of shape.Message = message_form
 form_of (shape.Multi m) = multi_form m.value.boundary.items m.value.digest m.value.preamble (tail_of m.value.tail)
 
--- spans in front of others
+-- spans at the start of others
 abbrev pub spans_with : List Span → Spans → Spans
 spans_with [] rest = rest
 spans_with (s ∷ ss) rest = more_spans s (spans_with ss rest)

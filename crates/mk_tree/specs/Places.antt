@@ -16,7 +16,7 @@ pub data Frame : Type 0 where
   in_message : Head → Frame
   in_multi : Head → (boundary : List ℕ) → (preamble : List TextLine) → (before : Parts) → (delimiter : TextLine) → (after : Parts) → (tail : Option (TextLine × List TextLine)) → Frame
 
--- parts behind parts
+-- parts after parts
 abbrev pub append_parts : Parts → Parts → Parts
 append_parts no_parts qs = qs
 append_parts (part l e ps) qs = part l e (append_parts ps qs)
@@ -31,7 +31,7 @@ abbrev pub plug : List Frame → Entity → Entity
 plug [] e = e
 plug (f ∷ fs) e = plug_one f (plug fs e)
 
--- the part of a number, counted from 1: the parts before it, its delimiter, its entity, the parts behind it
+-- the part of a number, counted from 1: the parts before it, its delimiter, its entity, the parts after it
 abbrev pub part_at : ℕ → Parts → Option (Parts × TextLine × Entity × Parts)
 part_at k no_parts = None
 part_at zero (part l e ps) = None
@@ -80,7 +80,7 @@ lines_before [] = []
 lines_before (in_message h ∷ fs) = head_lines h ++ lines_before fs
 lines_before (in_multi h b pre before l after t ∷ fs) = head_lines h ++ (pre ++ (print_parts before ++ (l ∷ lines_before fs)))
 
--- the lines behind it
+-- the lines after it
 abbrev pub lines_after : List Frame → List TextLine
 lines_after [] = []
 lines_after (in_message h ∷ fs) = lines_after fs

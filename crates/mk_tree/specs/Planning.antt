@@ -41,7 +41,7 @@ pub record Makes (p : Placed) (e : Entity) (new : List ℕ) (q : Plan) : Type 0 
 abbrev pub MakesAll : Placed → ℕ → (Entity → Entity → Type 0) → List ℕ → Plan → Type 0
 MakesAll p left P new q = (e : Entity) → P p.entity e → AreLines (print e) → IsWellRead left p.digest e → Makes p e new q
 
--- the place behind so many parts of a multipart
+-- the place after so many parts of a multipart
 abbrev pub IsBehindParts : Placed → ℕ → ℕ → Type 0
 IsBehindParts p count place =
     (h : Head) (b : List ℕ) (pre : List TextLine) (before after : Parts) (t : Option (TextLine × List TextLine)) → p.entity ≡ multi h b pre (append_parts before after) t → part_count before ≡ count

@@ -9,7 +9,7 @@ use Rattle.mk_tree.specs.Tree.{Entity, leaf, message, multi, Parts, no_parts, pa
 use Rattle.mk_tree.specs.Documents.{Document}
 use Rattle.mk_tree.specs.Spans.{size, digest_below}
 
--- an entity in its place: where it begins, in bytes; whether lines stand behind it; whether a missing type means a message
+-- an entity in its place: where it begins, in bytes; whether lines stand after it; whether a missing type means a message
 pub record Placed : Type 0 where
   pub start : ℕ
   pub followed : Bool
@@ -26,7 +26,7 @@ abbrev pub has_tail : Option (TextLine × List TextLine) → Bool
 has_tail None = false
 has_tail (Some t) = true
 
--- parts in their places, the first delimiter at a place; `followed`: whether lines stand behind the last
+-- parts in their places, the first delimiter at a place; `followed`: whether lines stand after the last
 abbrev pub parts_placed : ℕ → Bool → Bool → Parts → List Placed
 parts_placed place followed digest no_parts = []
 parts_placed place followed digest (part l e ps) =
@@ -47,7 +47,7 @@ children p = children_of p p.entity
 abbrev pub root_of : Document → Placed
 root_of t = record { start = size (option_line t.envelope); followed = false; digest = false; entity = t.root }
 
--- the section at the numbers behind a section's own; each counts from 1
+-- the section at the numbers after a section's own; each counts from 1
 abbrev pub section_below : List ℕ → Placed → Option Placed
 section_below [] p = Some p
 section_below (k ∷ ks) p = option_and_then (section_below ks) (counted k (children p))
@@ -65,13 +65,13 @@ raw_of p = text_of (print p.entity)
 abbrev pub head_text : Placed → List ℕ
 head_text p = text_of (entity_head p.entity).fields
 
--- the lines of an entity behind its head
+-- the lines of an entity after its head
 abbrev pub body_lines : Entity → List TextLine
 body_lines (leaf h ls) = ls
 body_lines (message h e) = print e
 body_lines (multi h b pre ps t) = (pre ++ (print_parts ps ++ tail_lines t))
 
--- the bytes behind its head
+-- the bytes after its head
 abbrev pub body_text : Placed → List ℕ
 body_text p = text_of (body_lines p.entity)
 
@@ -95,12 +95,12 @@ preamble_lines (leaf h ls) = []
 preamble_lines (message h e) = []
 preamble_lines (multi h b pre ps t) = pre
 
--- the lines behind a close line, where there is one
+-- the lines after a close line, where there is one
 abbrev pub epilogue_of : Option (TextLine × List TextLine) → List TextLine
 epilogue_of None = []
 epilogue_of (Some t) = t.1
 
--- the lines behind the close line of a multipart
+-- the lines after the close line of a multipart
 abbrev pub epilogue_lines : Entity → List TextLine
 epilogue_lines (leaf h ls) = []
 epilogue_lines (message h e) = []

@@ -34,7 +34,7 @@ abbrev pub digest_below : Bool → Head → Bool
 digest_below digest h = is_digest (kind h.fields digest)
 
 abbrev mutual
-  -- of an entity behind a delimiter of a length, in a digest or not
+  -- of an entity after a delimiter of a length, in a digest or not
   pub span_of : Bool → ℕ → Entity → Span
   span_of digest delimiter (leaf h ls) =
       span delimiter (size h.fields) (size (option_line h.separator)) (size (print (leaf h ls))) leaf_form no_spans

@@ -55,7 +55,7 @@ pub record SectionBecomes (path : List ℕ) (P : Entity → Entity → Type 0) (
   pub result : u ≡ put t.envelope around new
   pub stable : IsStable u
 
--- other bytes behind its head: a body, or a separator that it had none of and a body
+-- other bytes after its head: a body, or a separator that it had none of and a body
 abbrev pub HasBody : List ℕ → Entity → Entity → Type 0
 HasBody text s e = text_of (print e) ≡ text_of (head_lines (entity_head s)) ++ text
 
@@ -68,7 +68,7 @@ abbrev pub part_count : Parts → ℕ
 part_count no_parts = 0
 part_count (part l e ps) = suc (part_count ps)
 
--- a multipart with a part more, behind so many: a delimiter and an entity
+-- a multipart with a part more, after so many: a delimiter and an entity
 pub record HasPart (place : ℕ) (text : List ℕ) (s e : Entity) : Type 0 where
   pub head : Head
   pub boundary : List ℕ

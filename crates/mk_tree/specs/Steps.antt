@@ -31,12 +31,12 @@ is_part No = false
 is_part Part = true
 is_part Close = false
 
--- whether a delimiter of a boundary stands in front, and no mark of those around it
+-- whether a delimiter of a boundary stands at the start, and no mark of those around it
 abbrev pub begins_part : List (List ℕ) → List ℕ → List TextLine → Bool
 begins_part bs b [] = false
 begins_part bs b (l ∷ ls) = not (is_marked bs l) && is_part (mark b l.content)
 
--- the lines behind the first
+-- the lines after the first
 abbrev pub behind_first : List TextLine → List TextLine
 behind_first [] = []
 behind_first (l ∷ ls) = ls
@@ -46,7 +46,7 @@ abbrev pub first_size : List TextLine → ℕ
 first_size [] = 0
 first_size (l ∷ ls) = length (printed_line l)
 
--- the line in front and what it closes off, where it is no mark of the boundaries
+-- the line at the start and what it closes off, where it is no mark of the boundaries
 abbrev pub ended_by : List (List ℕ) → List TextLine → Option (TextLine × List TextLine)
 ended_by bs [] = None
 ended_by bs (l ∷ ls) = if is_marked bs l then None else Some (l, upto bs ls)
@@ -56,7 +56,7 @@ abbrev pub AtMark : List (List ℕ) → List TextLine → Type 0
 AtMark bs [] = Unit {0}
 AtMark bs (l ∷ ls) = is_marked bs l ≡ true
 
--- a form and spans are kept of the body that lines are read as behind fields
+-- a form and spans are kept of the body that lines are read as after fields
 abbrev pub KeptOfBody : ℕ → Bool → List TextLine → List TextLine → Form → Spans → Type 0
 KeptOfBody left digest fields ls form spans =
     (separator : Option TextLine) → let e = entity_by (read (below left)) (kind_at left fields digest) (record { fields = fields; separator = separator }) ls in

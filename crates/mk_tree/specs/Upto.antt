@@ -23,7 +23,7 @@ abbrev pub upto : List (List ℕ) → List TextLine → List TextLine
 upto bs [] = []
 upto bs (l ∷ ls) = if is_marked bs l then [] else l ∷ upto bs ls
 
--- the first mark and all behind it
+-- the first mark and all after it
 abbrev pub beyond : List (List ℕ) → List TextLine → List TextLine
 beyond bs [] = []
 beyond bs (l ∷ ls) = if is_marked bs l then l ∷ ls else beyond bs ls
@@ -32,12 +32,12 @@ beyond bs (l ∷ ls) = if is_marked bs l then l ∷ ls else beyond bs ls
 abbrev pub goes_on : List (List ℕ) → Bool → TextLine → Bool
 goes_on bs inside l = not (is_marked bs l) && belongs inside l
 
--- the lines of fields in front, up to a mark
+-- the lines of fields at the start, up to a mark
 abbrev pub fields_until : List (List ℕ) → Bool → List TextLine → List TextLine
 fields_until bs inside [] = []
 fields_until bs inside (l ∷ ls) = if goes_on bs inside l then l ∷ fields_until bs true ls else []
 
--- what stands behind those lines
+-- what follows those lines
 abbrev pub rest_until : List (List ℕ) → Bool → List TextLine → List TextLine
 rest_until bs inside [] = []
 rest_until bs inside (l ∷ ls) = if goes_on bs inside l then rest_until bs true ls else l ∷ ls

@@ -11,11 +11,11 @@ use std::alloc::AllocError;
 pub(crate) enum Own {
     /// Its fields are others, and a missing type means a message in its parts, or doesn't.
     Fields(bool),
-    /// It is another, which stands behind the same delimiter.
+    /// It is another, which stands after the same delimiter.
     Entity(Node),
-    /// It has a part more, behind so many.
+    /// It has a part more, after so many.
     Part(usize, Node),
-    /// It doesn't have the part behind so many.
+    /// It doesn't have the part after so many.
     NoPart(usize),
 }
 
@@ -89,7 +89,7 @@ impl Node {
         Ok(())
     }
 
-    // Puts another in its place, behind its delimiter.
+    // Puts another in its place, after its delimiter.
     fn give_way(&mut self, node: Node)
         ensures { node_span self.new ≡ redelimited (delimiter_of (node_span self.old)) (node_span node) }
     {

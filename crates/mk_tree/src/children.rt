@@ -3,7 +3,7 @@ use crate::node::Node;
 use crate::section::Section;
 use std::marker::Model;
 
-/// Sections one behind another that are still to come, from the first on. Each step takes the same time.
+/// Sections one after another that are still to come, from the first on. Each step takes the same time.
 #[derive(Drop)]
 pub struct Children<'a> {
     /// The text from the first of them on, its delimiter included.
@@ -11,7 +11,7 @@ pub struct Children<'a> {
     pub(crate) nodes: &'a [Node],
     /// Where that text begins in the document.
     pub(crate) start: usize,
-    /// Whether lines stand behind the last.
+    /// Whether lines stand after the last.
     pub(crate) followed: bool,
     pub(crate) digest: bool,
     /// How many levels may stand below each.

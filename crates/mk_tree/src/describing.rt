@@ -33,7 +33,7 @@ pub enum Described {
     Multi(Vec<u8>, bool),
 }
 
-/// What the fields in front of a text say of the body below them, in a digest or not.
+/// What the fields at the start of a text say of the body below them, in a digest or not.
 pub fn describe(alloc: Global, head: &[u8], digest: bool) -> Result<Described, AllocError>
     ensures { IfOk result (λ d. kind_described d ≡ kind (fields_from false (lines_of head.now)) digest) }
 {
@@ -125,7 +125,7 @@ fn is_identity(encoding: Encoding) -> bool
     }
 }
 
-/// The transfer encoding that the fields in front of a text say.
+/// The transfer encoding that the fields at the start of a text say.
 pub(crate) fn encoding_in(alloc: Global, head: &[u8]) -> Result<Encoding, AllocError>
     ensures { IfOk result (λ e. e ≡ header_encoding (fields_from false (lines_of head.now))) }
 {
@@ -135,7 +135,7 @@ pub(crate) fn encoding_in(alloc: Global, head: &[u8]) -> Result<Encoding, AllocE
     }
 }
 
-/// The value of the first field of a name in front of a text.
+/// The value of the first field of a name at the start of a text.
 pub(crate) fn value_in(
     alloc: Global,
     head: &[u8],

@@ -88,7 +88,7 @@ impl Doc {
         }
     }
 
-    /// The section at a path: 1 is the root, and each number behind it counts the sections below from 1.
+    /// The section at a path: 1 is the root, and each number after it counts the sections below from 1.
     pub fn section(&self, path: &[u32]) -> Option<Section<'_>>
         ensures { result ≡ section_at path.now (tree self.now) }
     {
@@ -104,7 +104,7 @@ impl Doc {
     }
 }
 
-// What stands behind the line that a mailbox puts before a message, where it is there.
+// What follows the line that a mailbox puts before a message, where it is there.
 fn behind_envelope(text: &[u8]) -> &[u8]
     ensures envelope { length text.now ≡ size (option_line (tree text.now).envelope) + length result.now }
     ensures message { (tree text.now).root ≡ read levels false (lines_of result.now) }

@@ -45,8 +45,8 @@ pub fn replacement_is_local()
     ensures { (envelope : Option TextLine) (around : List Frame) (section new : Entity) → IsStable (put envelope around section) → (IsStable (put envelope around new) ↔ Replaces envelope around new) }
 {}
 
-/// Numbers lead to the same section through what stands around it: it begins behind the lines before, it is followed
-/// where there are lines behind it, and its default is that of the place.
+/// Numbers lead to the same section through what stands around it: it begins after the lines before, it is followed
+/// where there are lines after it, and its default is that of the place.
 pub fn places_are_sections()
     ensures { (t : Document) (numbers : List ℕ) → section_below numbers (root_of t) ≡ option_map (λ q. placed t.envelope q.0 q.1) (place_at numbers t.root) }
 {}

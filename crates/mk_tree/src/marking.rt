@@ -63,7 +63,7 @@ fn belongs(line: &Line<'_>, inside: bool) -> bool
     name_len(line.content).is_some() || (inside && is_continuation(line.content))
 }
 
-/// What stands behind the fields in front, up to a mark.
+/// What follows the fields at the start, up to a mark.
 pub(crate) fn skip_fields<'a>(text: &'a [u8], opened: &[&[u8]]) -> &'a [u8]
     ensures fields { length text.now ≡ size (fields_until (boundaries_of opened.now) false (lines_of text.now)) + length result.now }
     ensures rest { rest_until (boundaries_of opened.now) false (lines_of text.now) ≡ lines_of result.now }
@@ -80,7 +80,7 @@ pub(crate) fn skip_fields<'a>(text: &'a [u8], opened: &[&[u8]]) -> &'a [u8]
     rest
 }
 
-/// What stands behind the empty line in front, if there is one.
+/// What follows the empty line at the start, if there is one.
 pub(crate) fn skip_separator(text: &[u8]) -> &[u8]
     ensures separator { length text.now ≡ size (option_line (separator_of (lines_of text.now))) + length result.now }
     ensures body { body_of (lines_of text.now) ≡ lines_of result.now }
@@ -91,7 +91,7 @@ pub(crate) fn skip_separator(text: &[u8]) -> &[u8]
     }
 }
 
-/// The first mark and what stands behind it.
+/// The first mark and what follows it.
 pub(crate) fn skip_unmarked<'a>(text: &'a [u8], opened: &[&[u8]]) -> &'a [u8]
     ensures front { length text.now ≡ size (upto (boundaries_of opened.now) (lines_of text.now)) + length result.now }
     ensures rest { beyond (boundaries_of opened.now) (lines_of text.now) ≡ lines_of result.now }
@@ -106,7 +106,7 @@ pub(crate) fn skip_unmarked<'a>(text: &'a [u8], opened: &[&[u8]]) -> &'a [u8]
     rest
 }
 
-/// What stands behind a delimiter of the boundary in front, where it is no mark of those around it.
+/// What follows a delimiter of the boundary at the start, where it is no mark of those around it.
 pub(crate) fn behind_delimiter<'a>(
     text: &'a [u8],
     boundary: &[u8],
@@ -126,7 +126,7 @@ pub(crate) fn behind_delimiter<'a>(
     }
 }
 
-/// The line in front and what it closes off, where it is no mark; and what stands behind.
+/// The line at the start and what it closes off, where it is no mark; and what follows.
 pub(crate) fn read_tail<'a>(text: &'a [u8], opened: &[&[u8]]) -> (Option<Tail>, &'a [u8])
     ensures tail { tail_of result.0 ≡ tail_sizes (ended_by (boundaries_of opened.now) (lines_of text.now)) }
     ensures rest { lines_of result.1.now ≡ beyond (boundaries_of opened.now) (lines_of text.now) }

@@ -7,7 +7,7 @@ pub struct Node {
     pub delimiter: usize,
     /// The lines of its fields.
     pub fields: usize,
-    /// The empty line behind the fields, where it is there.
+    /// The empty line after the fields, where it is there.
     pub separator: usize,
     /// All its lines, without the delimiter.
     pub size: usize,
@@ -41,6 +41,6 @@ pub struct Multi {
 pub struct Tail {
     /// The close line.
     pub close: usize,
-    /// All lines behind it.
+    /// All lines after it.
     pub epilogue: usize,
 }

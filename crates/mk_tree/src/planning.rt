@@ -19,11 +19,11 @@ use std::alloc::{AllocError, Global};
 /// What is changed of a section.
 #[derive(Clone, Copy)]
 pub(crate) enum SectionChange<'a> {
-    /// All bytes behind its head.
+    /// All bytes after its head.
     Body(&'a [u8]),
     /// All its bytes.
     Entity(&'a [u8]),
-    /// A part more, behind so many: its delimiter and its bytes.
+    /// A part more, after so many: its delimiter and its bytes.
     Part(u32, &'a [u8]),
     /// The part of a number, counted from 1, goes with its delimiter.
     NoPart(u32),
@@ -81,7 +81,7 @@ pub(crate) fn plan_change(
     }
 }
 
-// Reads all of a text as an entity behind a delimiter of a length.
+// Reads all of a text as an entity after a delimiter of a length.
 fn read_whole(
     alloc: Global,
     text: &[u8],
@@ -165,7 +165,7 @@ fn plan_removal(section: &Section<'_>, number: u32) -> Plan
     }
 }
 
-// Where a multipart's first parts end, so many of them: behind its preamble where they are none.
+// Where a multipart's first parts end, so many of them: after its preamble where they are none.
 fn behind_parts(section: &Section<'_>, count: u32) -> usize
     ensures { IsBehindParts section.now count result }
 {
@@ -175,7 +175,7 @@ fn behind_parts(section: &Section<'_>, count: u32) -> usize
     }
 }
 
-// What stands behind the first line of a text.
+// What follows the first line of a text.
 fn behind_first_line(text: &[u8]) -> &[u8]
     ensures lines { (l : TextLine) (ls : List TextLine) → lines_of text.now ≡ l ∷ ls → lines_of result.now ≡ ls }
     ensures less { length result.now ≤ length text.now }

@@ -18,8 +18,8 @@ use crate::marking::{
 use crate::node::{Multi, Node, Shape};
 use std::alloc::{AllocError, Global};
 
-/// Reads the entity in front, behind a delimiter of a length, below which so many levels may stand: what is kept of it,
-/// and what stands behind it.
+/// Reads the entity at the start, after a delimiter of a length, below which so many levels may stand: what is kept of it,
+/// and what follows it.
 #[cycle(reading)]
 pub(crate) fn read_entity<'a>(
     alloc: Global,

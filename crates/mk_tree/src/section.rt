@@ -70,7 +70,7 @@ impl<'a> Section<'a> {
         head
     }
 
-    /// The bytes behind its separator, or behind its fields where it has none.
+    /// The bytes after its separator, or after its fields where it has none.
     pub fn body(&self) -> &'a [u8]
         ensures { result.now ≡ body_text self.now }
     {
@@ -79,7 +79,7 @@ impl<'a> Section<'a> {
         body
     }
 
-    /// Its body, without the line ending at its end where the section is followed: that belongs to the line behind it.
+    /// Its body, without the line ending at its end where the section is followed: that belongs to the line after it.
     pub fn content(&self) -> &'a [u8]
         ensures { result.now ≡ content_text self.now }
     {
@@ -96,7 +96,7 @@ impl<'a> Section<'a> {
         preamble
     }
 
-    /// The lines behind the close line of a multipart; nothing where there is none.
+    /// The lines after the close line of a multipart; nothing where there is none.
     pub fn epilogue(&self) -> &'a [u8]
         ensures { result.now ≡ text_of (epilogue_lines self.now.entity) }
     {
@@ -120,7 +120,7 @@ impl<'a> Section<'a> {
         head + self.start
     }
 
-    /// Where it ends in the document, in bytes from 0: the place behind its last byte.
+    /// Where it ends in the document, in bytes from 0: the place after its last byte.
     pub fn end(&self) -> usize
         ensures { result ≡ self.now.start + size (print self.now.entity) }
     {
@@ -162,7 +162,7 @@ impl<'a> Section<'a> {
         self.node.shape.is_digest()
     }
 
-    /// Whether lines stand behind it in the document. The next is a delimiter or close line then.
+    /// Whether lines stand after it in the document. The next is a delimiter or close line then.
     pub fn followed(&self) -> bool
         ensures { result ≡ self.now.followed }
     {

@@ -6,7 +6,7 @@ use crate::node::Shape;
 pub enum Kind {
     /// A content with no sections below it.
     Leaf,
-    /// Parts behind delimiters of a boundary.
+    /// Parts after delimiters of a boundary.
     Multi,
     /// One message.
     Message,
@@ -68,7 +68,7 @@ impl Shape {
         }
     }
 
-    /// How many bytes stand behind the close line.
+    /// How many bytes stand after the close line.
     pub fn epilogue(&self) -> usize
         ensures { result ≡ form_epilogue (form_of self.now) }
     {

@@ -26,7 +26,7 @@ pub enum Change {
         count: usize,
         text: Vec<u8>,
     },
-    /// `text` comes in the place of all bytes behind the section's head: its body, and before it an empty line where the head
+    /// `text` comes in the place of all bytes after the section's head: its body, and before it an empty line where the head
     /// has none.
     Body {
         text: Vec<u8>,
@@ -35,7 +35,7 @@ pub enum Change {
     Entity {
         text: Vec<u8>,
     },
-    /// A multipart has a part more, behind `place` others: `text` is its delimiter line and the part.
+    /// A multipart has a part more, after `place` others: `text` is its delimiter line and the part.
     Part {
         place: u32,
         text: Vec<u8>,

@@ -1,4 +1,4 @@
--- The bodies of the sections below a section stand in its body one behind another, with whole lines between them.
+-- The bodies of the sections below a section stand in its body one after another, with whole lines between them.
 use Rattle.std.proofs.Common.{◌≡◌, ◌<◌, ◌≤◌, ◌+◌, ◌-◌, ◌^◌, ◌++◌, ℕ, Bool, Result, Ok, Err, IfOk, List, [], ◌∷◌, refl, ap, sym, ◌∙◌, subst, length, length-append, take, drop, append_assoc, append-nil, arith, ◌||◌}
 use Rattle.std.proofs.lemmas.List.{drop_at, take_at}
 use Rattle.mk_line.specs.Lines.{AreLines, TextLine, cut, text_of}
@@ -22,7 +22,7 @@ head_and_body (leaf h ls) = refl
 head_and_body (message h e) = refl
 head_and_body (multi h b pre ps t) = refl
 
--- from a place on stand these lines, and in them the bodies of sections, each behind lines of its own
+-- from a place on stand these lines, and in them the bodies of sections, each after lines of its own
 abbrev pub AreSpread : ℕ → List TextLine → List Placed → Type 0
 AreSpread place ls [] = Unit {0}
 AreSpread place ls (q ∷ qs) =
@@ -79,7 +79,7 @@ left_begun p rest place below a r e b = record {
 pub left_count : (total place count : ℕ) (rest : List ℕ) (below : List Placed) → IsLeft total place count rest below → count + length (cut rest) ≡ total
 left_count total place count rest below w = ap (λ t. count + length (cut t)) w.text ∙ (ap (λ ls. count + length ls) (cut_text w.lines w.are_lines) ∙ w.counted)
 
--- the next section: its body stands behind a front of what is left
+-- the next section: its body stands after a front of what is left
 pub record IsNext (total place count : ℕ) (rest : List ℕ) (q : Placed) (below : List Placed) : Type 0 where
   pub behind : place ≤ q.start + size (head_lines (entity_head q.entity))
   pub within : q.start + size (head_lines (entity_head q.entity)) - place ≤ length rest
@@ -135,7 +135,7 @@ root_lines text =
     subst AreLines (sym (lines_kept text) ∙ ap (λ ls. option_line t.envelope ++ ls) (head_and_body t.root)) (lines_cut text) in
     lines_behind (head_lines (entity_head t.root)) (body_lines t.root) (lines_behind (option_line t.envelope) (head_lines (entity_head t.root) ++ body_lines t.root) all)
 
--- what is left behind the next section, by what was counted of it and where it begins and ends
+-- what is left after the next section, by what was counted of it and where it begins and ends
 lines_counted : (place begin lines start : ℕ) (rest front : List ℕ) → begin ≡ start → front ≡ take (begin - place) rest → lines ≡ length (cut front) → lines ≡ length (cut (take (start - place) rest))
 lines_counted place begin lines start rest front b f l = l ∙ ap (λ t. length (cut t)) (f ∙ ap (λ m. take (m - place) rest) b)
 
@@ -169,7 +169,7 @@ body_counted p a = ap length (cut_text (body_lines p.entity) a)
 pub body_few : (p : Placed) (text : List ℕ) → AreLines (body_lines p.entity) → text ≡ body_text p → length text < 2 ^ 64 → length (body_lines p.entity) < 2 ^ 64
 body_few p text a t h = omega (arith, h, ap length t, length_cut (body_text p), body_counted p a)
 
--- a section's line, and behind it those of the sections below
+-- a section's line, and after it those of the sections below
 pub listed_written : (path : List ℕ) (p : Placed) (lines below new : List ℕ) → below ≡ flat_map listing_line (along listed_from path 1 (children p)) → new ≡ lines ++ (listing_line (record { path = path; section = p }) ++ below)
     → new ≡ lines ++ flat_map listing_line (listed_from path p)
 listed_written path p lines below new b n = n ∙ (ap (λ x. lines ++ (listing_line (record { path = path; section = p }) ++ x)) b ∙ ap (λ ls. lines ++ flat_map listing_line ls) (sym (listed_one path p)))

@@ -1,4 +1,4 @@
--- Sections at their paths, and leaves put behind others.
+-- Sections at their paths, and leaves put after others.
 use Rattle.std.proofs.Common.{◌≡◌, ◌+◌, ◌==◌, ◌++◌, if◌then◌else◌, ℕ, suc, Bool, true, false, Option, None, Some, List, [], ◌∷◌, option_and_then, ap, sym, subst, ◌∙◌, arith}
 use Rattle.mk_head.specs.Fields.{counted}
 use Rattle.mk_tree.specs.Documents.{Document}
@@ -28,7 +28,7 @@ chosen : (b : Bool) (ks : List ℕ) (n : ℕ) (p q r : Placed) → (if b then se
 chosen true ks n p q r h c = one_more ks n p q r h c
 chosen false ks n p q r h c = absurd cc
 
--- a section below one at a path is at the path with its number behind it
+-- a section below one at a path is at the path with its number after it
 pub at_below : (t : Document) (path below : List ℕ) (n : ℕ) (p q : Placed) → below ≡ path ++ n ∷ [] → section_at path t ≡ Some p → counted n (children p) ≡ Some q → section_at below t ≡ Some q
 at_below t [] below n p q e h c = absurd cc
 at_below t (k ∷ ks) below n p q e h c = ap (λ ns. section_at ns t) e ∙ chosen (k == 1) ks n (root_of t) p q h c

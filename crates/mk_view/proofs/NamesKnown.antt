@@ -83,7 +83,7 @@ least_free f own first number had free above tried names k =
       ];
     }
 
--- the name that is made is kept, and behind it the number from which on the next is looked for
+-- the name that is made is kept, and after it the number from which on the next is looked for
 two_more : (f e g : List ℕ → Option ℕ) (own given : List ℕ) (number : ℕ) (names : List (List ℕ)) → Knows f names → is_taken names own ≡ true → IsLeastFree names own number → given ≡ numbered own number
     → ((other : List ℕ) → e other ≡ (if bytes_eq given other then Some 1 else f other)) → ((other : List ℕ) → g other ≡ (if bytes_eq own other then Some (number + 1) else e other)) → Knows g (given ∷ names)
 two_more f e g own given number names k t l same first second =

@@ -103,7 +103,7 @@ unfolding stored
 stored_safe texts [] = tt
 stored_safe texts (s ∷ ss) = both_safe _ _ (one_safe texts (kind_in s.section.entity) s.path (type_of s.section) (raw_name s.section)) (stored_safe texts ss)
 
--- a name with a number behind it is as safe
+-- a name with a number after it is as safe
 pub numbered_safe : (name : List ℕ) (number : ℕ) → is_safe name ≡ true → is_safe (numbered name number) ≡ true
 numbered_safe [] number h = absurd (cc)
 numbered_safe (x ∷ xs) number h =

@@ -36,7 +36,7 @@ raw_name p = first_some (disposed_name (field_value (codes "Content-Disposition"
 abbrev pub is_divider : ℕ → Bool
 is_divider byte = byte == slash || byte == backslash
 
--- what stands behind the last divider, where the other bytes are those behind the last one so far
+-- what follows the last divider, where the other bytes are those after the last one so far
 abbrev pub behind_last : List ℕ → List ℕ → List ℕ
 behind_last kept [] = kept
 behind_last kept (byte ∷ bytes) = if is_divider byte then behind_last bytes bytes else behind_last kept bytes

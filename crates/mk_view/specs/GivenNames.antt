@@ -1,11 +1,11 @@
--- Names told apart: one that an earlier section has gets a number behind it (own).
+-- Names told apart: one that an earlier section has gets a number after it (own).
 use Rattle.std.specs.Prelude.{◌≡◌, ◌==◌, ◌<◌, ◌≤◌, ◌&&◌, ◌++◌, ℕ, Bool, true, false, not, List, [], ◌∷◌, decimal}
 use Rattle.std.specs.List.{list_all, list_any}
 use Rattle.std.specs.Str.{bytes_eq}
 use Rattle.mk_line.specs.Ascii.{full_stop, slash}
 use Rattle.mk_view.specs.FileNames.{Named}
 
--- a name with a number behind it
+-- a name with a number after it
 abbrev pub numbered : List ℕ → ℕ → List ℕ
 numbered name number = name ++ full_stop ∷ decimal number
 
@@ -35,7 +35,7 @@ AreGiven names [] (g ∷ gs) = ⊥
 AreGiven names (o ∷ os) [] = ⊥
 AreGiven names (o ∷ os) (g ∷ gs) = (g.0 ≡ o.0) × IsGiven names o.1 g.1 × AreGiven (g.1 ∷ names) os gs
 
--- the names that are given once these are given too, the last in front
+-- the names that are given once these are given too, the last at the start
 abbrev pub given_after : List (List ℕ) → List Named → List (List ℕ)
 given_after names [] = names
 given_after names (g ∷ gs) = given_after (g.1 ∷ names) gs

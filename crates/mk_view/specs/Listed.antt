@@ -25,7 +25,7 @@ abbrev mutual
 abbrev pub greatest_number : ℕ
 greatest_number = 4294967295
 
--- what a function gives for sections one behind another, of which the first has a number below a path; from the first on
+-- what a function gives for sections one after another, of which the first has a number below a path; from the first on
 -- whose number a path can't hold they are left out
 abbrev pub along : (List ℕ → Placed → List Listed) → List ℕ → ℕ → List Placed → List Listed
 along f path number [] = []

@@ -18,7 +18,7 @@ use Rattle.mk_tree.specs.Documents.{Document}
 use Rattle.mk_line.specs.Ascii.{full_stop, slash}
 use Rattle.mk_view.specs.Listed.{Listed, listed}
 
--- a number of a path behind another
+-- a number of a path after another
 abbrev pub dotted : ℕ → List ℕ
 dotted number = full_stop ∷ decimal number
 
@@ -52,7 +52,7 @@ type_of p = header_type p.digest (field_lines p.entity)
 abbrev pub encoding_in : Placed → Encoding
 encoding_in p = header_encoding (field_lines p.entity)
 
--- a column behind another
+-- a column after another
 abbrev pub column : List ℕ → List ℕ
 column text = space ∷ text
 

@@ -1,4 +1,4 @@
--- The names that were given so far, each with the number that is tried first behind it.
+-- The names that were given so far, each with the number that is tried first after it.
 use Rattle.std.specs.Prelude.{◌≡◌, ◌<◌, ◌≤◌, ℕ, true, Option, Some, List, is_some}
 use Rattle.std.specs.BTreeMap.{BTreeMap, get_by}
 use Rattle.std.specs.Cmp.Lexicographic.{slice_cmp}
@@ -6,7 +6,7 @@ use Rattle.std.specs.Global.{Vec}
 use Rattle.std.specs.Ordering.{nat_cmp}
 use Rattle.mk_view.specs.GivenNames.{is_taken, numbered}
 
--- the number that is tried first behind a name, where the name was given
+-- the number that is tried first after a name, where the name was given
 abbrev pub number_at : BTreeMap (Vec ℕ) ℕ → List ℕ → Option ℕ
 number_at taken name = get_by (λ key. slice_cmp nat_cmp name key.items) taken
 

@@ -13,7 +13,7 @@ use std::collections::BTreeMap;
 
 const DOT: u8 = b'.';
 
-// The names that were given so far, each with the number that is tried first behind it.
+// The names that were given so far, each with the number that is tried first after it.
 type Taken = BTreeMap<Vec<u8>, u64>;
 
 /// Gives leaves their names in turn, from those that they would get by themselves.
@@ -39,7 +39,7 @@ pub(crate) fn give_all<'a>(alloc: Global, list: Vec<Leaf<'a>>) -> Result<Vec<Lea
     Ok(leaves)
 }
 
-// Gives a name that is none of those given so far: the own one, or that with a number behind it.
+// Gives a name that is none of those given so far: the own one, or that with a number after it.
 fn give(alloc: Global, taken: &mut Taken, own: Vec<u8>) -> Result<Vec<u8>, AllocError>
     ensures { IfOk result (λ given. (names : List (List ℕ)) → Knows (number_at taken.old) names → IsGiven names own.items given.items × Knows (number_at taken.new) (given.items ∷ names)) }
 {
@@ -59,14 +59,14 @@ fn give(alloc: Global, taken: &mut Taken, own: Vec<u8>) -> Result<Vec<u8>, Alloc
     }
 }
 
-// The number that is tried first behind a name, where the name was given.
+// The number that is tried first after a name, where the name was given.
 fn first_number(taken: &Taken, name: &[u8]) -> Option<u64>
     ensures { result ≡ number_at taken.now name.now }
 {
     taken.get(name).copied()
 }
 
-// Keeps the number that is tried first behind a name.
+// Keeps the number that is tried first after a name.
 fn put(taken: &mut Taken, name: Vec<u8>, number: u64) -> Result<(), AllocError>
     ensures { OnOk result ((other : List ℕ) → number_at taken.new other ≡ (if bytes_eq name.items other then Some number else number_at taken.old other)) }
 {
@@ -97,7 +97,7 @@ fn free_name(
     Err(AllocError)
 }
 
-/// A name with a dot and a number behind it.
+/// A name with a dot and a number after it.
 pub fn numbered(alloc: Global, name: &[u8], number: u64) -> Result<Vec<u8>, AllocError>
     ensures written { IfOk result (λ text. text.items ≡ numbered_by name.now number) }
     ensures safe { IfOk result (λ text. is_safe name.now ≡ true → is_safe text.items ≡ true) }

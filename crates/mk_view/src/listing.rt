@@ -29,7 +29,7 @@ pub fn list(alloc: Global, doc: &Doc) -> Result<Vec<u8>, AllocError>
     Ok(lines)
 }
 
-// Writes the line of a section, and behind it those of the sections below. Answers how many lines its body has: those of the
+// Writes the line of a section, and after it those of the sections below. Answers how many lines its body has: those of the
 // sections below are counted on the way, and no line twice.
 fn push_sections(
     alloc: Global,
@@ -76,7 +76,7 @@ fn push_sections(
     )
 }
 
-// Writes the line of a section whose body has so many lines, and behind it those of the sections below.
+// Writes the line of a section whose body has so many lines, and after it those of the sections below.
 fn push_listed(
     alloc: Global,
     lines: &mut Vec<u8>,

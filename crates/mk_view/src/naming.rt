@@ -114,7 +114,7 @@ fn cleaned(alloc: Global, raw: &[u8]) -> Result<Vec<u8>, AllocError>
     Ok(name)
 }
 
-// What stands behind the last slash or backslash.
+// What follows the last slash or backslash.
 fn last_piece(raw: &[u8]) -> &[u8]
     ensures { result.now ≡ behind_last raw.now raw.now }
 {

@@ -31,7 +31,7 @@ pub struct Leaf<'a> {
 /// Names the leaves of a document, in its order, for storing them as files: the path of each and its name. The name is the
 /// parameter `filename` of Content-Disposition, else `name` of Content-Type (RFC 2183, 2.3; RFC 2045, 5.1), of which what
 /// could lead elsewhere is taken off; without one it is `part-` and the path. A leaf of a text type without a name is left
-/// out unless `texts`. Where an earlier leaf has the name, a number is put behind it.
+/// out unless `texts`. Where an earlier leaf has the name, a number is put after it.
 pub fn names(alloc: Global, doc: &Doc, texts: bool) -> Result<Vec<(Vec<u32>, Vec<u8>)>, AllocError>
     ensures given { IfOk result (λ names. AreGiven [] (all_stored texts (tree doc.now)) (map named_view names.items)) }
     ensures distinct { IfOk result (λ names. AreDistinct [] (map named_view names.items)) }
@@ -57,7 +57,7 @@ pub fn leaves(alloc: Global, doc: &Doc, texts: bool) -> Result<Vec<Leaf<'_>>, Al
     give_all(alloc, list)
 }
 
-// Puts the leaves that are stored, from a section on, behind others, with the names that they would get by themselves.
+// Puts the leaves that are stored, from a section on, after others, with the names that they would get by themselves.
 fn push_stored<'a>(
     alloc: Global,
     texts: bool,
@@ -82,7 +82,7 @@ fn push_stored<'a>(
     Ok(())
 }
 
-// Puts a section itself behind others, if it is stored.
+// Puts a section itself after others, if it is stored.
 #[tactic(auto, unfolding(crate::specs::FileNames::stored))]
 fn push_own<'a>(
     alloc: Global,
@@ -100,7 +100,7 @@ fn push_own<'a>(
     }
 }
 
-// Puts a leaf behind others, if it is stored.
+// Puts a leaf after others, if it is stored.
 fn push_leaf<'a>(
     alloc: Global,
     texts: bool,

@@ -10,7 +10,7 @@ use std::alloc::{AllocError, Global};
 
 const SLASH: u8 = b'/';
 
-/// Writes the content type of a section behind a text, as `text/plain`; without a field that says it that of its place.
+/// Writes the content type of a section after a text, as `text/plain`; without a field that says it that of its place.
 pub fn push_type(alloc: Global, text: &mut Vec<u8>, section: &Section<'_>) -> Result<(), AllocError>
     ensures { OnOk result (text.new.items ≡ text.old.items ++ type_text (type_of section.now)) }
 {

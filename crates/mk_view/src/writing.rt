@@ -1,4 +1,4 @@
-//! Numbers, paths and columns, written behind a text.
+//! Numbers, paths and columns, written after a text.
 ghost use Rattle.std.specs.Prelude.{◌≡◌, ◌++◌, decimal, OnOk};
 ghost use Rattle.mk_view.specs.Listing.{column, path_text};
 
@@ -31,7 +31,7 @@ pub(crate) fn push_number(text: &mut Vec<u8>, number: u64) -> Result<(), AllocEr
     text.extend_from_slice(buffer.format(number).as_bytes())
 }
 
-/// Writes a column behind another: a space, and the text.
+/// Writes a column after another: a space, and the text.
 pub(crate) fn push_column(text: &mut Vec<u8>, column_text: &[u8]) -> Result<(), AllocError>
     ensures { OnOk result (text.new.items ≡ text.old.items ++ column column_text.now) }
 {

@@ -20,7 +20,7 @@ const FRONTS: [&[u8]; 8] = [
     b"A:b\r\nContent-Type: multipart/mixed; boundary=b\r\n\r\npre\r\n--b\r\n",
 ];
 
-/// The lines behind, without endings.
+/// The lines after, without endings.
 const LINES: [&[u8]; 14] = [
     b"",
     b"A:b",

@@ -13,7 +13,7 @@ pub enum What {
     /// The beginning of a section; it has no bytes.
     Entity(Kind),
     Field,
-    /// The empty line behind the fields; no bytes where it isn't there.
+    /// The empty line after the fields; no bytes where it isn't there.
     Separator,
     /// The body of a leaf.
     Body,
@@ -63,7 +63,7 @@ impl Item {
         })
     }
 
-    /// The same behind a change of the parts of a section, where the parts from a number on get the next number, or the
+    /// The same after a change of the parts of a section, where the parts from a number on get the next number, or the
     /// one before.
     pub fn renumbered(
         self,

@@ -21,7 +21,7 @@ const REMOVE: Asked<'static> = Asked::RemoveField { name: b"A", k: 1 };
 
 const REMOVE_NONE: Asked<'static> = Asked::RemoveField { name: b"Z", k: 1 };
 
-/// A group of edits of the root of an empty message, and what must come of it: the text behind it, or the number of the
+/// A group of edits of the root of an empty message, and what must come of it: the text after it, or the number of the
 /// refused edit and the reason.
 struct Row {
     shows: &'static str,
@@ -68,7 +68,7 @@ fn edits(alloc: Global, asked: &[Asked<'_>]) -> Result<Vec<Edit>, AllocError> {
     Ok(all)
 }
 
-// Makes the group behind one step that is done and one that is undone.
+// Makes the group after one step that is done and one that is undone.
 fn check_row(rt: &impl Abort, alloc: Global, row: &Row) -> Result<(), Fail> {
     let group = Command::Group(edits(alloc, row.asked)?);
     let mut commands = Vec::new(alloc);

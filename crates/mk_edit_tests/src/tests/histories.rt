@@ -1,4 +1,4 @@
-//! Runs of commands: the answer to each, and the text behind it.
+//! Runs of commands: the answer to each, and the text after it.
 
 use super::groups::reason;
 use super::{Asked, MIXED, PART, check_state, edit_at, session_over};
@@ -16,7 +16,7 @@ enum Order {
     Redo,
 }
 
-/// What is asked, the reason against it, and the text behind it.
+/// What is asked, the reason against it, and the text after it.
 type Step = (Order, Option<EditError>, &'static [u8]);
 
 const INPUT: &[u8] = b"A: b\n\nx\n";

@@ -7,7 +7,7 @@ use mk_line::Meter;
 use std::alloc::{AllocError, Global};
 use std::process::Abort;
 
-/// An edit of each kind that is accepted, one behind another.
+/// An edit of each kind that is accepted, one after another.
 const ASKED: [(&[u32], Asked<'static>); 9] = [
     (
         &[1, 1],

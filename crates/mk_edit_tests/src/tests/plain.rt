@@ -137,7 +137,7 @@ impl<'a> Flat<'a> {
         judge(alloc, &made, path, text, b"")
     }
 
-    // A part more behind so many others.
+    // A part more after so many others.
     fn insert(self, place: u32, text: &[u8], eol: &[u8]) -> Result<Vec<u8>, EditError> {
         let Some(boundary) = boundary_at(&self.items, self.path) else {
             return Err(EditError::NotMultipart);

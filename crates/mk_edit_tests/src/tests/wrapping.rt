@@ -12,7 +12,7 @@ pub struct Wrapped<'a> {
     pub alloc: Global,
     pub path: &'a [u32],
     pub eol: &'a [u8],
-    /// Whether lines stand behind the section.
+    /// Whether lines stand after the section.
     pub is_followed: bool,
 }
 
@@ -117,7 +117,7 @@ impl Wrapped<'_> {
         })
     }
 
-    // What stands before the part, behind the fields that stay outside.
+    // What stands before the part, after the fields that stay outside.
     fn front(
         &self,
         outside: &[Item],
@@ -143,7 +143,7 @@ impl Wrapped<'_> {
         Ok(made)
     }
 
-    // What stands behind the part.
+    // What follows the part.
     fn end(&self, boundary: &[u8]) -> Result<Vec<Item>, AllocError> {
         let mut made = Vec::new(self.alloc);
         made.push(self.line(self.path, What::Close, &[b"--", boundary, b"--"])?)?;

@@ -22,7 +22,7 @@ pub struct Shelf {
 }
 
 impl Shelf {
-    /// A folder without files that never fails, but for want of memory.
+    /// A folder without files that fails only when memory runs out.
     pub fn new(alloc: Global) -> Shelf {
         Shelf::failing(alloc, u64::MAX)
     }

@@ -25,7 +25,7 @@ change-requires t c = (
       (leads c.in-Some.number.now c.args.numbers.now c.in-Some.rest.now c.args.count c.args.added (FitsOwn c.args.own c.args.count) c.args.self.now c.index_mut.result.now c.in-Some.ensures.cases.0 c.requires).meets,
 )
 
--- what holds anyway holds where the answer is want of memory
+-- what holds anyway holds where the answer is running out of memory
 on_err : {A : Type 0} (r : Result A AllocError) (P : Type 0) → P → OnErr r P
 on_err (Ok x) P h = tt
 on_err (Err e) P h = h
