@@ -1,4 +1,4 @@
-ghost use Rattle.std.specs.Prelude.{◌≡◌, ℕ, ◌<◌, ◌≤◌, List, Option, length, IfOk, OnOk, OnErr};
+ghost use Rattle.std.specs.Prelude.{◌≡◌, ℕ, ◌<◌, ◌≤◌, Bool, true, List, Option, length, IfOk, OnOk, OnErr};
 ghost use Rattle.std.specs.Io.KnownBytes.{ReadConsumes, WriteAppends, Keeps};
 ghost use Rattle.mk_line.specs.Meters.{ticked};
 
@@ -61,6 +61,9 @@ pub trait Sink {
 
     ghost failures: { Self → ℕ };
 
+    /// Whether the device was finished, so that all it holds stands.
+    ghost finished: { Self → Bool };
+
     /// Takes bytes from the front of the piece and answers how many.
     fn write(&mut self, piece: &[u8]) -> Result<usize, Fault>
         ensures bytes { WriteAppends (contents self.old) (contents self.new) result piece.now }
@@ -75,6 +78,7 @@ pub trait Sink {
     /// after it.
     fn finish(&mut self) -> Result<(), Fault>
         ensures bytes { Keeps (contents self.old) (contents self.new) }
+        ensures stands { OnOk result (finished self.new ≡ true) }
         ensures failed { OnErr result (failures self.new ≡ ticked (failures self.old)) }
         ensures went_well { OnOk result (failures self.new ≡ failures self.old) };
 

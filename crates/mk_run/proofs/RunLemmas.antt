@@ -41,11 +41,11 @@ pub AppendsFront-whole : (old new : Option (List ℕ)) (bytes : List ℕ) → Ap
 AppendsFront-whole old new bytes h = (bytes, [], sym (append-nil bytes), h)
 
 -- what the steps on a session left, in a run that read its whole input
-pub Leaves-session : (result : Result Status Cause) (pieces : List (List ℕ)) (steps : List ScriptStep) (journaling : Journaling) (h : History) (before after : Held) (kept left : Option (List ℕ))
+pub Leaves-session : (result : Result Status Cause) (pieces : List (List ℕ)) (steps : List ScriptStep) (journaling : Journaling) (h : History) (before after : Held) (kept left : Option (List ℕ)) (finished : Bool)
     → IsAtEnd after.input
-    → LeavesSession result (run_from pieces steps journaling h) (sunk before.output before.errors kept) (sunk after.output after.errors left)
-    → LeavesSoFar result (run_from pieces steps journaling h).run before after × LeavesJournalSoFar result (run_from pieces steps journaling h) before after kept left
-Leaves-session (Ok status) pieces steps journaling h before after kept left end w = elim (cases_Bool (is_nil (errors_of pieces steps h))) [
+    → LeavesSession result (run_from pieces steps journaling h) (sunk before.output before.errors kept) (sunk after.output after.errors left) finished
+    → LeavesSoFar result (run_from pieces steps journaling h).run before after × LeavesJournalSoFar result (run_from pieces steps journaling h) before after kept left finished
+Leaves-session (Ok status) pieces steps journaling h before after kept left finished end w = elim (cases_Bool (is_nil (errors_of pieces steps h))) [
   | inl t ↦
       let well : status ≡ Well = rw t at w.status_is in
       rw well (record { status_is = rw t refl; written = record { output = w.output; errors = w.errors }; read = end }, w.journal)
@@ -53,13 +53,13 @@ Leaves-session (Ok status) pieces steps journaling h before after kept left end 
       let refusing : status ≡ Refused = rw f at w.status_is in
       rw refusing (record { status_is = rw f refl; written = record { output = w.output; errors = w.errors }; read = end }, w.journal)
 ]
-Leaves-session (Err cause) pieces steps journaling h before after kept left end w =
+Leaves-session (Err cause) pieces steps journaling h before after kept left finished end w =
     (record { output = w.output; errors = w.errors; silent = λ e. absurd (w.unread e) }, record { front = w.journal; later = w.later })
 
 -- steps on a session that weren't given up end the run by itself
-pub session_ended : (result : Result Status Cause) (pieces : List (List ℕ)) (steps : List ScriptStep) (journaling : Journaling) (h : History) (before after : Sunk)
-    → LeavesSession result (run_from pieces steps journaling h) before after → IfOk result (λ status. ends_itself status ≡ true)
-session_ended (Ok status) pieces steps journaling h before after w = elim (cases_Bool (is_nil (errors_of pieces steps h))) [
+pub session_ended : (result : Result Status Cause) (pieces : List (List ℕ)) (steps : List ScriptStep) (journaling : Journaling) (h : History) (before after : Sunk) (finished : Bool)
+    → LeavesSession result (run_from pieces steps journaling h) before after finished → IfOk result (λ status. ends_itself status ≡ true)
+session_ended (Ok status) pieces steps journaling h before after finished w = elim (cases_Bool (is_nil (errors_of pieces steps h))) [
   | inl t ↦
       let well : status ≡ Well = rw t at w.status_is in
       rw well refl
@@ -67,23 +67,23 @@ session_ended (Ok status) pieces steps journaling h before after w = elim (cases
       let refusing : status ≡ Refused = rw f at w.status_is in
       rw refusing refl
 ]
-session_ended (Err cause) pieces steps journaling h before after w = tt
+session_ended (Err cause) pieces steps journaling h before after finished w = tt
 
 -- steps on a session don't read, so a sink is to blame where a device is
-pub session_blamed : (result : Result Status Cause) (script : ScriptRun) (before after : Sunk) (old new : Counts) (kept left : ℕ)
-    → LeavesSession result script before after
+pub session_blamed : (result : Result Status Cause) (script : ScriptRun) (before after : Sunk) (finished : Bool) (old new : Counts) (kept left : ℕ)
+    → LeavesSession result script before after finished
     → IfErr result (λ cause. cause ≡ Write → Rose old.output new.output ⊎ (Rose old.errors new.errors ⊎ Rose kept left))
     → IfErr result (λ cause. IsBlamedFor cause old new kept left)
-session_blamed (Ok status) script before after old new kept left w blamed = tt
-session_blamed (Err Read) script before after old new kept left w blamed = absurd (w.unread refl)
-session_blamed (Err Write) script before after old new kept left w blamed = elim (blamed refl) [
+session_blamed (Ok status) script before after finished old new kept left w blamed = tt
+session_blamed (Err Read) script before after finished old new kept left w blamed = absurd (w.unread refl)
+session_blamed (Err Write) script before after finished old new kept left w blamed = elim (blamed refl) [
   | inl a ↦ inl (inl a)
   | inr b ↦ elim b [
     | inl e ↦ inl (inr e)
     | inr j ↦ inr j
   ]
 ]
-session_blamed (Err Memory) script before after old new kept left w blamed = tt
+session_blamed (Err Memory) script before after finished old new kept left w blamed = tt
 
 -- an error that doesn't speak of memory names a reason
 pub named_reason : (error : LoadError) → says_memory error ≡ false → (reason : JournalRefusal) × (named_by error ≡ Some reason)
@@ -107,9 +107,9 @@ writing-not_read Stopped e = cc
 writing-not_read Wanting e = cc
 
 -- what was left of the journal where a run is given up
-pub LeavesJournal-given_up : (cause : Cause) (script : ScriptRun) (before after : Held) (kept left : Option (List ℕ))
+pub LeavesJournal-given_up : (cause : Cause) (script : ScriptRun) (before after : Held) (kept left : Option (List ℕ)) (finished : Bool)
     → AppendsFront kept left script.journal → Keeps kept left ⊎ Appends before.output after.output script.run.output
-    → LeavesJournal (status_of cause) script before after kept left
-LeavesJournal-given_up Read script before after kept left front later = record { front = front; later = later }
-LeavesJournal-given_up Write script before after kept left front later = record { front = front; later = later }
-LeavesJournal-given_up Memory script before after kept left front later = record { front = front; later = later }
+    → LeavesJournal (status_of cause) script before after kept left finished
+LeavesJournal-given_up Read script before after kept left finished front later = record { front = front; later = later }
+LeavesJournal-given_up Write script before after kept left finished front later = record { front = front; later = later }
+LeavesJournal-given_up Memory script before after kept left finished front later = record { front = front; later = later }

@@ -1,5 +1,5 @@
 -- What a run of a script leaves in its devices, the journal's among them.
-use Rattle.std.specs.Prelude.{◌≡◌, ◌⊎◌, ℕ, List, Option, Result, Ok, Err}
+use Rattle.std.specs.Prelude.{◌≡◌, ◌≢◌, ◌⊎◌, ℕ, Bool, true, List, [], Option, Result, Ok, Err}
 use Rattle.std.specs.Io.KnownBytes.{Appends, Consumes, Keeps}
 use Rattle.mk_mailbox.specs.Devices.{AppendsFront, Rose}
 use Rattle.mk_run.specs.declared.status.Status.{Status}
@@ -16,32 +16,37 @@ pub record WritesJournalFront (script : ScriptRun) (before after : Held) (kept l
   pub front : AppendsFront kept left script.journal
   pub later : Keeps kept left ⊎ Appends before.output after.output script.run.output
 
+-- the whole journal went out, and where it has a byte its device was finished after it
+pub record WritesJournal (script : ScriptRun) (kept left : Option (List ℕ)) (finished : Bool) : Type 0 where
+  pub whole : Appends kept left script.journal
+  pub stands : script.journal ≢ [] → finished ≡ true
+
 -- what a run leaves in the journal's device, by its status: the whole journal, unless it was given up
-abbrev pub LeavesJournal : Status → ScriptRun → Held → Held → Option (List ℕ) → Option (List ℕ) → Type 0
-LeavesJournal Well script before after kept left = Appends kept left script.journal
-LeavesJournal Refused script before after kept left = Appends kept left script.journal
-LeavesJournal Usage script before after kept left = Appends kept left script.journal
-LeavesJournal Fault script before after kept left = WritesJournalFront script before after kept left
-LeavesJournal Memory script before after kept left = WritesJournalFront script before after kept left
+abbrev pub LeavesJournal : Status → ScriptRun → Held → Held → Option (List ℕ) → Option (List ℕ) → Bool → Type 0
+LeavesJournal Well script before after kept left finished = WritesJournal script kept left finished
+LeavesJournal Refused script before after kept left finished = WritesJournal script kept left finished
+LeavesJournal Usage script before after kept left finished = WritesJournal script kept left finished
+LeavesJournal Fault script before after kept left finished = WritesJournalFront script before after kept left
+LeavesJournal Memory script before after kept left finished = WritesJournalFront script before after kept left
 
 -- the same, where the run may be given up
-abbrev pub LeavesJournalSoFar : Result Status Cause → ScriptRun → Held → Held → Option (List ℕ) → Option (List ℕ) → Type 0
-LeavesJournalSoFar (Ok status) = LeavesJournal status
-LeavesJournalSoFar (Err cause) = WritesJournalFront
+abbrev pub LeavesJournalSoFar : Result Status Cause → ScriptRun → Held → Held → Option (List ℕ) → Option (List ℕ) → Bool → Type 0
+LeavesJournalSoFar (Ok status) script before after kept left finished = LeavesJournal status script before after kept left finished
+LeavesJournalSoFar (Err cause) script before after kept left finished = WritesJournalFront script before after kept left
 
 -- what a run of steps leaves is what is defined for the bytes that it read
-abbrev pub LeavesSteps : Result Status Cause → List (List ℕ) → Journaling → Result (List ScriptStep) ℕ → Held → Held → Option (List ℕ) → Option (List ℕ) → Type 0
-LeavesSteps result pieces journaling steps before after kept left =
+abbrev pub LeavesSteps : Result Status Cause → List (List ℕ) → Journaling → Result (List ScriptStep) ℕ → Held → Held → Option (List ℕ) → Option (List ℕ) → Bool → Type 0
+LeavesSteps result pieces journaling steps before after kept left finished =
     (message : List ℕ) × Consumes before.input after.input message
     × LeavesSoFar result (run_steps pieces journaling message steps).run before after
-    × LeavesJournalSoFar result (run_steps pieces journaling message steps) before after kept left
+    × LeavesJournalSoFar result (run_steps pieces journaling message steps) before after kept left finished
 
 -- what a run of a script leaves is what is defined for the bytes that it read
-abbrev pub LeavesRun : Status → List (List ℕ) → Journaling → List ℕ → Held → Held → Option (List ℕ) → Option (List ℕ) → Type 0
-LeavesRun status pieces journaling script before after kept left =
+abbrev pub LeavesRun : Status → List (List ℕ) → Journaling → List ℕ → Held → Held → Option (List ℕ) → Option (List ℕ) → Bool → Type 0
+LeavesRun status pieces journaling script before after kept left finished =
     (message : List ℕ) × Consumes before.input after.input message
     × Leaves status (run_of pieces journaling message script).run before after
-    × LeavesJournal status (run_of pieces journaling message script) before after kept left
+    × LeavesJournal status (run_of pieces journaling message script) before after kept left finished
 
 -- the output, the errors or the journal's device failed
 abbrev pub SinkFailed : Counts → Counts → ℕ → ℕ → Type 0

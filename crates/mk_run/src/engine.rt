@@ -1,6 +1,6 @@
 //! The run of a script on a message, over any devices.
 
-ghost use Rattle.std.specs.Prelude.{◌≡◌, ◌≤◌, ◌⊎◌, true, length, map, Ok, IfOk, IfErr, OnOk, OnErr};
+ghost use Rattle.std.specs.Prelude.{◌≡◌, ◌≢◌, ◌≤◌, ◌⊎◌, true, [], length, map, Ok, IfOk, IfErr, OnOk, OnErr};
 ghost use Rattle.std.specs.Io.KnownBytes.{Appends, Keeps};
 ghost use Rattle.mk_mailbox.specs.Devices.{AppendsFront, Rose};
 ghost use Rattle.mk_script.specs.ScriptSteps.{script_of};
@@ -38,7 +38,7 @@ pub fn run_edit<S: Source, O: Sink, E: Sink, J: Sink>(
     ensures leaves { LeavesRun result (texts_of pieces.now) (journaling_of journal.entry) script.now
         (held (S.remaining input.old) (O.contents out.old) (E.contents err.old))
         (held (S.remaining input.new) (O.contents out.new) (E.contents err.new))
-        (J.contents jout.old) (J.contents jout.new) }
+        (J.contents jout.old) (J.contents jout.new) (J.finished jout.new) }
 
     // A fault is answered only where a device failed, or where so much was read that reading was given up.
     ensures blamed { result ≡ Status.Fault →
@@ -85,7 +85,7 @@ fn run_script<S: Source, O: Sink, E: Sink, J: Sink>(
     ensures leaves { LeavesSteps result (texts_of pieces.now) (journaling_of journal.entry) (script_of (length pieces.now) script.now)
         (held (S.remaining input.old) (O.contents out.old) (E.contents err.old))
         (held (S.remaining input.new) (O.contents out.new) (E.contents err.new))
-        (J.contents jout.old) (J.contents jout.new) }
+        (J.contents jout.old) (J.contents jout.new) (J.finished jout.new) }
     ensures ended { IfOk result (λ status. ends_itself status ≡ true) }
     ensures blamed { IfErr result (λ cause. IsBlamedFor cause
         (counts (S.failures input.old) (S.read_count input.old) (O.failures out.old) (E.failures err.old))
@@ -120,7 +120,7 @@ fn run_steps<S: Source, O: Sink, E: Sink, J: Sink>(
     ensures leaves { LeavesSteps result (texts_of pieces.now) (journaling_of journal.entry) (Ok (map step_by steps.items))
         (held (S.remaining input.old) (O.contents out.old) (E.contents err.old))
         (held (S.remaining input.new) (O.contents out.new) (E.contents err.new))
-        (J.contents jout.old) (J.contents jout.new) }
+        (J.contents jout.old) (J.contents jout.new) (J.finished jout.new) }
     ensures ended { IfOk result (λ status. ends_itself status ≡ true) }
     ensures blamed { IfErr result (λ cause. IsBlamedFor cause
         (counts (S.failures input.old) (S.read_count input.old) (O.failures out.old) (E.failures err.old))
@@ -162,7 +162,7 @@ fn run_session<O: Sink, E: Sink, J: Sink>(
 ) -> Result<Status, Cause>
     ensures leaves { LeavesSession result (run_from (texts_of pieces.now) (map step_by steps.items) (journaling_of journal.entry) session)
         (sunk (O.contents out.old) (E.contents err.old) (J.contents jout.old))
-        (sunk (O.contents out.new) (E.contents err.new) (J.contents jout.new)) }
+        (sunk (O.contents out.new) (E.contents err.new) (J.contents jout.new)) (J.finished jout.new) }
     ensures blamed { IfErr result (λ cause. cause ≡ Cause.Write →
         Rose (O.failures out.old) (O.failures out.new) ⊎ Rose (E.failures err.old) (E.failures err.new) ⊎ Rose (J.failures jout.old) (J.failures jout.new)) }
     ensures printed { OnOk result (O.failures out.new ≡ O.failures out.old) }
@@ -196,6 +196,7 @@ fn print<O: Sink, J: Sink>(
 ) -> Result<(), Stop>
     ensures output { OnOk result (Appends (O.contents out.old) (O.contents out.new) text.now) }
     ensures journal { OnOk result (Appends (J.contents jout.old) (J.contents jout.new) (bytes_kept kept)) }
+    ensures stands { OnOk result (bytes_kept kept ≢ [] → J.finished jout.new ≡ true) }
     ensures output_front { OnErr result (AppendsFront (O.contents out.old) (O.contents out.new) text.now) }
     ensures journal_front { OnErr result (AppendsFront (J.contents jout.old) (J.contents jout.new) (bytes_kept kept)) }
     ensures later { OnErr result (Keeps (J.contents jout.old) (J.contents jout.new) ⊎ Appends (O.contents out.old) (O.contents out.new) text.now) }

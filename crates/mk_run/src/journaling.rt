@@ -1,6 +1,6 @@
 //! The journal of a run: the history that it begins with, and the one that it keeps for later runs.
 
-ghost use Rattle.std.specs.Prelude.{◌≡◌, Ok, Err, IfOk, IfErr, IfSome};
+ghost use Rattle.std.specs.Prelude.{◌≡◌, ◌≢◌, true, [], Ok, Err, IfOk, IfErr, IfSome, OnOk};
 ghost use Rattle.mk_run.specs.Journaling.{Anew, begun, journaling_of, left_journal, named_by};
 ghost use Rattle.mk_run.specs.inner.Keeping.{bytes_kept, says_memory};
 ghost use Rattle.mk_run.specs.RunClauses.{Sends};
@@ -71,8 +71,9 @@ pub fn journal_of(session: &Session, journal: Journal<'_>) -> Result<Option<Vec<
 
 /// Writes the journal of a run, where it keeps one, and finishes its device.
 pub fn keep<J: Sink>(jout: &mut J, kept: Option<Vec<u8>>) -> Result<(), Stop>
-    ensures { Sends result (bytes_kept kept)
+    ensures sends { Sends result (bytes_kept kept)
         (J.contents jout.old) (J.contents jout.new) (J.failures jout.old) (J.failures jout.new) }
+    ensures stands { OnOk result (bytes_kept kept ≢ [] → J.finished jout.new ≡ true) }
 {
     let Some(journal) = kept else {
         return Ok(());

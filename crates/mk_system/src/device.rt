@@ -60,6 +60,7 @@ impl<R: Read + Drop> Source for Input<R> {
 pub struct Output<W: Write> {
     writer: W,
     faults: u64,
+    is_finished: bool,
 }
 
 impl<W: Write + Drop> Output<W> {
@@ -68,7 +69,11 @@ impl<W: Write + Drop> Output<W> {
         ensures same { ⟦<Output<W> as Sink>⟧.contents result ≡ W.contents writer }
         ensures well { ⟦<Output<W> as Sink>⟧.failures result ≡ 0 }
     {
-        Output { writer, faults: 0 }
+        Output {
+            writer,
+            faults: 0,
+            is_finished: false,
+        }
     }
 }
 
@@ -76,6 +81,8 @@ impl<W: Write + Drop> Sink for Output<W> {
     ghost contents = { λ s. W.contents s.writer };
 
     ghost failures = { λ s. s.faults };
+
+    ghost finished = { λ s. s.is_finished };
 
     fn write(&mut self, piece: &[u8]) -> Result<usize, Fault> {
         match self.writer.write(piece) {
@@ -94,7 +101,10 @@ impl<W: Write + Drop> Sink for Output<W> {
 
     fn finish(&mut self) -> Result<(), Fault> {
         match self.writer.flush() {
-            Ok(()) => Ok(()),
+            Ok(()) => {
+                self.is_finished = true;
+                Ok(())
+            }
             Err(_) => {
                 self.faults = self.faults.saturating_add(1);
                 Err(Fault)

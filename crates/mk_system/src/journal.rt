@@ -41,6 +41,7 @@ pub struct JournalFile<'a, R: Files<File = File> + AllocGlobal> {
     found: Found,
     state: State,
     faults: u64,
+    is_finished: bool,
 }
 
 impl<'a, R: Files<File = File> + AllocGlobal> JournalFile<'a, R> {
@@ -62,6 +63,7 @@ impl<'a, R: Files<File = File> + AllocGlobal> JournalFile<'a, R> {
             found,
             state: State::Unwritten,
             faults: 0,
+            is_finished: false,
         };
         Ok((journal, text))
     }
@@ -170,6 +172,8 @@ impl<R: Files<File = File> + AllocGlobal> Sink for JournalFile<'_, R> {
 
     ghost failures = { λ s. s.faults };
 
+    ghost finished = { λ s. s.is_finished };
+
     fn write(&mut self, piece: &[u8]) -> Result<usize, Fault> {
         match self.write_some(piece) {
             Ok(0) if !piece.is_empty() => Err(self.fail()),
@@ -182,6 +186,7 @@ impl<R: Files<File = File> + AllocGlobal> Sink for JournalFile<'_, R> {
         match self.end() {
             Ok(()) => {
                 self.state = State::Ended;
+                self.is_finished = true;
                 Ok(())
             }
             Err(_) => Err(self.fail()),

@@ -1,10 +1,11 @@
 -- What the steps on a session leave in the sinks.
-use Rattle.std.specs.Prelude.{◌≡◌, ◌⊎◌, ℕ, List, Option, Result, Ok, Err}
+use Rattle.std.specs.Prelude.{◌≡◌, ◌⊎◌, ℕ, Bool, List, Option, Result, Ok, Err}
 use Rattle.std.specs.Io.KnownBytes.{Appends, Keeps}
 use Rattle.mk_mailbox.specs.Devices.{AppendsFront}
 use Rattle.mk_run.specs.declared.status.Status.{Status}
 use Rattle.mk_run.specs.declared.status.Cause.{Cause}
 use Rattle.mk_run.specs.declared.status.Cause.TheVariants.{Read}
+use Rattle.mk_run.specs.JournalRuns.{WritesJournal}
 use Rattle.mk_run.specs.Runs.{ScriptRun}
 
 -- what the output, the errors and the journal's device hold
@@ -18,14 +19,14 @@ abbrev pub sunk : Option (List ℕ) → Option (List ℕ) → Option (List ℕ) 
 sunk output errors journal = record { output = output; errors = errors; journal = journal }
 
 -- all went out, and the run ends as defined
-pub record WritesWhole (status : Status) (script : ScriptRun) (before after : Sunk) : Type 0 where
+pub record WritesWhole (status : Status) (script : ScriptRun) (before after : Sunk) (finished : Bool) : Type 0 where
   pub status_is : status ≡ script.run.status
   pub output : Appends before.output after.output script.run.output
   pub errors : Appends before.errors after.errors script.run.errors
-  pub journal : Appends before.journal after.journal script.journal
+  pub journal : WritesJournal script before.journal after.journal finished
 
 -- fronts went out, and of the journal nothing before the whole output
-pub record WritesPart (cause : Cause) (script : ScriptRun) (before after : Sunk) : Type 0 where
+pub record WritesPart (cause : Cause) (script : ScriptRun) (before after : Sunk) (finished : Bool) : Type 0 where
   pub unread : cause ≡ Read → ⊥
   pub output : AppendsFront before.output after.output script.run.output
   pub errors : AppendsFront before.errors after.errors script.run.errors
@@ -33,6 +34,6 @@ pub record WritesPart (cause : Cause) (script : ScriptRun) (before after : Sunk)
   pub later : Keeps before.journal after.journal ⊎ Appends before.output after.output script.run.output
 
 -- what the steps leave, and whether they were given up
-abbrev pub LeavesSession : Result Status Cause → ScriptRun → Sunk → Sunk → Type 0
+abbrev pub LeavesSession : Result Status Cause → ScriptRun → Sunk → Sunk → Bool → Type 0
 LeavesSession (Ok status) = WritesWhole status
 LeavesSession (Err cause) = WritesPart cause

@@ -112,6 +112,8 @@ impl Sink for Page {
 
     ghost failures = { λ s. s.faults };
 
+    ghost finished = { λ s. s.is_finished };
+
     fn write(&mut self, piece: &[u8]) -> Result<usize, Fault> {
         let count = self.size.min(piece.len());
         let is_stuck = count == 0 && !piece.is_empty();

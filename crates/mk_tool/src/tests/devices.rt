@@ -1,6 +1,6 @@
 //! Devices in memory.
 
-ghost use Rattle.std.specs.Prelude.{None};
+ghost use Rattle.std.specs.Prelude.{false, None};
 
 use mk_mail::{Fault, Sink, Source};
 use std::alloc::Global;
@@ -10,6 +10,7 @@ use std::alloc::Global;
 pub struct Page {
     held: Vec<u8>,
     faults: u64,
+    is_finished: bool,
 }
 
 impl Page {
@@ -18,6 +19,7 @@ impl Page {
         Page {
             held: Vec::new(alloc),
             faults: 0,
+            is_finished: false,
         }
     }
 
@@ -32,6 +34,8 @@ impl Sink for Page {
 
     ghost failures = { λ s. s.faults };
 
+    ghost finished = { λ s. s.is_finished };
+
     fn write(&mut self, piece: &[u8]) -> Result<usize, Fault> {
         if self.held.extend_from_slice(piece).is_err() {
             self.faults = self.faults.saturating_add(1);
@@ -41,6 +45,7 @@ impl Sink for Page {
     }
 
     fn finish(&mut self) -> Result<(), Fault> {
+        self.is_finished = true;
         Ok(())
     }
 
@@ -87,6 +92,8 @@ impl Sink for Broken {
     ghost contents = { λ _. None };
 
     ghost failures = { λ s. s.faults };
+
+    ghost finished = { λ _. false };
 
     fn write(&mut self, _piece: &[u8]) -> Result<usize, Fault> {
         self.faults = self.faults.saturating_add(1);

@@ -13,7 +13,7 @@ returns-in-Ok-report_syntax-clause-leaves g c =
         written = record { output = Appends-nil _; errors = c.in-Ok-report_syntax.ensures.whole };
         read = Keeps-refl _;
       }),
-      rw bad (Appends-nil _),
+      rw bad (record { whole = Appends-nil _; stands = λ some. absurd (some refl) }),
     )
 
 pub returns-in-Err-clause-leaves : goal.returns-in-Err-clause-leaves

@@ -1,12 +1,14 @@
-use Rattle.std.proofs.Common.{◌≡◌, ◌∙◌, sym, ap, map, inl}
+use Rattle.std.proofs.Common.{◌≡◌, ◌∙◌, if◌then◌else◌, sym, ap, map, inl}
 use Rattle.std.proofs.KnownBytes.{Keeps-refl}
 use Rattle.mk_edit.specs.Histories.{text_now}
 use Rattle.mk_run.specs.Journaling.{journaling_of, left_journal}
+use Rattle.mk_run.specs.declared.status.Status.TheVariants.{Well, Refused}
 use Rattle.mk_run.specs.Runs.{history_after}
 use Rattle.mk_run.specs.inner.Keeping.{bytes_kept}
 use Rattle.mk_script.specs.ScriptViews.{step_by, texts_of}
-use Rattle.mk_run.proofs.RunLemmas.{AppendsFront-none, AppendsFront-whole, writing-not_read}
+use Rattle.mk_run.proofs.RunLemmas.{AppendsFront-none, AppendsFront-whole, status_at, writing-not_read}
 use Rattle.mk_run.proofs.engine.run_session.Goals as goal
+use Rattle.mk_run.proofs.engine.run_session.Goals.{then-refused, else-refused}
 
 pub returns-in-Err-clause-leaves : goal.returns-in-Err-clause-leaves
 returns-in-Err-clause-leaves g c = record {
@@ -38,4 +40,21 @@ returns-clause-leaves g c =
       errors = AppendsFront-whole _ _ _ c.in-Ok.ensures.sends.whole;
       journal = rw kept_is at c.in-Err-print.ensures.journal_front;
       later = rw text_is at c.in-Err-print.ensures.later;
+    }
+
+pub returns-in-Ok-print-clause-leaves : goal.returns-in-Ok-print-clause-leaves
+returns-in-Ok-print-clause-leaves g c =
+    let last = history_after (texts_of c.args.pieces.now) (map step_by c.args.steps.items) c.args.session in
+    let journaling = journaling_of c.args.journal in
+    let text_is : c.text.result.now ≡ text_now last = c.text.ensures.now ∙ ap text_now c.in-Ok.ensures.done in
+    let kept_is : bytes_kept c.in-Ok-journal_of.kept ≡ left_journal journaling last = c.in-Ok-journal_of.ensures ∙ ap (left_journal journaling) c.in-Ok.ensures.done in
+    let status_is : c.if-refused.result ≡ (if c.in-Ok.refused then Refused else Well) = elim c.if-refused.branch [
+      | then-refused w ↦ rw w.if-refused.true w.result-is
+      | else-refused w ↦ rw w.if-refused.false w.result-is
+    ] in
+    record {
+      status_is = status_at _ c.in-Ok.refused c.if-refused.result c.in-Ok.ensures.refused status_is;
+      output = rw text_is at c.in-Ok-print.ensures.output;
+      errors = c.in-Ok.ensures.sends.whole;
+      journal = record { whole = rw kept_is at c.in-Ok-print.ensures.journal; stands = rw kept_is at c.in-Ok-print.ensures.stands };
     }

@@ -21,7 +21,7 @@ returns-in-Ok-begin-clause-leaves g c =
     let before = held (g.S.Source.remaining c.args.input.now) (g.O.Sink.contents c.args.out.now) (g.E.Sink.contents c.args.err.now) in
     let after = held (g.S.Source.remaining c.read_all.new.input) (g.O.Sink.contents c.run_session.new.out) (g.E.Sink.contents c.run_session.new.err) in
     let left = Leaves-session c.run_session.result (texts_of c.args.pieces.now) (map step_by c.args.steps.items) (journaling_of c.args.journal) c.in-Ok-begin.session before after
-    (g.J.Sink.contents c.args.jout.now) (g.J.Sink.contents c.run_session.new.jout) c.in-Ok.ensures.ended c.run_session.ensures.leaves in (
+    (g.J.Sink.contents c.args.jout.now) (g.J.Sink.contents c.run_session.new.jout) (g.J.Sink.finished c.run_session.new.jout) c.in-Ok.ensures.ended c.run_session.ensures.leaves in (
       c.in-Ok.message.items,
       c.in-Ok.ensures.all,
       rw c.in-Ok-begin.ensures.ok left.0,
@@ -30,11 +30,11 @@ returns-in-Ok-begin-clause-leaves g c =
 
 pub returns-in-Ok-begin-clause-ended : goal.returns-in-Ok-begin-clause-ended
 returns-in-Ok-begin-clause-ended g c =
-    session_ended c.run_session.result (texts_of c.args.pieces.now) (map step_by c.args.steps.items) (journaling_of c.args.journal) c.in-Ok-begin.session _ _ c.run_session.ensures.leaves
+    session_ended c.run_session.result (texts_of c.args.pieces.now) (map step_by c.args.steps.items) (journaling_of c.args.journal) c.in-Ok-begin.session _ _ _ c.run_session.ensures.leaves
 
 pub returns-in-Ok-begin-clause-blamed : goal.returns-in-Ok-begin-clause-blamed
 returns-in-Ok-begin-clause-blamed g c =
-    session_blamed c.run_session.result _ _ _
+    session_blamed c.run_session.result _ _ _ _
     (counts (g.S.Source.failures c.args.input.now) (g.S.Source.read_count c.args.input.now) (g.O.Sink.failures c.args.out.now) (g.E.Sink.failures c.args.err.now))
     (counts (g.S.Source.failures c.read_all.new.input) (g.S.Source.read_count c.read_all.new.input) (g.O.Sink.failures c.run_session.new.out) (g.E.Sink.failures c.run_session.new.err))
     (g.J.Sink.failures c.args.jout.now) (g.J.Sink.failures c.run_session.new.jout) c.run_session.ensures.leaves c.run_session.ensures.blamed
@@ -47,7 +47,7 @@ returns-in-Ok-report_journal-clause-leaves g c =
       c.in-Ok.message.items,
       c.in-Ok.ensures.all,
       rw refused (record { status_is = refl; written = record { output = Appends-nil _; errors = sent.whole }; read = c.in-Ok.ensures.ended }),
-      rw refused (Appends-nil _),
+      rw refused (record { whole = Appends-nil _; stands = λ some. absurd (some refl) }),
     )
 
 pub returns-clause-leaves : goal.returns-clause-leaves
