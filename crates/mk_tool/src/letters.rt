@@ -8,6 +8,7 @@ ghost use Rattle.mk_tool.specs.Found.{letter_words_found};
 use crate::options::{ADD, ADD_IF, FIRST, LAST, ONLY, PREFIXED, RENAME, TAKE, WHOLE};
 use clap::ArgMatches;
 use mk_run::LetterWords;
+use std::alloc::{AllocError, Global};
 
 /// The words that stand after letters.
 pub fn letter_words<'a>(matches: &ArgMatches<'a>) -> LetterWords<'a>
@@ -23,5 +24,132 @@ pub fn letter_words<'a>(matches: &ArgMatches<'a>) -> LetterWords<'a>
         last: matches.get_str(LAST),
         take: matches.get_str(TAKE),
         whole: matches.get_str(WHOLE),
+    }
+}
+
+/// What a letter takes.
+const A_PAIR: &str = "write two names with a colon between them, as Subject:X-Subject";
+
+const A_FIELD: &str = "write a name, a colon and a value, as 'X-Seen: yes'";
+
+const A_FIELD_OR_NAME: &str =
+    "write a name, a colon and a value, as 'X-Seen: yes', or a name and a colon alone, as X-Seen:";
+
+const A_NAME: &str = "write a name and a colon, as Subject:";
+
+const APART: &str = "-x and -X print fields, so neither stands beside another letter";
+
+const NO_WORDS: LetterWords<'static> = LetterWords {
+    rename: None,
+    add_if: None,
+    add: None,
+    prefixed: None,
+    only: None,
+    first: None,
+    last: None,
+    take: None,
+    whole: None,
+};
+
+// A letter alone, as it is written, with its word and what it takes.
+#[derive(Clone, Copy, Drop)]
+struct Alone<'a> {
+    letter: &'static str,
+    word: Option<&'a str>,
+    words: LetterWords<'a>,
+    takes: &'static str,
+}
+
+/// Why letters are refused: the first whose word it doesn't take, or that they don't stand together.
+pub fn why_refused(alloc: Global, words: &LetterWords<'_>) -> Result<String, AllocError> {
+    for alone in letters_alone(words) {
+        if let Some(word) = alone.word {
+            if !is_taken(alloc, &alone.words)? {
+                let (letter, takes) = (alone.letter, alone.takes);
+                return format!(in alloc; "invalid value '{word}' for '{letter}': {takes}");
+            }
+        }
+    }
+    String::from_str(alloc, APART)
+}
+
+// Whether these letters may be asked for.
+fn is_taken(alloc: Global, words: &LetterWords<'_>) -> Result<bool, AllocError> {
+    match words.letters(alloc)? {
+        Some(letters) => Ok(letters.ok()),
+        None => Ok(false),
+    }
+}
+
+// Each letter alone.
+fn letters_alone<'a>(words: &LetterWords<'a>) -> [Alone<'a>; 9] {
+    let LetterWords {
+        rename,
+        add_if,
+        add,
+        prefixed,
+        only,
+        first,
+        last,
+        take,
+        whole,
+    } = *words;
+    [
+        single(
+            "--rename <OLD:NEW>",
+            rename,
+            LetterWords { rename, ..NO_WORDS },
+            A_PAIR,
+        ),
+        single(
+            "-a <FIELD>",
+            add_if,
+            LetterWords { add_if, ..NO_WORDS },
+            A_FIELD,
+        ),
+        single("-A <FIELD>", add, LetterWords { add, ..NO_WORDS }, A_FIELD),
+        single(
+            "-i <FIELD>",
+            prefixed,
+            LetterWords {
+                prefixed,
+                ..NO_WORDS
+            },
+            A_FIELD_OR_NAME,
+        ),
+        single(
+            "-I <FIELD>",
+            only,
+            LetterWords { only, ..NO_WORDS },
+            A_FIELD_OR_NAME,
+        ),
+        single(
+            "-u <NAME:>",
+            first,
+            LetterWords { first, ..NO_WORDS },
+            A_NAME,
+        ),
+        single("-U <NAME:>", last, LetterWords { last, ..NO_WORDS }, A_NAME),
+        single("-x <NAME:>", take, LetterWords { take, ..NO_WORDS }, A_NAME),
+        single(
+            "-X <NAME:>",
+            whole,
+            LetterWords { whole, ..NO_WORDS },
+            A_NAME,
+        ),
+    ]
+}
+
+fn single<'a>(
+    letter: &'static str,
+    word: Option<&'a str>,
+    words: LetterWords<'a>,
+    takes: &'static str,
+) -> Alone<'a> {
+    Alone {
+        letter,
+        word,
+        words,
+        takes,
     }
 }

@@ -1,6 +1,8 @@
 //! `mimetool`: an editor for Internet messages with exact undo.
 #![tactic(auto)]
 
+mod faults;
+mod files;
 mod letters;
 mod options;
 mod program;

@@ -13,6 +13,10 @@ pub const SCRIPT: &str = "SCRIPT";
 
 pub const PIECE: &str = "PIECE";
 
+pub const LINE: &str = "LINE";
+
+pub const FROM: &str = "FROM";
+
 pub const JOURNAL: &str = "JOURNAL";
 
 /// The subcommand that takes back the last step of an earlier run.
@@ -75,27 +79,62 @@ const A_FIELD: &str = "FIELD";
 
 const A_NAME: &str = "NAME:";
 
+/// The subcommands, in the order in which help lists them.
+const SUBCOMMANDS: [&str; 8] = [EDIT, UNDO, REDO, SECTIONS, EXTRACT, UNPACK, PACK, FIELD];
+
 /// The command line of the program.
 pub fn command<'a>(alloc: Global) -> Result<Command<'a>, AllocError> {
-    Command::new(alloc, "mimetool")
+    let mut command = Command::new(alloc, "mimetool")
         .version(VERSION)
         .about(
             "Edits an Internet message exactly: the message comes from standard input, the result goes to standard output.",
         )
-        .subcommand_required(true)
-        .subcommand(edit_command(alloc)?)?
-        .subcommand(undo_command(alloc)?)?
-        .subcommand(redo_command(alloc)?)?
-        .subcommand(sections_command(alloc)?)?
-        .subcommand(extract_command(alloc)?)?
-        .subcommand(unpack_command(alloc)?)?
-        .subcommand(pack_command(alloc)?)?
-        .subcommand(field_command(alloc)?)
+        .subcommand_required(true);
+    for name in SUBCOMMANDS {
+        command = command.subcommand(subcommand(alloc, name)?)?;
+    }
+    Ok(command)
+}
+
+/// The subcommand of a name.
+pub fn subcommand<'a>(alloc: Global, name: &str) -> Result<Command<'a>, AllocError> {
+    if name == EDIT {
+        edit_command(alloc)
+    } else if name == UNDO {
+        undo_command(alloc)
+    } else if name == REDO {
+        redo_command(alloc)
+    } else if name == SECTIONS {
+        sections_command(alloc)
+    } else if name == EXTRACT {
+        extract_command(alloc)
+    } else if name == UNPACK {
+        unpack_command(alloc)
+    } else if name == PACK {
+        pack_command(alloc)
+    } else {
+        field_command(alloc)
+    }
+}
+
+// --from FILE
+fn from<'a>(alloc: Global) -> Arg<'a> {
+    Arg::new(alloc, FROM)
+        .long("from")
+        .value_name("FILE")
+        .help("Read the message from FILE, not from standard input")
+        .allow_hyphen_values(true)
+        .action(ArgAction::Set)
 }
 
 // mimetool sections
 fn sections_command<'a>(alloc: Global) -> Result<Command<'a>, AllocError> {
-    Ok(Command::new(alloc, SECTIONS).about("Lists the sections of the message, a line each"))
+    Command::new(alloc, SECTIONS)
+        .about("Lists the sections of the message, a line each")
+        .after_help(
+            "Examples:\n  mimetool sections < message\n  mimetool sections --from message | grep ' leaf image/'",
+        )
+        .arg(from(alloc))
 }
 
 // mimetool extract -s PATH
@@ -108,6 +147,10 @@ fn extract_command<'a>(alloc: Global) -> Result<Command<'a>, AllocError> {
         .action(ArgAction::Set);
     Command::new(alloc, EXTRACT)
         .about("Prints the content of a section, decoded where it has no sections below it")
+        .after_help(
+            "Examples:\n  mimetool extract -s 1.2 < message > picture.gif\n  mimetool extract -s 1 --from message",
+        )
+        .arg(from(alloc))?
         .arg(path)
 }
 
@@ -120,6 +163,10 @@ fn unpack_command<'a>(alloc: Global) -> Result<Command<'a>, AllocError> {
         .action(ArgAction::Set);
     Command::new(alloc, UNPACK)
         .about("Writes the contents of the leaves into files, and prints their names and types")
+        .after_help(
+            "Examples:\n  mimetool unpack -C attachments < message\n  mimetool unpack -t -f --from message",
+        )
+        .arg(from(alloc))?
         .arg(flag(alloc, OVER, "Write over files that are there").short('f'))?
         .arg(flag(alloc, TEXTS, "Write texts without a name too").short('t'))?
         .arg(flag(alloc, SILENT, "Print no names").long(SILENT))?
@@ -140,7 +187,10 @@ fn pack_command<'a>(alloc: Global) -> Result<Command<'a>, AllocError> {
         .action(ArgAction::Append);
     Command::new(alloc, PACK)
         .about(
-            "Builds a multipart of files behind the fields that come from standard input, and prints it",
+            "Builds a multipart of files after the fields that come from standard input, and prints it",
+        )
+        .after_help(
+            "Examples:\n  mimetool pack -b =_b text/plain:letter image/gif:dot.gif < fields\n  printf 'Subject: report\\n' | mimetool pack -b =_b application/pdf:report.pdf",
         )
         .arg(boundary)?
         .arg(specs)
@@ -157,6 +207,10 @@ fn field_command<'a>(alloc: Global) -> Result<Command<'a>, AllocError> {
     .short('s');
     Command::new(alloc, FIELD)
         .about("Adds, renames and removes fields of a message, or prints those of a name")
+        .after_help(
+            "Examples:\n  mimetool field -I 'X-Seen: yes' < message\n  mimetool field -s -x Subject: --from mailbox",
+        )
+        .arg(from(alloc))?
         .arg(rename)?
         .arg(letter(
             alloc,
@@ -205,6 +259,10 @@ fn flag<'a>(alloc: Global, name: &'a str, help: &'a str) -> Arg<'a> {
 fn undo_command<'a>(alloc: Global) -> Result<Command<'a>, AllocError> {
     Command::new(alloc, UNDO)
         .about("Takes back the last step of an earlier edit, and prints the message")
+        .after_help(
+            "Examples:\n  mimetool undo -j journal < edited > message\n  mimetool undo -j journal --from edited",
+        )
+        .arg(from(alloc))?
         .arg(journal(alloc).required(true))
 }
 
@@ -212,6 +270,10 @@ fn undo_command<'a>(alloc: Global) -> Result<Command<'a>, AllocError> {
 fn redo_command<'a>(alloc: Global) -> Result<Command<'a>, AllocError> {
     Command::new(alloc, REDO)
         .about("Makes again the last step that was taken back, and prints the message")
+        .after_help(
+            "Examples:\n  mimetool redo -j journal < message > edited\n  mimetool redo -j journal --from message",
+        )
+        .arg(from(alloc))?
         .arg(journal(alloc).required(true))
 }
 
@@ -223,20 +285,32 @@ fn journal<'a>(alloc: Global) -> Arg<'a> {
         .action(ArgAction::Set)
 }
 
-// mimetool edit [-j JOURNAL] SCRIPT [PIECE..]
+// mimetool edit [-j JOURNAL] [-e LINE].. [SCRIPT] [PIECE..]
 fn edit_command<'a>(alloc: Global) -> Result<Command<'a>, AllocError> {
+    let line = Arg::new(alloc, LINE)
+        .short('e')
+        .help(
+            "A line of the script, in place of SCRIPT; may be given more than once, and every other word is a PIECE then",
+        )
+        .allow_hyphen_values(true)
+        .action(ArgAction::Append);
     let script = Arg::new(alloc, SCRIPT)
         .help(
             "The file with the script: one word a line, as `add 1 Subject: hello`, `del 1 Subject 2` or `undo`",
         )
-        .required(true)
+        .required_unless_present(LINE)?
         .action(ArgAction::Set);
     let pieces = Arg::new(alloc, PIECE)
         .help("Files that the script names by their place, from 1 on")
         .action(ArgAction::Append);
     Command::new(alloc, EDIT)
         .about("Edits the message by the words of a script, and prints it")
+        .after_help(
+            "Examples:\n  mimetool edit -e 'add 1 X-Seen: yes' < message\n  mimetool edit -j journal script part < message > edited",
+        )
+        .arg(from(alloc))?
         .arg(journal(alloc))?
+        .arg(line)?
         .arg(script)?
         .arg(pieces)
 }

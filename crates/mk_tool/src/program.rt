@@ -1,33 +1,33 @@
 //! The program: from its command line to its exit status.
 
-use crate::letters::letter_words;
+use crate::faults::{Problem, report, say_usage, usage};
+use crate::files::{attachments, open, read, read_all};
+use crate::letters::{letter_words, why_refused};
 use crate::options::{
-    BOUNDARY, DIR, EACH, EDIT, EXTRACT, FIELD, JOURNAL, OVER, PACK, PATH, PIECE, REDO, SCRIPT,
-    SECTIONS, SILENT, SPEC, TEXTS, UNDO, UNPACK, command,
+    BOUNDARY, DIR, EACH, EDIT, EXTRACT, FIELD, FROM, JOURNAL, LINE, OVER, PACK, PATH, PIECE, REDO,
+    SCRIPT, SECTIONS, SILENT, SPEC, TEXTS, UNDO, UNPACK, command,
 };
 use clap::ArgMatches;
 use clap::error::ErrorKind;
-use mk_mail::{Attach, Sink, Source};
+use mk_mail::{Sink, Source};
 use mk_run::{
-    Cause, Journal, Spec, Status, Stop, give_up, read_all, run_edit, run_extract, run_field,
-    run_pack, run_sections, unpack, write_all,
+    Cause, Journal, Spec, Status, give_up, run_edit, run_extract, run_field, run_pack,
+    run_sections, unpack, write_all,
 };
 use mk_script::numbers;
 use mk_system::{Directory, Input, JournalFile, Output};
-use std::alloc::Global;
+use std::alloc::{AllocError, Global};
 use std::fs::File;
 use std::rt::{Env, Files};
-use std::{env, fs, io};
+use std::{env, io};
 
-const USAGE: &[u8] = b"mimetool: usage\n";
+/// The folder that files are written to where none is named.
+const WORKING_FOLDER: &str = ".";
 
 /// The scripts of two subcommands.
 const UNDO_SCRIPT: &[u8] = b"undo\n";
 
 const REDO_SCRIPT: &[u8] = b"redo\n";
-
-/// The folder that files are written to where none is named.
-const WORKING_FOLDER: &str = ".";
 
 /// Does what the command line says and answers the exit status. A command line that isn't text as a whole is a usage fault.
 pub fn run<R: Env + Files<File = File> + AllocGlobal, S: Source, O: Sink, E: Sink>(
@@ -64,7 +64,10 @@ pub fn obey<R: Files<File = File> + AllocGlobal, S: Source, O: Sink, E: Sink>(
         return give_up(err, Cause::Memory);
     };
     match command.try_get_matches_from(words) {
-        Ok(matches) => run_matches(rt, &matches, input, out, err),
+        Ok(matches) => match matches.subcommand() {
+            Some((name, matches)) => start(rt, name, matches, input, out, err),
+            None => usage(err),
+        },
         Err(error) => show(rt.alloc(), &error, out, err),
     }
 }
@@ -74,141 +77,164 @@ fn show<O: Sink, E: Sink>(alloc: Global, error: &clap::Error, out: &mut O, err: 
     if error.kind() == ErrorKind::OutOfMemory {
         return give_up(err, Cause::Memory);
     }
+    if error.use_stderr() {
+        return say_usage(alloc, error, err);
+    }
     let Ok(text) = format!(in alloc; "{error}") else {
         return give_up(err, Cause::Memory);
     };
-    if error.use_stderr() {
-        let _ = write_all(err, text.as_bytes());
-        Status::Usage
-    } else if write_all(out, text.as_bytes()).is_ok() {
+    if write_all(out, text.as_bytes()).is_ok() {
         Status::Well
     } else {
         give_up(err, Cause::Write)
     }
 }
 
-// Says that the command line is invalid. Where that fails too, nothing more is tried.
-fn usage<E: Sink>(err: &mut E) -> Status {
-    let _ = write_all(err, USAGE);
-    Status::Usage
-}
-
-// Runs the subcommand that was given.
-fn run_matches<R: Files<File = File> + AllocGlobal, S: Source, O: Sink, E: Sink>(
+// Runs a subcommand on the message of `--from`, or on the standard input.
+fn start<R: Files<File = File> + AllocGlobal, S: Source, O: Sink, E: Sink>(
     rt: &R,
+    name: &str,
     matches: &ArgMatches<'_>,
     input: &mut S,
     out: &mut O,
     err: &mut E,
 ) -> Status {
-    if let Some(matches) = matches.subcommand_matches(EDIT) {
+    let done = match matches.get_str(FROM) {
+        Some(path) => run_from(rt, name, matches, path, out, err),
+        None => run_command(rt, name, matches, input, out, err),
+    };
+    match done {
+        Ok(status) => status,
+        Err(problem) => report(rt.alloc(), name, &problem, err),
+    }
+}
+
+// Runs a subcommand on the message in a file.
+fn run_from<'a, R: Files<File = File> + AllocGlobal, O: Sink, E: Sink>(
+    rt: &R,
+    name: &str,
+    matches: &ArgMatches<'a>,
+    path: &'a str,
+    out: &mut O,
+    err: &mut E,
+) -> Result<Status, Problem<'a>> {
+    let file = open(rt, path)?;
+    run_command(rt, name, matches, &mut Input::new(file), out, err)
+}
+
+// Runs a subcommand.
+fn run_command<'a, R: Files<File = File> + AllocGlobal, S: Source, O: Sink, E: Sink>(
+    rt: &R,
+    name: &str,
+    matches: &ArgMatches<'a>,
+    input: &mut S,
+    out: &mut O,
+    err: &mut E,
+) -> Result<Status, Problem<'a>> {
+    if name == EDIT {
         edit(rt, matches, input, out, err)
-    } else if let Some(matches) = matches.subcommand_matches(UNDO) {
+    } else if name == UNDO {
         edit_by(rt, matches, input, out, err, UNDO_SCRIPT, &[])
-    } else if let Some(matches) = matches.subcommand_matches(REDO) {
+    } else if name == REDO {
         edit_by(rt, matches, input, out, err, REDO_SCRIPT, &[])
-    } else if let Some(matches) = matches.subcommand_matches(EXTRACT) {
+    } else if name == EXTRACT {
         extract(rt, matches, input, out, err)
-    } else if let Some(matches) = matches.subcommand_matches(UNPACK) {
-        unpack_into(rt, matches, input, out, err)
-    } else if let Some(matches) = matches.subcommand_matches(PACK) {
+    } else if name == UNPACK {
+        Ok(unpack_into(rt, matches, input, out, err))
+    } else if name == PACK {
         pack(rt, matches, input, out, err)
-    } else if let Some(matches) = matches.subcommand_matches(FIELD) {
+    } else if name == FIELD {
         field(rt, matches, input, out, err)
-    } else if matches.subcommand_matches(SECTIONS).is_some() {
-        run_sections(rt.alloc(), input, out, err)
+    } else if name == SECTIONS {
+        Ok(run_sections(rt.alloc(), input, out, err))
     } else {
-        usage(err)
+        Ok(usage(err))
     }
 }
 
 // mimetool edit
-fn edit<R: Files<File = File> + AllocGlobal, S: Source, O: Sink, E: Sink>(
+fn edit<'a, R: Files<File = File> + AllocGlobal, S: Source, O: Sink, E: Sink>(
     rt: &R,
-    matches: &ArgMatches<'_>,
+    matches: &ArgMatches<'a>,
     input: &mut S,
     out: &mut O,
     err: &mut E,
-) -> Status {
-    let Some(script) = matches.get_str(SCRIPT) else {
-        return usage(err);
-    };
-    let pieces = matches.get_strs(PIECE).unwrap_or(&[]);
-    match files(rt, script, pieces) {
-        Ok((script, pieces)) => edit_by(rt, matches, input, out, err, &script, &pieces),
-        Err(Stop::Fault) => give_up(err, Cause::Read),
-        Err(Stop::Memory) => give_up(err, Cause::Memory),
+) -> Result<Status, Problem<'a>> {
+    let paths = matches.get_strs(PIECE).unwrap_or(&[]);
+    if let Some(lines) = matches.get_strs(LINE) {
+        // Each word that is no line is a piece; the first of them stands where the script would.
+        let script = joined(rt.alloc(), lines)?;
+        let mut pieces = Vec::new(rt.alloc());
+        if let Some(path) = matches.get_str(SCRIPT) {
+            pieces.push(read(rt, path)?)?;
+        }
+        for path in paths {
+            pieces.push(read(rt, *path)?)?;
+        }
+        return edit_by(rt, matches, input, out, err, &script, &pieces);
     }
+    let Some(path) = matches.get_str(SCRIPT) else {
+        return Ok(usage(err));
+    };
+    let script = read(rt, path)?;
+    let pieces = read_all(rt, paths)?;
+    edit_by(rt, matches, input, out, err, &script, &pieces)
+}
+
+// The lines of a script, each ended.
+fn joined(alloc: Global, lines: &[&str]) -> Result<Vec<u8>, AllocError> {
+    let mut script = Vec::new(alloc);
+    for line in lines {
+        script.extend_from_slice(line.as_bytes())?;
+        script.push(b'\n')?;
+    }
+    Ok(script)
 }
 
 // Edits by a script, with the journal that the command line names, if it names one. The journal is read last.
-fn edit_by<R: Files<File = File> + AllocGlobal, S: Source, O: Sink, E: Sink>(
+fn edit_by<'a, R: Files<File = File> + AllocGlobal, S: Source, O: Sink, E: Sink>(
     rt: &R,
-    matches: &ArgMatches<'_>,
+    matches: &ArgMatches<'a>,
     input: &mut S,
     out: &mut O,
     err: &mut E,
     script: &[u8],
     pieces: &[Vec<u8>],
-) -> Status {
+) -> Result<Status, Problem<'a>> {
     let alloc = rt.alloc();
     let Some(path) = matches.get_str(JOURNAL) else {
         let mut none = Output::new(io::sink());
-        return run_edit(
-            alloc,
-            input,
-            out,
-            err,
-            script,
-            pieces,
-            Journal::Off,
-            &mut none,
-        );
+        let journal = Journal::Off;
+        return Ok(run_edit(alloc, input, out, err, script, pieces, journal, &mut none));
     };
     let (mut jout, old) = match JournalFile::open(rt, path) {
         Ok(opened) => opened,
-        Err(error) => return refuse_journal(alloc, path, &error, err),
+        Err(error) => return Err(Problem::File { path, error }),
     };
     let journal = match &old {
         Some(text) => Journal::Old(text),
         None => Journal::New,
     };
-    run_edit(alloc, input, out, err, script, pieces, journal, &mut jout)
-}
-
-// Says why the file of a journal can't be read.
-fn refuse_journal<E: Sink>(alloc: Global, path: &str, error: &io::Error, err: &mut E) -> Status {
-    let line = match error.kind() {
-        io::ErrorKind::OutOfMemory => return give_up(err, Cause::Memory),
-        io::ErrorKind::WouldBlock => {
-            format!(in alloc; "mimetool: {path}: another run is using it\n")
-        }
-        _ => format!(in alloc; "mimetool: {path}: {error}\n"),
-    };
-    match line {
-        Ok(line) => {
-            let _ = write_all(err, line.as_bytes());
-            give_up(err, Cause::Read)
-        }
-        Err(_) => give_up(err, Cause::Memory),
-    }
+    Ok(run_edit(alloc, input, out, err, script, pieces, journal, &mut jout))
 }
 
 // mimetool extract
-fn extract<R: Files + AllocGlobal, S: Source, O: Sink, E: Sink>(
+fn extract<'a, R: Files + AllocGlobal, S: Source, O: Sink, E: Sink>(
     rt: &R,
-    matches: &ArgMatches<'_>,
+    matches: &ArgMatches<'a>,
     input: &mut S,
     out: &mut O,
     err: &mut E,
-) -> Status {
-    let Some(path) = matches.get_str(PATH) else {
-        return usage(err);
+) -> Result<Status, Problem<'a>> {
+    let alloc = rt.alloc();
+    let Some(word) = matches.get_str(PATH) else {
+        return Ok(usage(err));
     };
-    match numbers(rt.alloc(), path.as_bytes()) {
-        Ok(Some(path)) => run_extract(rt.alloc(), input, out, err, &path),
-        Ok(None) => usage(err),
-        Err(_) => give_up(err, Cause::Memory),
+    match numbers(alloc, word.as_bytes())? {
+        Some(path) => Ok(run_extract(alloc, input, out, err, &path)),
+        None => Err(Problem::Usage(format!(in alloc;
+            "invalid value '{word}' for '-s <PATH>': write numbers from 1 on with dots between them, as 1.2"
+        )?)),
     }
 }
 
@@ -228,85 +254,44 @@ fn unpack_into<R: Files + AllocGlobal, S: Source, O: Sink, E: Sink>(
 }
 
 // mimetool pack
-fn pack<R: Files + AllocGlobal, S: Source, O: Sink, E: Sink>(
+fn pack<'a, R: Files + AllocGlobal, S: Source, O: Sink, E: Sink>(
     rt: &R,
-    matches: &ArgMatches<'_>,
+    matches: &ArgMatches<'a>,
     input: &mut S,
     out: &mut O,
     err: &mut E,
-) -> Status {
+) -> Result<Status, Problem<'a>> {
+    let alloc = rt.alloc();
     let Some(boundary) = matches.get_str(BOUNDARY) else {
-        return usage(err);
+        return Ok(usage(err));
     };
     let words = matches.get_strs(SPEC).unwrap_or(&[]);
-    if !words.iter().all(|word| Spec::of(word.as_bytes()).is_some()) {
-        return usage(err);
+    for word in words {
+        if Spec::of(word.as_bytes()).is_none() {
+            return Err(Problem::Usage(format!(in alloc;
+                "invalid value '{word}' for '<SPEC>...': write TYPE:FILE, as image/gif:dot.gif"
+            )?));
+        }
     }
-    match attachments(rt, words) {
-        Ok(parts) => run_pack(rt.alloc(), input, out, err, boundary.as_bytes(), &parts),
-        Err(Stop::Fault) => give_up(err, Cause::Read),
-        Err(Stop::Memory) => give_up(err, Cause::Memory),
-    }
+    let parts = attachments(rt, words)?;
+    Ok(run_pack(alloc, input, out, err, boundary.as_bytes(), &parts))
 }
 
 // mimetool field
-fn field<R: AllocGlobal, S: Source, O: Sink, E: Sink>(
+fn field<'a, R: AllocGlobal, S: Source, O: Sink, E: Sink>(
     rt: &R,
-    matches: &ArgMatches<'_>,
+    matches: &ArgMatches<'a>,
     input: &mut S,
     out: &mut O,
     err: &mut E,
-) -> Status {
-    match letter_words(matches).letters(rt.alloc()) {
-        Ok(Some(letters)) => {
-            if letters.ok() {
-                let each = matches.get_flag(EACH);
-                run_field(rt.alloc(), input, out, err, &letters, each)
-            } else {
-                usage(err)
-            }
-        }
-        Ok(None) => usage(err),
-        Err(_) => give_up(err, Cause::Memory),
-    }
-}
-
-// The files to be packed, read whole in the order of the command line.
-fn attachments<R: Files + AllocGlobal>(rt: &R, words: &[&str]) -> Result<Vec<Attach>, Stop> {
-    let mut parts = Vec::new(rt.alloc());
-    for word in words {
-        if let Some(spec) = Spec::of(word.as_bytes()) {
-            let Ok(path) = std::str::from_utf8(spec.path) else {
-                return Err(Stop::Fault);
-            };
-            let text = file(rt, path)?;
-            parts.push(spec.attach(rt.alloc(), text)?)?;
+) -> Result<Status, Problem<'a>> {
+    let alloc = rt.alloc();
+    let words = letter_words(matches);
+    if let Some(letters) = words.letters(alloc)? {
+        if letters.ok() {
+            let each = matches.get_flag(EACH);
+            return Ok(run_field(alloc, input, out, err, &letters, each));
         }
     }
-    Ok(parts)
-}
-
-// The script and the pieces, read whole in the order of the command line.
-fn files<R: Files + AllocGlobal>(
-    rt: &R,
-    script: &str,
-    pieces: &[&str],
-) -> Result<(Vec<u8>, Vec<Vec<u8>>), Stop> {
-    let script = file(rt, script)?;
-    let mut texts = Vec::new(rt.alloc());
-    for piece in pieces {
-        texts.push(file(rt, piece)?)?;
-    }
-    Ok((script, texts))
-}
-
-// A file, read whole.
-fn file<R: Files + AllocGlobal>(rt: &R, path: &str) -> Result<Vec<u8>, Stop> {
-    match fs::open(rt, path) {
-        Ok(file) => read_all(rt.alloc(), &mut Input::new(file)),
-        Err(error) => match error.kind() {
-            io::ErrorKind::OutOfMemory => Err(Stop::Memory),
-            _ => Err(Stop::Fault),
-        },
-    }
+    Err(Problem::Usage(why_refused(alloc, &words)?))
 }

@@ -7,6 +7,7 @@ mod faults;
 mod files;
 mod journals;
 mod letters;
+mod usage;
 
 use crate::program::obey;
 use devices::Page;

@@ -8,9 +8,7 @@ use std::test::Fail;
 const MIXED: &[u8] =
     b"Subject: t\nContent-Type: multipart/mixed; boundary=\"b\"\n\npre\n--b\n\none\n--b \t\nContent-Type: text/html\n\ntwo\n--b--\nepi\n";
 
-const USAGE: &[u8] = b"mimetool: usage\n";
-
-const ROWS: [Row; 11] = [
+const ROWS: [Row; 7] = [
     Row {
         shows: "the sections",
         words: &["sections"],
@@ -58,38 +56,6 @@ const ROWS: [Row; 11] = [
         output: b"",
         errors: b"1: UnknownEncoding\n",
         status: Status::Refused,
-    },
-    Row {
-        shows: "a path with a leading zero",
-        words: &["extract", "-s", "1.01"],
-        message: MIXED,
-        output: b"",
-        errors: USAGE,
-        status: Status::Usage,
-    },
-    Row {
-        shows: "a path that begins with a hyphen",
-        words: &["extract", "-s", "-1"],
-        message: MIXED,
-        output: b"",
-        errors: USAGE,
-        status: Status::Usage,
-    },
-    Row {
-        shows: "a path with a number that is too great",
-        words: &["extract", "-s", "1.4294967296"],
-        message: MIXED,
-        output: b"",
-        errors: USAGE,
-        status: Status::Usage,
-    },
-    Row {
-        shows: "a word that is no part",
-        words: &["pack", "-b", "b", "text"],
-        message: b"",
-        output: b"",
-        errors: USAGE,
-        status: Status::Usage,
     },
     Row {
         shows: "the version",

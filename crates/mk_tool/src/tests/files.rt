@@ -20,6 +20,12 @@ const OTHER: &[u8] =
 const BAD: &[u8] =
     b"Content-Type: text/plain; name=n.txt\nContent-Transfer-Encoding: base64\n\naGl=\n";
 
+const NONE_ERRORS: &[u8] =
+    b"mimetool: mimetool_named_test/none: No such file or directory (os error 2)\nmimetool: read fault\n";
+
+const FOLDER_ERRORS: &[u8] =
+    b"mimetool: mimetool_named_test: is a directory\nmimetool: read fault\n";
+
 /// Compares what a run left.
 fn same(rt: &impl Abort, found: &Outcome, output: &[u8], errors: &[u8], status: Status) {
     assert_eq!(rt; found.status, status);
@@ -32,7 +38,6 @@ fn scripts_and_pieces_are_files(rt: HostRuntime) -> Result<(), Fail> {
     let folder = "mimetool_scripts_test";
     let script = "mimetool_scripts_test/script";
     let piece = "mimetool_scripts_test/piece";
-    let none = "mimetool_scripts_test/none";
     let _ = fs::remove_dir_all(&rt, folder);
     fs::create_dir_all(&rt, folder)?;
     fs::write(&rt, script, "add 1 C: d\n")?;
@@ -50,10 +55,111 @@ fn scripts_and_pieces_are_files(rt: HostRuntime) -> Result<(), Fail> {
     );
     let found = obeyed(&rt, &["edit", script], MESSAGE)?;
     same(&rt, &found, b"", b"script: line 1: syntax\n", Status::Usage);
-    let found = obeyed(&rt, &["edit", none], MESSAGE)?;
-    same(&rt, &found, b"", b"mimetool: read fault\n", Status::Fault);
-    let found = obeyed(&rt, &["edit", script, none], MESSAGE)?;
-    same(&rt, &found, b"", b"mimetool: read fault\n", Status::Fault);
+    fs::remove_dir_all(&rt, folder)?;
+    Ok(())
+}
+
+/// Command lines that name a file that isn't there.
+const MISSING: [&[&str]; 9] = [
+    &["edit", "mimetool_named_test/none"],
+    &[
+        "edit",
+        "mimetool_named_test/script",
+        "mimetool_named_test/none",
+    ],
+    &["edit", "-e", "undo", "mimetool_named_test/none"],
+    &["pack", "-b", "b", "text/plain:mimetool_named_test/none"],
+    &["sections", "--from", "mimetool_named_test/none"],
+    &["extract", "-s", "1", "--from", "mimetool_named_test/none"],
+    &["unpack", "--from", "mimetool_named_test/none"],
+    &["field", "--from", "mimetool_named_test/none"],
+    &[
+        "undo",
+        "-j",
+        "mimetool_named_test/journal",
+        "--from",
+        "mimetool_named_test/none",
+    ],
+];
+
+/// Command lines that name a folder where a file should be.
+const FOLDERS: [&[&str]; 2] = [
+    &["edit", "mimetool_named_test"],
+    &["sections", "--from", "mimetool_named_test"],
+];
+
+#[test]
+fn files_that_can_t_be_read_are_named(rt: HostRuntime) -> Result<(), Fail> {
+    let folder = "mimetool_named_test";
+    let _ = fs::remove_dir_all(&rt, folder);
+    fs::create_dir_all(&rt, folder)?;
+    fs::write(&rt, "mimetool_named_test/script", "add 1 C: d\n")?;
+    for words in MISSING {
+        let found = obeyed(&rt, words, MESSAGE)?;
+        same(&rt, &found, b"", NONE_ERRORS, Status::Fault);
+    }
+    for words in FOLDERS {
+        let found = obeyed(&rt, words, MESSAGE)?;
+        same(&rt, &found, b"", FOLDER_ERRORS, Status::Fault);
+    }
+    fs::remove_dir_all(&rt, folder)?;
+    Ok(())
+}
+
+#[test]
+fn lines_stand_in_place_of_a_script(rt: HostRuntime) -> Result<(), Fail> {
+    let folder = "mimetool_lines_test";
+    let piece = "mimetool_lines_test/piece";
+    let _ = fs::remove_dir_all(&rt, folder);
+    fs::create_dir_all(&rt, folder)?;
+    fs::write(&rt, piece, "hi\n")?;
+    let words = [
+        "edit",
+        "-e",
+        "add 1 C: d",
+        "-e",
+        "del 1 Z 1",
+        "-e",
+        "body 1 1",
+        piece,
+    ];
+    let found = obeyed(&rt, &words, MESSAGE)?;
+    same(
+        &rt,
+        &found,
+        b"A: b\nC: d\n\nhi\n",
+        b"line 2: NoSuchField\n",
+        Status::Refused,
+    );
+    let words = ["edit", piece, "-e", "body 1 2", piece];
+    let found = obeyed(&rt, &words, MESSAGE)?;
+    same(&rt, &found, b"A: b\n\nhi\n", b"", Status::Well);
+    let found = obeyed(&rt, &["edit", "-e", "body 1 1"], MESSAGE)?;
+    same(&rt, &found, b"", b"script: line 1: syntax\n", Status::Usage);
+    fs::remove_dir_all(&rt, folder)?;
+    Ok(())
+}
+
+#[test]
+fn messages_come_from_files(rt: HostRuntime) -> Result<(), Fail> {
+    let folder = "mimetool_from_test";
+    let message = "mimetool_from_test/message";
+    let _ = fs::remove_dir_all(&rt, folder);
+    fs::create_dir_all(&rt, folder)?;
+    fs::write(&rt, message, "B: c\n\ny\n")?;
+    let listing = b"1 leaf text/plain identity 0 6 8 1 1\n".as_slice();
+    for (words, output) in [
+        (
+            ["edit", "-e", "add 1 C: d", "--from", message].as_slice(),
+            b"B: c\nC: d\n\ny\n".as_slice(),
+        ),
+        (&["field", "-x", "B:", "--from", message], b" c\n"),
+        (&["sections", "--from", message], listing),
+        (&["extract", "--from", message, "-s", "1"], b"y\n"),
+    ] {
+        let found = obeyed(&rt, words, MESSAGE)?;
+        same(&rt, &found, output, b"", Status::Well);
+    }
     fs::remove_dir_all(&rt, folder)?;
     Ok(())
 }
@@ -63,7 +169,6 @@ fn parts_are_files(rt: HostRuntime) -> Result<(), Fail> {
     let folder = "mimetool_parts_test";
     let file = "mimetool_parts_test/n.txt";
     let word = "text/plain:mimetool_parts_test/n.txt";
-    let none = "text/plain:mimetool_parts_test/none";
     let _ = fs::remove_dir_all(&rt, folder);
     fs::create_dir_all(&rt, folder)?;
     fs::write(&rt, file, "hi\n")?;
@@ -79,8 +184,6 @@ fn parts_are_files(rt: HostRuntime) -> Result<(), Fail> {
     same(&rt, &found, b"", b"pack: BadField 1\n", Status::Refused);
     let found = obeyed(&rt, &["pack", "-b", "b ", word], b"")?;
     same(&rt, &found, b"", b"pack: BadBoundary\n", Status::Refused);
-    let found = obeyed(&rt, &["pack", "-b", "b", word, none], b"")?;
-    same(&rt, &found, b"", b"mimetool: read fault\n", Status::Fault);
     fs::remove_dir_all(&rt, folder)?;
     Ok(())
 }

@@ -10,8 +10,6 @@ const MAILBOX: &[u8] = b"From a\nA: 1\n\nx\n\nFrom b\nA: 2\n\ny\nFrom z\n\nFrom 
 
 const MIXED: &[u8] = b"Content-Type: multipart/mixed; boundary=b\n\n--b\n\none\n--b--\n";
 
-const USAGE: &[u8] = b"mimetool: usage\n";
-
 /// What is asked of the message, and what comes out where all is well.
 const WELL: [(&[&str], &[u8]); 17] = [
     (&["field"], MESSAGE),
@@ -51,43 +49,6 @@ fn each_letter_does_its_own(rt: HostRuntime) -> Result<(), Fail> {
                 output,
                 errors: b"",
                 status: Status::Well,
-            },
-        )?;
-    }
-    Ok(())
-}
-
-/// Values that letters don't take, and letters that don't stand together.
-const USAGES: [&[&str]; 15] = [
-    &["field", "-u", "A"],
-    &["field", "-u", "A: b"],
-    &["field", "-U", "A"],
-    &["field", "-x", "A"],
-    &["field", "-X", "A"],
-    &["field", "-X", ":"],
-    &["field", "--rename", "AB"],
-    &["field", "--rename", "A:B C"],
-    &["field", "-a", "x"],
-    &["field", "-a", "A:"],
-    &["field", "-A", "A:"],
-    &["field", "-i", "x"],
-    &["field", "-I", ""],
-    &["field", "-x", "A:", "-X", "A:"],
-    &["field", "-x", "A:", "-I", "A: 9"],
-];
-
-#[test]
-fn other_values_are_usage_faults(rt: HostRuntime) -> Result<(), Fail> {
-    for words in USAGES {
-        check(
-            &rt,
-            &Row {
-                shows: "a value that a letter doesn't take",
-                words,
-                message: MESSAGE,
-                output: b"",
-                errors: USAGE,
-                status: Status::Usage,
             },
         )?;
     }

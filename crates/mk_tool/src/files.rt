@@ -1,0 +1,69 @@
+//! The files that the command line names.
+
+use crate::faults::Problem;
+use mk_mail::Attach;
+use mk_run::Spec;
+use std::io::Read;
+use std::rt::Files;
+use std::{fs, io};
+
+/// Opens a file for reading. A folder is an error.
+pub fn open<'a, R: Files>(rt: &R, path: &'a str) -> Result<R::File, Problem<'a>> {
+    match opened(rt, path) {
+        Ok(file) => Ok(file),
+        Err(error) => Err(Problem::File { path, error }),
+    }
+}
+
+fn opened<R: Files>(rt: &R, path: &str) -> io::Result<R::File> {
+    if fs::metadata(rt, path)?.is_dir() {
+        return Err(io::Error::from(io::ErrorKind::IsADirectory));
+    }
+    fs::open(rt, path)
+}
+
+/// Reads a file whole.
+pub fn read<'a, R: Files + AllocGlobal>(rt: &R, path: &'a str) -> Result<Vec<u8>, Problem<'a>> {
+    let mut file = open(rt, path)?;
+    let mut text = Vec::new(rt.alloc());
+    match file.read_to_end(&mut text) {
+        Ok(_) => Ok(text),
+        Err(error) => Err(Problem::File { path, error }),
+    }
+}
+
+/// Reads files whole, in their order.
+pub fn read_all<'a, R: Files + AllocGlobal>(
+    rt: &R,
+    paths: &[&'a str],
+) -> Result<Vec<Vec<u8>>, Problem<'a>> {
+    let mut texts = Vec::new(rt.alloc());
+    for path in paths {
+        texts.push(read(rt, *path)?)?;
+    }
+    Ok(texts)
+}
+
+/// Reads the files of parts, in their order. Each word is a part, as TYPE:FILE.
+pub fn attachments<'a, R: Files + AllocGlobal>(
+    rt: &R,
+    words: &[&'a str],
+) -> Result<Vec<Attach>, Problem<'a>> {
+    let mut parts = Vec::new(rt.alloc());
+    for word in words {
+        if let Some(spec) = Spec::of(word.as_bytes()) {
+            let path = path_in(*word);
+            let text = read(rt, path)?;
+            parts.push(spec.attach(rt.alloc(), text)?)?;
+        }
+    }
+    Ok(parts)
+}
+
+// The path in a word TYPE:FILE.
+fn path_in(word: &str) -> &str {
+    match word.split_once(':') {
+        Some((_, path)) => path,
+        None => word,
+    }
+}
