@@ -1,0 +1,65 @@
+# bash completion for mimetool(1)
+
+_mimetool_options() {
+    local options=''
+    case $1 in
+        edit) options='--from -j -e -h --help' ;;
+        undo) options='--from -j -h --help' ;;
+        redo) options='--from -j -h --help' ;;
+        sections) options='--from -h --help' ;;
+        extract) options='--from -s -h --help' ;;
+        unpack) options='--from -f -t --silent -C -h --help' ;;
+        pack) options='-b -h --help' ;;
+        field) options='--from --rename -a -A -i -I -u -U -x -X -s -h --help' ;;
+        help) options='' ;;
+        '') options='-h --help -V --version' ;;
+    esac
+    printf '%s' "$options"
+}
+
+_mimetool() {
+    local cur=${COMP_WORDS[COMP_CWORD]} prev=${COMP_WORDS[COMP_CWORD - 1]} command='' word
+    local commands='edit undo redo sections extract unpack pack field help'
+    COMPREPLY=()
+    for word in "${COMP_WORDS[@]:1:COMP_CWORD-1}"; do
+        case $word in
+            -*) ;;
+            *) command=$word; break ;;
+        esac
+    done
+    compopt -o filenames 2>/dev/null
+    case $command:$prev in
+        edit:-j | undo:-j | redo:-j | *:--from)
+            mapfile -t COMPREPLY < <(compgen -f -- "$cur")
+            return ;;
+        unpack:-C)
+            mapfile -t COMPREPLY < <(compgen -d -- "$cur")
+            return ;;
+        edit:-e | extract:-s | pack:-b | field:--rename | field:-[aAiIuUxX])
+            return ;;
+    esac
+    if [[ $cur == -* ]]; then
+        compopt +o filenames 2>/dev/null
+        mapfile -t COMPREPLY < <(compgen -W "$(_mimetool_options "$command")" -- "$cur")
+        return
+    fi
+    case $command in
+        '')
+            compopt +o filenames 2>/dev/null
+            mapfile -t COMPREPLY < <(compgen -W "$commands" -- "$cur") ;;
+        help)
+            compopt +o filenames 2>/dev/null
+            mapfile -t COMPREPLY < <(compgen -W "$commands" -- "$cur") ;;
+        edit)
+            mapfile -t COMPREPLY < <(compgen -f -- "$cur") ;;
+        pack)
+            # TYPE:FILE. The shell cuts words at a colon, so what is completed is FILE.
+            if [[ $cur == : ]]; then
+                mapfile -t COMPREPLY < <(compgen -f)
+            elif [[ $prev == : ]]; then
+                mapfile -t COMPREPLY < <(compgen -f -- "$cur")
+            fi ;;
+    esac
+}
+
+complete -F _mimetool mimetool
