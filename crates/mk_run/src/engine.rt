@@ -52,7 +52,7 @@ pub fn run_edit<S: Source, O: Sink, E: Sink, J: Sink>(
         (counts (S.failures input.new) (S.read_count input.new) (O.failures out.new) (E.failures err.new)) }
     ensures kept { ends_itself result ≡ true → J.failures jout.new ≡ J.failures jout.old }
 {
-    match run_script(alloc, input, out, err, script, pieces, journal, jout) {
+    match try_edit(alloc, input, out, err, script, pieces, journal, jout) {
         Ok(status) => status,
         Err(cause) => give_up(err, cause),
     }
@@ -72,7 +72,7 @@ pub fn give_up<E: Sink>(err: &mut E, cause: Cause) -> Status
 }
 
 // Runs the script up to a cause to give up. The whole script is read before any of the message.
-fn run_script<S: Source, O: Sink, E: Sink, J: Sink>(
+fn try_edit<S: Source, O: Sink, E: Sink, J: Sink>(
     alloc: Global,
     input: &mut S,
     out: &mut O,

@@ -12,17 +12,17 @@ use Rattle.mk_run.proofs.engine.run_edit.Goals as goal
 pub returns-in-Err-clause-leaves : goal.returns-in-Err-clause-leaves
 returns-in-Err-clause-leaves g c =
     let before = held (g.S.Source.remaining c.args.input.now) (g.O.Sink.contents c.args.out.now) (g.E.Sink.contents c.args.err.now) in
-    let between = held (g.S.Source.remaining c.run_script.new.input) (g.O.Sink.contents c.run_script.new.out) (g.E.Sink.contents c.run_script.new.err) in
+    let between = held (g.S.Source.remaining c.try_edit.new.input) (g.O.Sink.contents c.try_edit.new.out) (g.E.Sink.contents c.try_edit.new.err) in
     let kept = g.J.Sink.contents c.args.jout.now in
-    let last = g.J.Sink.contents c.run_script.new.jout in
-    let finished = g.J.Sink.finished c.run_script.new.jout in
+    let last = g.J.Sink.contents c.try_edit.new.jout in
+    let finished = g.J.Sink.finished c.try_edit.new.jout in
     let journaling = journaling_of c.args.journal in
     let left = subst (λ n. LeavesSteps (Err c.in-Err.cause) (texts_of c.args.pieces.now) journaling (script_of n c.args.script.now) before between kept last finished) (sym (texts_length c.args.pieces.now)) c.in-Err.ensures.leaves in
     let script = run_of (texts_of c.args.pieces.now) journaling left.0 c.args.script.now in
-    let after = held (g.S.Source.remaining c.run_script.new.input) (g.O.Sink.contents c.run_script.new.out) (g.E.Sink.contents c.give_up.new.err) in
+    let after = held (g.S.Source.remaining c.try_edit.new.input) (g.O.Sink.contents c.try_edit.new.out) (g.E.Sink.contents c.give_up.new.err) in
     rw c.give_up.ensures.status (
       left.0,
       left.1,
-      Leaves-given_up c.in-Err.cause script.run before after (g.E.Sink.contents c.run_script.new.err) left.2.output left.2.errors c.give_up.ensures.line left.2.silent,
+      Leaves-given_up c.in-Err.cause script.run before after (g.E.Sink.contents c.try_edit.new.err) left.2.output left.2.errors c.give_up.ensures.line left.2.silent,
       LeavesJournal-given_up c.in-Err.cause script before after kept last finished left.3.front left.3.later,
     )

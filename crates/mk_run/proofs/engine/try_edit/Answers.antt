@@ -1,7 +1,7 @@
 use Rattle.std.proofs.Common.{[], refl, inl}
 use Rattle.std.proofs.KnownBytes.{Appends-nil, Consumes-nil, Keeps-refl}
 use Rattle.mk_run.proofs.RunLemmas.{AppendsFront-none}
-use Rattle.mk_run.proofs.engine.run_script.Goals as goal
+use Rattle.mk_run.proofs.engine.try_edit.Goals as goal
 
 pub returns-in-Ok-report_syntax-clause-leaves : goal.returns-in-Ok-report_syntax-clause-leaves
 returns-in-Ok-report_syntax-clause-leaves g c =
