@@ -72,7 +72,8 @@ pub trait Sink {
         ensures took_none { IfOk result (λ n.
             n ≡ 0 → 0 < length piece.now → failures self.new ≡ ticked (failures self.old)) }
         ensures took_some { IfOk result (λ n. 0 < n → failures self.new ≡ failures self.old) }
-        ensures none_given { length piece.now ≡ 0 → OnOk result (failures self.new ≡ failures self.old) };
+        ensures none_given { length piece.now ≡ 0 → OnOk result (failures self.new ≡ failures self.old) }
+        ensures unfinished { finished self.new ≡ finished self.old };
 
     /// Says that all was written. A device that holds bytes back until then lets them stand, or fails; nothing is written
     /// after it.
@@ -80,7 +81,8 @@ pub trait Sink {
         ensures bytes { Keeps (contents self.old) (contents self.new) }
         ensures stands { OnOk result (finished self.new ≡ true) }
         ensures failed { OnErr result (failures self.new ≡ ticked (failures self.old)) }
-        ensures went_well { OnOk result (failures self.new ≡ failures self.old) };
+        ensures went_well { OnOk result (failures self.new ≡ failures self.old) }
+        ensures unfinished { OnErr result (finished self.new ≡ finished self.old) };
 
     /// How many calls failed.
     fn faults(&self) -> u64

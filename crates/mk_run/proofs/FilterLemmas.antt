@@ -1,7 +1,7 @@
 -- Messages filtered in turn: what went out so far, and what is left to be said.
 use Rattle.std.proofs.Common.{◌≡◌, ◌≤◌, ◌+◌, ◌*◌, ◌⊎◌, ◌++◌, ◌||◌, ℕ, suc, Bool, true, false, not, if◌then◌else◌, Option, None, Some, IfSome, Result, Ok, Err, OnErr, List, [], ◌∷◌, refl, ap, sym, ◌∙◌, subst, inl, inr, filter, length, length-append, append_assoc, append-nil, arith}
-use Rattle.std.proofs.KnownBytes.{Appends-nil, Appends-trans}
-use Rattle.std.specs.Io.KnownBytes.{Appends}
+use Rattle.std.proofs.KnownBytes.{Appends-kept, Appends-nil, Appends-trans}
+use Rattle.std.specs.Io.KnownBytes.{Appends, Keeps}
 use Rattle.std.specs.List.{flat_map}
 use Rattle.mk_line.specs.Lines.{cut, is_nil}
 use Rattle.mk_decide.specs.declared.errors.EditError.{EditError}
@@ -34,7 +34,7 @@ use Rattle.mk_run.specs.RunClauses.{Held, IsSent, IsStopped, cause_line, cause_o
 use Rattle.mk_run.specs.Shown.{shown}
 use Rattle.mk_run.specs.Unpacking.{Said, said_behind, silence}
 use Rattle.mk_run.proofs.Fronts.{AppendsFront-behind, not-is_nil-append}
-use Rattle.mk_run.proofs.RunLemmas.{AppendsFront-none}
+use Rattle.mk_run.proofs.RunLemmas.{AppendsFront-none, AppendsFront-whole}
 
 -- ---- what is said of messages, one after another
 
@@ -324,6 +324,25 @@ some_line false h = refl
 no_line : (t : Bool) → false ≡ not t → (if t then Well else Refused) ≡ Well
 no_line true h = refl
 no_line false h = cc
+
+-- messages that were filtered stay so by a call that writes nothing
+pub IsFiltered-kept : (said : Said) (refused : Bool) (before : Held) (input out left err : Option (List ℕ))
+    → IsFiltered said refused before (held input out err) → Keeps out left → IsFiltered said refused before (held input left err)
+IsFiltered-kept said refused before input out left err f k = record {
+  says = record { output = Appends-kept before.output out left said.output f.says.output k; errors = f.says.errors; refused_is = f.says.refused_is };
+  ended = f.ended;
+}
+
+-- a run that stops once all messages were filtered
+pub IsBroken-last : (each : Bool) (stop : Stop) (cause : Cause) (said : Said) (refused : Bool) (before : Held) (input out left err : Option (List ℕ))
+    → cause ≡ cause_of_writing stop → IsFiltered said refused before (held input out err) → Keeps out left → IsBroken each cause said before (held input left err)
+IsBroken-last each stop cause said refused before input out left err e f k = record {
+  says = record {
+    output = AppendsFront-whole before.output left said.output (Appends-kept before.output out left said.output f.says.output k);
+    errors = AppendsFront-whole before.errors err said.errors f.says.errors;
+  };
+  silent = λ _ r. not_reading stop cause e r;
+}
 
 pub Filters-refused : (each : Bool) (said : Said) (before after : Held) → IsFiltered said true before after → Filters each Refused (shown said.output said.errors) before after
 Filters-refused each said before after f =

@@ -1,8 +1,8 @@
 -- What the engine's exits leave.
-use Rattle.std.proofs.Common.{◌≡◌, ◌⊎◌, ℕ, Bool, true, false, not, if◌then◌else◌, List, [], Option, Some, Result, Ok, Err, IfOk, IfErr, refl, sym, inl, inr}
+use Rattle.std.proofs.Common.{◌≡◌, ◌∙◌, ◌++◌, ap, ◌⊎◌, ℕ, Bool, true, false, not, if◌then◌else◌, List, [], Option, None, Some, Result, Ok, Err, IfOk, IfErr, OnOk, refl, sym, inl, inr}
 use Rattle.std.proofs.lemmas.Bool.{cases_Bool}
 use Rattle.std.proofs.lemmas.List.{append-nil}
-use Rattle.std.specs.Io.KnownBytes.{Appends, IsAtEnd, Keeps}
+use Rattle.std.specs.Io.KnownBytes.{Appends, Consumes, IsAtEnd, Keeps}
 use Rattle.std.proofs.KnownBytes.{Appends-nil}
 use Rattle.mk_line.specs.Lines.{is_nil}
 use Rattle.mk_edit.specs.History.{History}
@@ -17,8 +17,8 @@ use Rattle.mk_run.specs.declared.status.Cause.TheVariants.{Read, Write, Memory}
 use Rattle.mk_run.specs.declared.transfer.Stop.{Stop}
 use Rattle.mk_run.specs.declared.transfer.Stop.TheVariants.{Fault as Stopped, Memory as Wanting}
 use Rattle.mk_script.specs.ScriptSteps.{ScriptStep}
-use Rattle.mk_run.specs.Journaling.{Journaling, named_by}
-use Rattle.mk_run.specs.JournalRuns.{IsBlamedFor, LeavesJournal, LeavesJournalSoFar}
+use Rattle.mk_run.specs.Journaling.{Journaling, begun, named_by}
+use Rattle.mk_run.specs.JournalRuns.{IsBlamedFor, LeavesJournal, LeavesJournalSoFar, Prints}
 use Rattle.mk_run.specs.Runs.{Run, ScriptRun, run_from, errors_of}
 use Rattle.mk_run.specs.RunClauses.{Held, Counts, Leaves, LeavesSoFar, cause_line, cause_of_writing, ends_itself, status_of}
 use Rattle.mk_run.specs.inner.Keeping.{says_memory}
@@ -27,6 +27,17 @@ use Rattle.mk_run.specs.inner.Sessions.{LeavesSession, Sunk, sunk}
 -- where nothing went out, a front did
 pub AppendsFront-none : (known : Option (List ℕ)) (bytes : List ℕ) → AppendsFront known known bytes
 AppendsFront-none known bytes = ([], bytes, refl, Appends-nil known)
+
+-- bytes that went out after a call that wrote nothing
+Keeps-Appends : (old mid new : Option (List ℕ)) (bytes : List ℕ) → Keeps old mid → Appends mid new bytes → Appends old new bytes
+Keeps-Appends None mid new bytes k a = tt
+Keeps-Appends (Some x) None new bytes k a = absurd k
+Keeps-Appends (Some x) (Some y) None bytes k a = absurd a
+Keeps-Appends (Some x) (Some y) (Some z) bytes k a = a ∙ ap (λ l. l ++ bytes) k
+
+-- a front that went out after a call that wrote nothing
+pub AppendsFront-kept : (old mid new : Option (List ℕ)) (bytes : List ℕ) → Keeps old mid → AppendsFront mid new bytes → AppendsFront old new bytes
+AppendsFront-kept old mid new bytes k a = (a.0, a.1, a.2, Keeps-Appends old mid new a.0 k a.3)
 
 -- the status where no error line went out, and where one did
 pub status_at : (errors : List ℕ) (refused : Bool) (status : Status) → refused ≡ not (is_nil errors) → status ≡ (if refused then Refused else Well)
@@ -113,3 +124,24 @@ pub LeavesJournal-given_up : (cause : Cause) (script : ScriptRun) (before after 
 LeavesJournal-given_up Read script before after kept left finished front later = record { front = front; later = later }
 LeavesJournal-given_up Write script before after kept left finished front later = record { front = front; later = later }
 LeavesJournal-given_up Memory script before after kept left finished front later = record { front = front; later = later }
+
+-- steps on a session that weren't given up finish the output
+pub Prints-session : (result : Result Status Cause) (pieces : List (List ℕ)) (steps : List ScriptStep) (journaling : Journaling) (h : History) (was is : Sunk) (stands : Bool)
+    → LeavesSession result (run_from pieces steps journaling h) was is stands
+    → (message : List ℕ) (before after : Held) (was_finished finished : Bool) → Consumes before.input after.input message → begun journaling message ≡ Ok h → OnOk result (finished ≡ true)
+    → IfOk result (λ status. Prints status journaling before after was_finished finished)
+Prints-session (Ok status) pieces steps journaling h was is stands w message before after was_finished finished read b e = elim (cases_Bool (is_nil (errors_of pieces steps h))) [
+  | inl t ↦
+      let well : status ≡ Well = rw t at w.status_is in
+      rw well e
+  | inr f ↦
+      let refusing : status ≡ Refused = rw f at w.status_is in
+      rw refusing (message, read, rw b e)
+]
+Prints-session (Err cause) pieces steps journaling h was is stands w message before after was_finished finished read b e = tt
+
+-- a run that is given up says nothing of the output's device
+pub Prints-given_up : (cause : Cause) (journaling : Journaling) (before after : Held) (was_finished finished : Bool) → Prints (status_of cause) journaling before after was_finished finished
+Prints-given_up Read journaling before after was_finished finished = tt
+Prints-given_up Write journaling before after was_finished finished = tt
+Prints-given_up Memory journaling before after was_finished finished = tt

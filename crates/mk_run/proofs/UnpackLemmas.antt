@@ -1,5 +1,5 @@
 -- What is left of leaves that are unpacked in turn.
-use Rattle.std.proofs.Common.{◌≡◌, ◌⊎◌, ◌||◌, if◌then◌else◌, ℕ, Bool, true, false, not, List, [], ◌∷◌, ◌++◌, Option, refl, sym, ap, ◌∙◌, subst, append_assoc, inl, inr}
+use Rattle.std.proofs.Common.{◌≡◌, ◌⊎◌, ◌||◌, if◌then◌else◌, ℕ, Bool, true, false, not, List, [], ◌∷◌, ◌++◌, Option, Err, refl, sym, ap, ◌∙◌, subst, append_assoc, inl, inr}
 use Rattle.std.proofs.lemmas.List.{append-nil}
 use Rattle.std.specs.Io.KnownBytes.{Appends, IsAtEnd, Keeps}
 use Rattle.std.proofs.KnownBytes.{Appends-trans}
@@ -21,9 +21,9 @@ use Rattle.mk_run.specs.Folders.{Files}
 use Rattle.mk_run.specs.RunClauses.{held, cause_line, cause_of_writing, status_of}
 use Rattle.mk_run.specs.Unpacking.{AreLeaves, Said, silence, said_behind, Unpacks, UnpacksLeaf, stored_line, exists_line}
 use Rattle.mk_run.specs.Shown.{extract_line, is_wanting, shown}
-use Rattle.mk_run.specs.UnpackClauses.{Written, written, GetsNext, PutsText, PutsNone, PutsFront, UnpackedAll, UnpackedSome, IsUnpacked, IsBrokenOff, Stores}
+use Rattle.mk_run.specs.UnpackClauses.{Written, written, GetsNext, PutsText, PutsNone, PutsFront, UnpackedAll, UnpackedSome, IsUnpacked, IsBrokenOff, Stores, StoresSoFar}
 use Rattle.mk_run.proofs.Fronts.{AppendsFront-behind, not-is_nil-append}
-use Rattle.mk_run.proofs.RunLemmas.{AppendsFront-none}
+use Rattle.mk_run.proofs.RunLemmas.{AppendsFront-none, AppendsFront-kept}
 
 behind-silence : (s : Said) → s ≡ said_behind s silence
 behind-silence s = rw (append-nil s.output, append-nil s.errors) refl
@@ -212,10 +212,19 @@ not_read_either : {A : Type 0} → NoMemory ≡ Read → A
 not_read_either e = absurd cc
 
 -- writing was stopped
-pub Stores-stopped : (manner : Manner) (texts : Bool) (t : Document) (leaves : List Named) (stop : Stop) (status : Status) (input left out sent err between told : Option (List ℕ)) (old new : Option Files)
-    → AreLeaves texts t leaves → UnpackedSome manner t leaves (written out err old) (written sent between new) → status ≡ status_of (cause_of_writing stop) → AppendsFront between told (cause_line (cause_of_writing stop))
-    → Stores manner texts t status (held input out err) (held left sent told) old new
-Stores-stopped manner texts t leaves Stopped status input left out sent err between told old new are u e line =
-    rw e (inr (IsBrokenOff-some manner texts t leaves Write Fault input left out sent err between told old new are u refl (λ h. not_read h) line))
-Stores-stopped manner texts t leaves Wanting status input left out sent err between told old new are u e line =
-    rw e (inr (IsBrokenOff-some manner texts t leaves NoMemory Memory input left out sent err between told old new are u refl (λ h. not_read_either h) line))
+-- what was left when a run stopped, and the line that says why
+pub Stores-given_up : (manner : Manner) (texts : Bool) (t : Document) (cause : Cause) (input left out sent err between told : Option (List ℕ)) (old new : Option Files)
+    → StoresSoFar manner texts t (Err cause) (held input out err) (held left sent between) old new → AppendsFront between told (cause_line cause)
+    → Stores manner texts t (status_of cause) (held input out err) (held left sent told) old new
+Stores-given_up manner texts t Read input left out sent err between told old new w line = elim w [
+  | inl u ↦ inl (record { cause = Read; status_is = refl; output = u.output; line = AppendsFront-kept err between told (cause_line Read) u.errors line }, u.files)
+  | inr h ↦ absurd (h.writing refl)
+]
+Stores-given_up manner texts t Write input left out sent err between told old new w line = elim w [
+  | inl u ↦ inl (record { cause = Write; status_is = refl; output = u.output; line = AppendsFront-kept err between told (cause_line Write) u.errors line }, u.files)
+  | inr h ↦ inr (IsBrokenOff-some manner texts t h.leaves Write Fault input left out sent err between told old new h.are_leaves h.some refl (λ r. not_read r) line)
+]
+Stores-given_up manner texts t NoMemory input left out sent err between told old new w line = elim w [
+  | inl u ↦ inl (record { cause = NoMemory; status_is = refl; output = u.output; line = AppendsFront-kept err between told (cause_line NoMemory) u.errors line }, u.files)
+  | inr h ↦ inr (IsBrokenOff-some manner texts t h.leaves NoMemory Memory input left out sent err between told old new h.are_leaves h.some refl (λ r. not_read_either r) line)
+]

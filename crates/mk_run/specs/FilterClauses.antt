@@ -81,3 +81,8 @@ FiltersSoFar each (Err cause) said before after = IsBroken each cause said befor
 -- the same for the bytes that were read
 abbrev pub LeavesSaid : PlainLetters → Bool → Result Bool Cause → Held → Held → Type 0
 LeavesSaid l each result before after = (text : List ℕ) × Consumes before.input after.input text × FiltersSoFar each result (said_from l 1 (messages_of each text)) before after
+
+-- what a run of letters leaves, where it may be given up
+abbrev pub LeavesFilteredSoFar : PlainLetters → Bool → Result Status Cause → Held → Held → Type 0
+LeavesFilteredSoFar l each (Ok status) before after = LeavesFiltered l each status before after
+LeavesFilteredSoFar l each (Err cause) before after = LeavesSaid l each (Err cause) before after

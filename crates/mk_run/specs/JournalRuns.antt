@@ -6,7 +6,9 @@ use Rattle.mk_run.specs.declared.status.Status.{Status}
 use Rattle.mk_run.specs.declared.status.Status.TheVariants.{Well, Refused, Usage, Fault, Memory}
 use Rattle.mk_run.specs.declared.status.Cause.{Cause}
 use Rattle.mk_run.specs.declared.status.Cause.TheVariants.{Read, Write, Memory as NoMemory}
-use Rattle.mk_run.specs.Journaling.{Journaling}
+use Rattle.mk_edit.specs.History.{History}
+use Rattle.mk_edit.specs.Saving.{JournalRefusal}
+use Rattle.mk_run.specs.Journaling.{Journaling, begun}
 use Rattle.mk_run.specs.Runs.{ScriptRun, run_of, run_steps}
 use Rattle.mk_run.specs.RunClauses.{Held, Counts, Leaves, LeavesSoFar, ReadFailed, WriteFailed}
 use Rattle.mk_script.specs.ScriptSteps.{ScriptStep}
@@ -57,3 +59,17 @@ abbrev pub IsBlamedFor : Cause → Counts → Counts → ℕ → ℕ → Type 0
 IsBlamedFor Read before after kept left = ReadFailed before after
 IsBlamedFor Write before after kept left = SinkFailed before after kept left
 IsBlamedFor NoMemory before after kept left = Unit {0}
+
+-- the output is finished, where the run has a history to begin with
+abbrev pub FinishesWith : Result History JournalRefusal → Bool → Bool → Type 0
+FinishesWith (Ok h) was finished = finished ≡ true
+FinishesWith (Err reason) was finished = finished ≡ was
+
+-- the output is finished where the message goes out: not for a script with a fault, nor for a refused journal
+abbrev pub Prints : Status → Journaling → Held → Held → Bool → Bool → Type 0
+Prints Well journaling before after was finished = finished ≡ true
+Prints Refused journaling before after was finished =
+    (message : List ℕ) × Consumes before.input after.input message × FinishesWith (begun journaling message) was finished
+Prints Usage journaling before after was finished = finished ≡ was
+Prints Fault journaling before after was finished = Unit {0}
+Prints Memory journaling before after was finished = Unit {0}

@@ -1,6 +1,6 @@
 -- What a run that unpacks a message leaves in its devices.
-use Rattle.std.specs.Prelude.{◌≡◌, ◌⊎◌, ◌++◌, ℕ, Bool, false, not, List, [], ◌∷◌, Option}
-use Rattle.std.specs.Io.KnownBytes.{Appends, Consumes}
+use Rattle.std.specs.Prelude.{◌≡◌, ◌⊎◌, ◌++◌, ℕ, Bool, false, not, List, [], ◌∷◌, Option, Result, Ok, Err}
+use Rattle.std.specs.Io.KnownBytes.{Appends, Consumes, Keeps}
 use Rattle.mk_line.specs.Lines.{is_nil}
 use Rattle.mk_tree.specs.Documents.{Document, tree}
 use Rattle.mk_tree.specs.Sections.{section_at}
@@ -9,9 +9,11 @@ use Rattle.mk_view.specs.Extracts.{IsExtract}
 use Rattle.mk_view.specs.FileNames.{Named}
 use Rattle.mk_run.specs.declared.status.Status.{Status}
 use Rattle.mk_run.specs.declared.status.Status.TheVariants.{Well, Refused, Usage, Fault, Memory}
+use Rattle.mk_run.specs.declared.status.Cause.{Cause}
+use Rattle.mk_run.specs.declared.status.Cause.TheVariants.{Read, Write, Memory as NoMemory}
 use Rattle.mk_run.specs.declared.unpacking.Manner.{Manner}
 use Rattle.mk_run.specs.Folders.{Files, Gets}
-use Rattle.mk_run.specs.RunClauses.{Held, IsDone, IsGivenUp}
+use Rattle.mk_run.specs.RunClauses.{Held, Counts, IsDone, IsGivenUp, ReadFailed, WriteFailed}
 use Rattle.mk_run.specs.Shown.{IsSilent, shown}
 use Rattle.mk_run.specs.Unpacking.{IsTarget, AllThere, Said, Unpacks, AreLeaves}
 
@@ -138,3 +140,32 @@ Stores manner texts t Memory before after old new = IsUnbegun Memory before afte
 abbrev pub LeavesUnpacked : Manner → Bool → Status → Held → Held → Option Files → Option Files → Type 0
 LeavesUnpacked manner texts status before after old new =
     (message : List ℕ) × Consumes before.input after.input message × Stores manner texts (tree message) status before after old new
+
+-- nothing was written before the run was given up
+pub record IsUntouched (before after : Held) (old new : Option Files) : Type 0 where
+  pub output : Keeps before.output after.output
+  pub errors : Keeps before.errors after.errors
+  pub files : new ≡ old
+
+-- the run was given up after a front of the leaves, though not for a fault of reading
+pub record IsHalted (manner : Manner) (texts : Bool) (t : Document) (cause : Cause) (before after : Held) (old new : Option Files) : Type 0 where
+  pub leaves : List Named
+  pub are_leaves : AreLeaves texts t leaves
+  pub some : UnpackedSome manner t leaves (written before.output before.errors old) (written after.output after.errors new)
+  pub writing : cause ≡ Read → ⊥
+
+-- what a run leaves that unpacks a document, where it may be given up
+abbrev pub StoresSoFar : Manner → Bool → Document → Result Status Cause → Held → Held → Option Files → Option Files → Type 0
+StoresSoFar manner texts t (Ok status) before after old new = Stores manner texts t status before after old new
+StoresSoFar manner texts t (Err cause) before after old new = IsUntouched before after old new ⊎ IsHalted manner texts t cause before after old new
+
+-- the same for the message that the run read
+abbrev pub LeavesUnpackedSoFar : Manner → Bool → Result Status Cause → Held → Held → Option Files → Option Files → Type 0
+LeavesUnpackedSoFar manner texts result before after old new =
+    (message : List ℕ) × Consumes before.input after.input message × StoresSoFar manner texts (tree message) result before after old new
+
+-- the device failed that a cause speaks of
+abbrev pub IsBlamedForFolder : Cause → Counts → Counts → ℕ → ℕ → Type 0
+IsBlamedForFolder Read before after kept left = ReadFailed before after
+IsBlamedForFolder Write before after kept left = WriteFailed before after ⊎ Rose kept left
+IsBlamedForFolder NoMemory before after kept left = Unit {0}

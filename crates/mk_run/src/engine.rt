@@ -1,22 +1,22 @@
 //! The run of a script on a message, over any devices.
 
-ghost use Rattle.std.specs.Prelude.{◌≡◌, ◌≢◌, ◌≤◌, ◌⊎◌, true, [], length, map, Ok, IfOk, IfErr, OnOk, OnErr};
+ghost use Rattle.std.specs.Prelude.{◌≡◌, ◌≢◌, ◌≤◌, ◌⊎◌, true, false, [], length, map, Ok, IfOk, IfErr, OnOk, OnErr};
 ghost use Rattle.std.specs.Io.KnownBytes.{Appends, Keeps};
 ghost use Rattle.mk_mailbox.specs.Devices.{AppendsFront, Rose};
 ghost use Rattle.mk_script.specs.ScriptSteps.{script_of};
 ghost use Rattle.mk_script.specs.ScriptViews.{step_by, texts_of};
 ghost use Rattle.mk_run.specs.Journaling.{journaling_of};
-ghost use Rattle.mk_run.specs.JournalRuns.{IsBlamedFor, LeavesRun, LeavesSteps, SinkFailed};
+ghost use Rattle.mk_run.specs.JournalRuns.{IsBlamedFor, LeavesRun, LeavesSteps, Prints, SinkFailed};
 ghost use Rattle.mk_run.specs.Runs.{run_from};
 ghost use Rattle.mk_run.specs.RunClauses.{held, counts, SameFailures, ReadFailed, cause_line as line_of, cause_of_reading, cause_of_writing, status_of as status_for, ends_itself};
 ghost use Rattle.mk_run.specs.inner.Keeping.{bytes_kept};
 ghost use Rattle.mk_run.specs.inner.Sessions.{LeavesSession, sunk};
 
-use crate::journaling::{Journal, begin, is_memory, journal_of, keep};
+use crate::journaling::{Journal, begin, is_memory, journal_of};
 use crate::report::{cause_line, report_journal, report_syntax};
 use crate::status::{Cause, Status};
 use crate::steps::do_steps;
-use crate::transfer::{Stop, read_all, send, write_all};
+use crate::transfer::{Stop, finish, read_all, send, write_all};
 use mk_edit::Session;
 use mk_mail::{Sink, Source};
 use mk_script::{ScriptError, Step, steps};
@@ -24,7 +24,7 @@ use std::alloc::{AllocError, Global};
 
 /// Edits the message that the input gives by the steps of a script, and prints what becomes of it.
 /// Each refusal is reported as it comes, and doesn't end the run; a refused journal does.
-/// The journal is written once the whole message has gone out.
+/// The journal is written once the whole message has gone out. Then the output is finished, and after it the journal.
 pub fn run_edit<S: Source, O: Sink, E: Sink, J: Sink>(
     alloc: Global,
     input: &mut S,
@@ -51,6 +51,12 @@ pub fn run_edit<S: Source, O: Sink, E: Sink, J: Sink>(
         (counts (S.failures input.old) (S.read_count input.old) (O.failures out.old) (E.failures err.old))
         (counts (S.failures input.new) (S.read_count input.new) (O.failures out.new) (E.failures err.new)) }
     ensures kept { ends_itself result ≡ true → J.failures jout.new ≡ J.failures jout.old }
+
+    // The output is finished where the message goes out, and else it isn't, unless finishing the journal fails after it.
+    ensures prints { Prints result (journaling_of journal.entry)
+        (held (S.remaining input.old) (O.contents out.old) (E.contents err.old))
+        (held (S.remaining input.new) (O.contents out.new) (E.contents err.new)) (O.finished out.old) (O.finished out.new) }
+    ensures unfinished { ends_itself result ≡ false → (O.finished out.new ≡ O.finished out.old) ⊎ Rose (J.failures jout.old) (J.failures jout.new) }
 {
     match try_edit(alloc, input, out, err, script, pieces, journal, jout) {
         Ok(status) => status,
@@ -71,8 +77,9 @@ pub fn give_up<E: Sink>(err: &mut E, cause: Cause) -> Status
     }
 }
 
-// Runs the script up to a cause to give up. The whole script is read before any of the message.
-fn try_edit<S: Source, O: Sink, E: Sink, J: Sink>(
+/// Does the same, and leaves it to the caller to say why the run is given up. The whole script is read before any of the
+/// message.
+pub fn try_edit<S: Source, O: Sink, E: Sink, J: Sink>(
     alloc: Global,
     input: &mut S,
     out: &mut O,
@@ -95,6 +102,10 @@ fn try_edit<S: Source, O: Sink, E: Sink, J: Sink>(
         (counts (S.failures input.old) (S.read_count input.old) (O.failures out.old) (E.failures err.old))
         (counts (S.failures input.new) (S.read_count input.new) (O.failures out.new) (E.failures err.new))) }
     ensures kept { OnOk result (J.failures jout.new ≡ J.failures jout.old) }
+    ensures prints { IfOk result (λ status. Prints status (journaling_of journal.entry)
+        (held (S.remaining input.old) (O.contents out.old) (E.contents err.old))
+        (held (S.remaining input.new) (O.contents out.new) (E.contents err.new)) (O.finished out.old) (O.finished out.new)) }
+    ensures unfinished { OnErr result ((O.finished out.new ≡ O.finished out.old) ⊎ Rose (J.failures jout.old) (J.failures jout.new)) }
 {
     match steps(alloc, script, pieces.len()) {
         Ok(steps) => run_steps(alloc, input, out, err, steps, pieces, journal, jout),
@@ -130,6 +141,10 @@ fn run_steps<S: Source, O: Sink, E: Sink, J: Sink>(
         (counts (S.failures input.old) (S.read_count input.old) (O.failures out.old) (E.failures err.old))
         (counts (S.failures input.new) (S.read_count input.new) (O.failures out.new) (E.failures err.new))) }
     ensures kept { OnOk result (J.failures jout.new ≡ J.failures jout.old) }
+    ensures prints { IfOk result (λ status. Prints status (journaling_of journal.entry)
+        (held (S.remaining input.old) (O.contents out.old) (E.contents err.old))
+        (held (S.remaining input.new) (O.contents out.new) (E.contents err.new)) (O.finished out.old) (O.finished out.new)) }
+    ensures unfinished { OnErr result ((O.finished out.new ≡ O.finished out.old) ⊎ Rose (J.failures jout.old) (J.failures jout.new)) }
 {
     let message = match read_all(alloc, input) {
         Ok(message) => message,
@@ -168,6 +183,8 @@ fn run_session<O: Sink, E: Sink, J: Sink>(
     ensures printed { OnOk result (O.failures out.new ≡ O.failures out.old) }
     ensures told { OnOk result (E.failures err.new ≡ E.failures err.old) }
     ensures kept { OnOk result (J.failures jout.new ≡ J.failures jout.old) }
+    ensures finishes { OnOk result (O.finished out.new ≡ true) }
+    ensures unfinished { OnErr result ((O.finished out.new ≡ O.finished out.old) ⊎ Rose (J.failures jout.old) (J.failures jout.new)) }
 {
     let refused = match do_steps(alloc, &mut session, err, steps, pieces) {
         Ok(refused) => refused,
@@ -187,7 +204,7 @@ fn run_session<O: Sink, E: Sink, J: Sink>(
     }
 }
 
-// Writes the message, and after it the journal.
+// Writes the message, and after it the journal; then finishes them in that order.
 fn print<O: Sink, J: Sink>(
     out: &mut O,
     text: &[u8],
@@ -203,10 +220,16 @@ fn print<O: Sink, J: Sink>(
     ensures blamed { IfErr result (λ stop. stop ≡ Stop.Fault → Rose (O.failures out.old) (O.failures out.new) ⊎ Rose (J.failures jout.old) (J.failures jout.new)) }
     ensures printed { OnOk result (O.failures out.new ≡ O.failures out.old) }
     ensures saved { OnOk result (J.failures jout.new ≡ J.failures jout.old) }
+    ensures finishes { OnOk result (O.finished out.new ≡ true) }
+    ensures unfinished { OnErr result ((O.finished out.new ≡ O.finished out.old) ⊎ Rose (J.failures jout.old) (J.failures jout.new)) }
 {
     send(out, text)?;
-    keep(jout, kept)?;
-    Ok(())
+    let Some(journal) = kept else {
+        return finish(out);
+    };
+    send(jout, &journal)?;
+    finish(out)?;
+    finish(jout)
 }
 
 /// The cause where reading stopped.

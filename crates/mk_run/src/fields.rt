@@ -40,6 +40,7 @@ pub fn filter_message<O: Sink, E: Sink>(
         → Rose (O.failures out.old) (O.failures out.new) ⊎ Rose (E.failures err.old) (E.failures err.new)) }
     ensures output_well { OnOk result (O.failures out.new ≡ O.failures out.old) }
     ensures errors_well { OnOk result (E.failures err.new ≡ E.failures err.old) }
+    ensures unfinished { O.finished out.new ≡ O.finished out.old }
 {
     let mut session = match Session::start(alloc, message) {
         Ok(session) => session,
@@ -73,6 +74,7 @@ fn edit_message<O: Sink, E: Sink>(
         → Rose (O.failures out.old) (O.failures out.new) ⊎ Rose (E.failures err.old) (E.failures err.new)) }
     ensures output_well { OnOk result (O.failures out.new ≡ O.failures out.old) }
     ensures errors_well { OnOk result (E.failures err.new ≡ E.failures err.old) }
+    ensures unfinished { O.finished out.new ≡ O.finished out.old }
 {
     let refusal = match edit(alloc, letters, session) {
         Ok(refusal) => refusal,

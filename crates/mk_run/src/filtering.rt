@@ -1,15 +1,15 @@
 //! Messages of which the fields are filtered by letters, or given, over any devices.
 
-ghost use Rattle.std.specs.Prelude.{◌≡◌, ◌⊎◌, ◌-◌, true, false, nat_le, IfErr, OnOk};
+ghost use Rattle.std.specs.Prelude.{◌≡◌, ◌⊎◌, ◌-◌, true, false, nat_le, IfOk, IfErr, OnErr, OnOk};
 ghost use Rattle.mk_mail.specs.LetterViews.{letters_of};
 ghost use Rattle.mk_mail.specs.Letters.{are_allowed};
-ghost use Rattle.mk_run.specs.FilterClauses.{LeavesFiltered, LeavesSaid};
+ghost use Rattle.mk_run.specs.FilterClauses.{LeavesFiltered, LeavesFilteredSoFar, LeavesSaid};
 ghost use Rattle.mk_run.specs.RunClauses.{held, counts, SameFailures, ReadFailed, WriteFailed, IsBlamed, ends_itself};
 
 use crate::engine::{give_up, reading, writing};
 use crate::fields::filter_message;
 use crate::status::{Cause, Status};
-use crate::transfer::read_all;
+use crate::transfer::{finish, read_all};
 use mk_mail::{Letters, MailFault, Mailbox, Sink, Source};
 use mk_mailbox::MOST_READS;
 use std::alloc::Global;
@@ -19,7 +19,7 @@ const ONLY: u64 = 1;
 
 /// Filters the fields of the message that the input gives by letters, or gives its fields of a name; with `each` those of
 /// every message of the mailbox that it gives, each printed before the next is read. A message for which an edit is refused
-/// is printed as it came, and reported, and doesn't end the run.
+/// is printed as it came, and reported, and doesn't end the run. The output is finished once all has gone out.
 pub fn run_field<S: Source, O: Sink, E: Sink>(
     alloc: Global,
     input: &mut S,
@@ -39,11 +39,49 @@ pub fn run_field<S: Source, O: Sink, E: Sink>(
     ensures clean { ends_itself result ≡ true → SameFailures
         (counts (S.failures input.old) (S.read_count input.old) (O.failures out.old) (E.failures err.old))
         (counts (S.failures input.new) (S.read_count input.new) (O.failures out.new) (E.failures err.new)) }
+    ensures finished { ends_itself result ≡ true → O.finished out.new ≡ true }
+    ensures unfinished { ends_itself result ≡ false → O.finished out.new ≡ O.finished out.old }
 {
-    match filter(alloc, input, out, err, letters, each) {
-        Ok(true) => Status::Refused,
-        Ok(false) => Status::Well,
+    match try_field(alloc, input, out, err, letters, each) {
+        Ok(status) => status,
         Err(cause) => give_up(err, cause),
+    }
+}
+
+/// Does the same, and leaves it to the caller to say why the run is given up.
+pub fn try_field<S: Source, O: Sink, E: Sink>(
+    alloc: Global,
+    input: &mut S,
+    out: &mut O,
+    err: &mut E,
+    letters: &Letters,
+    each: bool,
+) -> Result<Status, Cause>
+    requires { are_allowed (letters_of letters.now) ≡ true }
+    ensures leaves { LeavesFilteredSoFar (letters_of letters.now) each result
+        (held (S.remaining input.old) (O.contents out.old) (E.contents err.old))
+        (held (S.remaining input.new) (O.contents out.new) (E.contents err.new)) }
+    ensures ended { IfOk result (λ status. ends_itself status ≡ true) }
+    ensures blamed { IfErr result (λ cause. IsBlamed cause
+        (counts (S.failures input.old) (S.read_count input.old) (O.failures out.old) (E.failures err.old))
+        (counts (S.failures input.new) (S.read_count input.new) (O.failures out.new) (E.failures err.new))) }
+    ensures clean { OnOk result (SameFailures
+        (counts (S.failures input.old) (S.read_count input.old) (O.failures out.old) (E.failures err.old))
+        (counts (S.failures input.new) (S.read_count input.new) (O.failures out.new) (E.failures err.new))) }
+    ensures finished { OnOk result (O.finished out.new ≡ true) }
+    ensures unfinished { OnErr result (O.finished out.new ≡ O.finished out.old) }
+{
+    let refused = match filter(alloc, input, out, err, letters, each) {
+        Ok(refused) => refused,
+        Err(cause) => return Err(cause),
+    };
+    match finish(out) {
+        Ok(()) => Ok(if refused {
+            Status::Refused
+        } else {
+            Status::Well
+        }),
+        Err(stop) => Err(writing(stop)),
     }
 }
 
@@ -66,6 +104,7 @@ fn filter<S: Source, O: Sink, E: Sink>(
     ensures clean { OnOk result (SameFailures
         (counts (S.failures input.old) (S.read_count input.old) (O.failures out.old) (E.failures err.old))
         (counts (S.failures input.new) (S.read_count input.new) (O.failures out.new) (E.failures err.new))) }
+    ensures unfinished { O.finished out.new ≡ O.finished out.old }
 {
     if each {
         filter_each(alloc, input, out, err, letters)
@@ -92,6 +131,7 @@ fn filter_whole<S: Source, O: Sink, E: Sink>(
     ensures clean { OnOk result (SameFailures
         (counts (S.failures input.old) (S.read_count input.old) (O.failures out.old) (E.failures err.old))
         (counts (S.failures input.new) (S.read_count input.new) (O.failures out.new) (E.failures err.new))) }
+    ensures unfinished { O.finished out.new ≡ O.finished out.old }
 {
     let message = match read_all(alloc, input) {
         Ok(message) => message,
@@ -121,6 +161,7 @@ fn filter_each<S: Source, O: Sink, E: Sink>(
     ensures clean { OnOk result (SameFailures
         (counts (S.failures input.old) (S.read_count input.old) (O.failures out.old) (E.failures err.old))
         (counts (S.failures input.new) (S.read_count input.new) (O.failures out.new) (E.failures err.new))) }
+    ensures unfinished { O.finished out.new ≡ O.finished out.old }
 {
     let before = input.reads();
     let mut mailbox = Mailbox::new(alloc);

@@ -1,13 +1,10 @@
 //! The journal of a run: the history that it begins with, and the one that it keeps for later runs.
 
-ghost use Rattle.std.specs.Prelude.{◌≡◌, ◌≢◌, true, [], Ok, Err, IfOk, IfErr, IfSome, OnOk};
+ghost use Rattle.std.specs.Prelude.{◌≡◌, Ok, Err, IfOk, IfErr, IfSome};
 ghost use Rattle.mk_run.specs.Journaling.{Anew, begun, journaling_of, left_journal, named_by};
 ghost use Rattle.mk_run.specs.inner.Keeping.{bytes_kept, says_memory};
-ghost use Rattle.mk_run.specs.RunClauses.{Sends};
 
-use crate::transfer::{Stop, send};
 use mk_edit::{LoadError, Session};
-use mk_mail::{Fault, Sink};
 use std::alloc::{AllocError, Global};
 
 /// Where the history of a run comes from, and whether it is kept.
@@ -66,21 +63,5 @@ pub fn journal_of(session: &Session, journal: Journal<'_>) -> Result<Option<Vec<
     match journal {
         Journal::Off => Ok(None),
         Journal::New | Journal::Old(_) => Ok(Some(session.save()?)),
-    }
-}
-
-/// Writes the journal of a run, where it keeps one, and finishes its device.
-pub fn keep<J: Sink>(jout: &mut J, kept: Option<Vec<u8>>) -> Result<(), Stop>
-    ensures sends { Sends result (bytes_kept kept)
-        (J.contents jout.old) (J.contents jout.new) (J.failures jout.old) (J.failures jout.new) }
-    ensures stands { OnOk result (bytes_kept kept ≢ [] → J.finished jout.new ≡ true) }
-{
-    let Some(journal) = kept else {
-        return Ok(());
-    };
-    send(jout, &journal)?;
-    match jout.finish() {
-        Ok(()) => Ok(()),
-        Err(Fault) => Err(Stop::Fault),
     }
 }

@@ -1,7 +1,7 @@
 //! Whole texts from a source and to a sink.
 
-ghost use Rattle.std.specs.Prelude.{◌≡◌, ◌<◌, ◌≤◌, ◌⊎◌, List, ℕ, IfOk, IfErr, OnOk, OnErr};
-ghost use Rattle.std.specs.Io.KnownBytes.{Consumes, IsAtEnd, Appends};
+ghost use Rattle.std.specs.Prelude.{◌≡◌, ◌<◌, ◌≤◌, ◌⊎◌, true, List, ℕ, IfOk, IfErr, OnOk, OnErr};
+ghost use Rattle.std.specs.Io.KnownBytes.{Consumes, IsAtEnd, Appends, Keeps};
 ghost use Rattle.mk_mailbox.specs.Devices.{Rose, IsLong, AppendsFront};
 ghost use Rattle.mk_run.specs.RunClauses.{Sends};
 ghost use Rattle.mk_run.specs.declared.transfer.Stop.TheVariants.{Memory as NoMemory};
@@ -64,6 +64,7 @@ pub fn write_all<O: Sink>(out: &mut O, bytes: &[u8]) -> Result<(), Fault>
     ensures front { OnErr result (AppendsFront (O.contents out.old) (O.contents out.new) bytes.now) }
     ensures fault { OnErr result (Rose (O.failures out.old) (O.failures out.new)) }
     ensures counted { O.failures out.old ≤ O.failures out.new }
+    ensures unfinished { O.finished out.new ≡ O.finished out.old }
 {
     let mut rest = bytes;
     while !rest.is_empty() {
@@ -78,10 +79,25 @@ pub fn write_all<O: Sink>(out: &mut O, bytes: &[u8]) -> Result<(), Fault>
 
 /// Writes all the bytes, for a caller that may also want memory.
 pub fn send<O: Sink>(out: &mut O, bytes: &[u8]) -> Result<(), Stop>
-    ensures { Sends result bytes.now
+    ensures sends { Sends result bytes.now
         (O.contents out.old) (O.contents out.new) (O.failures out.old) (O.failures out.new) }
+    ensures unfinished { O.finished out.new ≡ O.finished out.old }
 {
     match write_all(out, bytes) {
+        Ok(()) => Ok(()),
+        Err(Fault) => Err(Stop::Fault),
+    }
+}
+
+/// Says to a device that all was written.
+pub fn finish<O: Sink>(out: &mut O) -> Result<(), Stop>
+    ensures kept { Keeps (O.contents out.old) (O.contents out.new) }
+    ensures stands { OnOk result (O.finished out.new ≡ true) }
+    ensures well { OnOk result (O.failures out.new ≡ O.failures out.old) }
+    ensures fault { OnErr result (Rose (O.failures out.old) (O.failures out.new)) }
+    ensures unfinished { OnErr result (O.finished out.new ≡ O.finished out.old) }
+{
+    match out.finish() {
         Ok(()) => Ok(()),
         Err(Fault) => Err(Stop::Fault),
     }

@@ -8,7 +8,7 @@ ghost use Rattle.mk_view.specs.LeafViews.{AreAt, IsAt, leaf_view};
 ghost use Rattle.mk_run.specs.RunClauses.{held, counts, Sends, SameFailures, ReadFailed, WriteFailed, ends_itself};
 ghost use Rattle.mk_run.specs.Shown.{extract_line};
 ghost use Rattle.mk_run.specs.Unpacking.{exists_line as line_of_exists, stored_line as line_of_stored, tried as name_tried};
-ghost use Rattle.mk_run.specs.UnpackClauses.{LeavesUnpacked, NoneFailed, PutsFront, PutsNone, PutsText, SomeFailed, UnpackedAll, UnpackedSome, failures, manner_of, written};
+ghost use Rattle.mk_run.specs.UnpackClauses.{IsBlamedForFolder, LeavesUnpacked, LeavesUnpackedSoFar, NoneFailed, PutsFront, PutsNone, PutsText, SomeFailed, UnpackedAll, UnpackedSome, failures, manner_of, written};
 
 use crate::answers::refusal;
 use crate::engine::{give_up, reading, writing};
@@ -59,23 +59,49 @@ pub fn unpack<S: Source, O: Sink, E: Sink, F: Folder>(
         (counts (S.failures input.new) (S.read_count input.new) (O.failures out.new) (E.failures err.new)) }
     ensures folder_clean { ends_itself result ≡ true → F.failures dir.new ≡ F.failures dir.old }
 {
+    match try_unpack(alloc, input, out, err, dir, texts, over, silent) {
+        Ok(status) => status,
+        Err(cause) => give_up(err, cause),
+    }
+}
+
+/// Does the same, and leaves it to the caller to say why the run is given up.
+pub fn try_unpack<S: Source, O: Sink, E: Sink, F: Folder>(
+    alloc: Global,
+    input: &mut S,
+    out: &mut O,
+    err: &mut E,
+    dir: &mut F,
+    texts: bool,
+    over: bool,
+    silent: bool,
+) -> Result<Status, Cause>
+    ensures leaves { LeavesUnpackedSoFar (manner_of over silent) texts result
+        (held (S.remaining input.old) (O.contents out.old) (E.contents err.old))
+        (held (S.remaining input.new) (O.contents out.new) (E.contents err.new))
+        (F.files dir.old) (F.files dir.new) }
+    ensures ended { IfOk result (λ status. ends_itself status ≡ true) }
+    ensures blamed { IfErr result (λ cause. IsBlamedForFolder cause
+        (counts (S.failures input.old) (S.read_count input.old) (O.failures out.old) (E.failures err.old))
+        (counts (S.failures input.new) (S.read_count input.new) (O.failures out.new) (E.failures err.new))
+        (F.failures dir.old) (F.failures dir.new)) }
+    ensures clean { OnOk result (SameFailures
+        (counts (S.failures input.old) (S.read_count input.old) (O.failures out.old) (E.failures err.old))
+        (counts (S.failures input.new) (S.read_count input.new) (O.failures out.new) (E.failures err.new))) }
+    ensures folder_clean { OnOk result (F.failures dir.new ≡ F.failures dir.old) }
+{
     let doc = match read_doc(alloc, input) {
         Ok(doc) => doc,
-        Err(stop) => return give_up(err, reading(stop)),
+        Err(stop) => return Err(reading(stop)),
     };
     let stored = match leaves(alloc, &doc, texts) {
         Ok(stored) => stored,
-        Err(_) => return give_up(err, Cause::Memory),
+        Err(_) => return Err(Cause::Memory),
     };
     match unpack_all(alloc, Manner { over, silent }, stored, out, err, dir) {
-        Ok(refused) => {
-            if refused {
-                Status::Refused
-            } else {
-                Status::Well
-            }
-        }
-        Err(stop) => give_up(err, writing(stop)),
+        Ok(true) => Ok(Status::Refused),
+        Ok(false) => Ok(Status::Well),
+        Err(stop) => Err(writing(stop)),
     }
 }
 

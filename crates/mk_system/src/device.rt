@@ -3,12 +3,14 @@
 ghost use Rattle.std.specs.Prelude.{◌≡◌, ◌<◌};
 
 use mk_mailbox::{Fault, Sink, Source};
+use std::io;
 use std::io::{Read, Write};
 
 /// A reader as a source.
 #[derive(Drop)]
 pub struct Input<R: Read> {
     reader: R,
+    error: Option<io::Error>,
     faults: u64,
     reads: u64,
 }
@@ -22,9 +24,15 @@ impl<R: Read + Drop> Input<R> {
     {
         Input {
             reader,
+            error: None,
             faults: 0,
             reads: 0,
         }
+    }
+
+    /// Why the last read failed, if one has.
+    pub fn close(self) -> Option<io::Error> {
+        self.error
     }
 }
 
@@ -39,8 +47,9 @@ impl<R: Read + Drop> Source for Input<R> {
         self.reads = self.reads.saturating_add(1);
         match self.reader.read(piece) {
             Ok(count) => Ok(count),
-            Err(_) => {
+            Err(error) => {
                 self.faults = self.faults.saturating_add(1);
+                self.error = Some(error);
                 Err(Fault)
             }
         }

@@ -1,27 +1,52 @@
 //! Folders of the system.
 
 ghost use Rattle.std.specs.Prelude.{◌≡◌, None};
+ghost use Rattle.mk_line.specs.Meters.{ticked};
 
-use crate::device::Output;
+use crate::replacing::Replacement;
 use mk_mailbox::Fault;
-use mk_run::{Folder, write_all};
-use std::alloc::{AllocError, Global};
-use std::fs::OpenOptions;
+use mk_run::Folder;
+use std::alloc::AllocError;
+use std::fs::{File, OpenOptions};
+use std::io::{Error, ErrorKind, Write};
+use std::path::PathBuf;
 use std::rt::Files;
 use std::{fs, io};
 
-const SLASH: char = '/';
+/// What is said of an empty path.
+const NAMELESS: &str = "a folder needs a name";
+
+/// Why a file wasn't written.
+#[derive(Drop)]
+pub struct Unwritten {
+    /// The path of the file. `None` where the folder itself can't be made.
+    pub path: Option<PathBuf>,
+    pub error: io::Error,
+}
+
+impl From<io::Error> for Unwritten {
+    fn from(error: io::Error) -> Unwritten {
+        Unwritten { path: None, error }
+    }
+}
+
+impl From<AllocError> for Unwritten {
+    fn from(_: AllocError) -> Unwritten {
+        Unwritten::from(Error::from(ErrorKind::OutOfMemory))
+    }
+}
 
 /// A folder of the system. It is made at the first file, where it isn't there.
 #[derive(Drop)]
-pub struct Directory<'a, R: Files + AllocGlobal> {
+pub struct Directory<'a, R: Files<File = File> + AllocGlobal> {
     rt: &'a R,
     path: &'a str,
     is_made: bool,
+    unwritten: Option<Unwritten>,
     faults: u64,
 }
 
-impl<'a, R: Files + AllocGlobal> Directory<'a, R> {
+impl<'a, R: Files<File = File> + AllocGlobal> Directory<'a, R> {
     /// The folder at a path, to which nothing is written yet.
     pub fn new(rt: &'a R, path: &'a str) -> Self
         ensures { ⟦<Directory<'a, R> as Folder>⟧.failures result ≡ 0 }
@@ -30,8 +55,14 @@ impl<'a, R: Files + AllocGlobal> Directory<'a, R> {
             rt,
             path,
             is_made: false,
+            unwritten: None,
             faults: 0,
         }
+    }
+
+    /// The file that was last not written, and why.
+    pub fn close(self) -> Option<Unwritten> {
+        self.unwritten
     }
 
     // Makes the folder where it isn't there.
@@ -40,7 +71,7 @@ impl<'a, R: Files + AllocGlobal> Directory<'a, R> {
     {
         if !self.is_made {
             if self.path.is_empty() {
-                return Err(io::Error::from(io::ErrorKind::NotFound));
+                return Err(Error::new(ErrorKind::InvalidInput, NAMELESS));
             }
             fs::create_dir_all(self.rt, self.path)?;
             self.is_made = true;
@@ -48,59 +79,82 @@ impl<'a, R: Files + AllocGlobal> Directory<'a, R> {
         Ok(())
     }
 
-    // The path of the file with a name in the folder.
-    fn path_of(&self, name: &[u8]) -> io::Result<String> {
-        let Ok(name) = std::str::from_utf8(name) else {
-            return Err(io::Error::from(io::ErrorKind::InvalidFilename));
-        };
-        Ok(joined(self.rt.alloc(), self.path, name)?)
-    }
-
-    // A file is always a new one. So no link under the name is followed, and what has another name too stays as it is.
-    fn write(&mut self, name: &[u8], text: &[u8], over: bool) -> io::Result<bool>
+    // Writes a file. `false` where one of the name is there, and may not be written over.
+    fn write(&mut self, name: &[u8], text: &[u8], over: bool) -> Result<bool, Unwritten>
         ensures { self.new.faults ≡ self.old.faults }
     {
         self.make()?;
-        let path = self.path_of(name)?;
-        if over {
-            remove(self.rt, path.as_str())?;
+        let Ok(name) = std::str::from_utf8(name) else {
+            return Err(Unwritten::from(Error::from(ErrorKind::InvalidFilename)));
+        };
+        let mut path = PathBuf::from_str(self.rt.alloc(), self.path)?;
+        path.push(name)?;
+        let written = if over {
+            write_over(self.rt, &path, text)
+        } else {
+            write_new(self.rt, &path, text)
+        };
+        match written {
+            Ok(is_written) => Ok(is_written),
+            Err(error) => Err(Unwritten {
+                path: Some(path),
+                error,
+            }),
         }
-        match create(self.rt, path.as_str()) {
-            Ok(file) => match write_all(&mut Output::new(file), text) {
-                Ok(()) => Ok(true),
-                Err(Fault) => Err(io::Error::from(io::ErrorKind::Other)),
-            },
-            Err(error) if error.kind() == io::ErrorKind::AlreadyExists && !over => Ok(false),
-            Err(error) => Err(error),
+    }
+
+    // Counts a failure.
+    fn fail(&mut self, unwritten: Unwritten) -> Fault
+        ensures { self.new.faults ≡ ticked self.old.faults }
+    {
+        self.faults = self.faults.saturating_add(1);
+        self.unwritten = Some(unwritten);
+        Fault
+    }
+}
+
+// Puts a new file in the place of the one at a path, if one is there. So no link is followed, and what has another name too
+// stays as it is.
+fn write_over<R: Files<File = File> + AllocGlobal>(
+    rt: &R,
+    path: &PathBuf,
+    text: &[u8],
+) -> io::Result<bool> {
+    let mut new = Replacement::beside(rt, path)?;
+    let written = match new.write_all(text) {
+        Ok(()) => new.replace(rt, path),
+        Err(error) => Err(error),
+    };
+    match written {
+        Ok(()) => Ok(true),
+        Err(error) => {
+            new.remove(rt);
+            Err(error)
         }
     }
 }
 
-fn joined(alloc: Global, folder: &str, name: &str) -> Result<String, AllocError> {
-    let mut path = String::from_str(alloc, folder)?;
-    path.push(SLASH)?;
-    path.push_str(name)?;
-    Ok(path)
-}
-
-// Opens a new file for writing. Where something has the path, be it a link that leads nowhere, that is an error.
-fn create<R: Files>(rt: &R, path: &str) -> io::Result<R::File> {
-    OpenOptions::new()
+// Writes a new file, or nothing where something has the path, be it a link that leads nowhere.
+fn write_new<R: Files<File = File>>(rt: &R, path: &PathBuf, text: &[u8]) -> io::Result<bool> {
+    let mut file = match OpenOptions::new()
         .write(true)
         .create_new(true)
-        .open(rt, path)
-}
-
-// Takes a file away, where it is there.
-fn remove<R: Files>(rt: &R, path: &str) -> io::Result<()> {
-    match fs::remove_file(rt, path) {
-        Ok(()) => Ok(()),
-        Err(error) if error.kind() == io::ErrorKind::NotFound => Ok(()),
-        Err(error) => Err(error),
+        .open(rt, path.as_str())
+    {
+        Ok(file) => file,
+        Err(error) if error.kind() == ErrorKind::AlreadyExists => return Ok(false),
+        Err(error) => return Err(error),
+    };
+    match file.write_all(text) {
+        Ok(()) => Ok(true),
+        Err(error) => {
+            let _ = fs::remove_file(rt, path.as_str());
+            Err(error)
+        }
     }
 }
 
-impl<R: Files + AllocGlobal> Folder for Directory<'_, R> {
+impl<R: Files<File = File> + AllocGlobal> Folder for Directory<'_, R> {
     ghost files = { λ _. None };
 
     ghost failures = { λ s. s.faults };
@@ -109,10 +163,8 @@ impl<R: Files + AllocGlobal> Folder for Directory<'_, R> {
         match self.write(name, text, over) {
             Ok(true) => Ok(true),
             Ok(false) if !over => Ok(false),
-            _ => {
-                self.faults = self.faults.saturating_add(1);
-                Err(Fault)
-            }
+            Ok(false) => Err(self.fail(Unwritten::from(Error::from(ErrorKind::AlreadyExists)))),
+            Err(unwritten) => Err(self.fail(unwritten)),
         }
     }
 

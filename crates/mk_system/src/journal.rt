@@ -3,14 +3,14 @@
 ghost use Rattle.std.specs.Prelude.{◌≡◌, ◌≤◌, length, None, IfOk};
 ghost use Rattle.mk_line.specs.Meters.{ticked};
 
-use crate::replacing::{followed, fresh_beside, sync_folder, take_name};
+use crate::locking::lock;
+use crate::replacing::{Replacement, followed, sync_folder};
 use mk_mailbox::{Fault, Sink};
-use std::fs::{File, OpenOptions, TryLockError};
-use std::io::{ErrorKind, Read, Write};
-use std::os::unix::fs::MetadataExt;
+use std::fs::{File, OpenOptions};
+use std::io;
+use std::io::{Error, ErrorKind, Read, Write};
 use std::path::PathBuf;
 use std::rt::Files;
-use std::{fs, io};
 
 // What was at the path when the run began.
 #[derive(Drop)]
@@ -27,7 +27,7 @@ enum Found {
 enum State {
     Unwritten,
     /// A fresh file is written, which will take the place of the journal.
-    Beside { file: File, fresh: PathBuf },
+    Beside(Replacement),
     /// What isn't a regular file is written in place.
     InPlace(File),
     Ended,
@@ -40,6 +40,7 @@ pub struct JournalFile<'a, R: Files<File = File> + AllocGlobal> {
     path: PathBuf,
     found: Found,
     state: State,
+    error: Option<io::Error>,
     faults: u64,
     is_finished: bool,
 }
@@ -62,15 +63,25 @@ impl<'a, R: Files<File = File> + AllocGlobal> JournalFile<'a, R> {
             path,
             found,
             state: State::Unwritten,
+            error: None,
             faults: 0,
             is_finished: false,
         };
         Ok((journal, text))
     }
 
+    /// Gives up what was written, unless the journal is finished, and answers the error of the call that failed, if one has.
+    pub fn close(self) -> Option<io::Error> {
+        if let State::Beside(new) = &self.state {
+            new.remove(self.rt);
+        }
+        self.error
+    }
+
     // Begins to write, at the first byte.
     fn begin(&mut self) -> io::Result<()>
-        ensures { self.new.faults ≡ self.old.faults }
+        ensures counted { self.new.faults ≡ self.old.faults }
+        ensures unfinished { self.new.is_finished ≡ self.old.is_finished }
     {
         if let Found::Special = self.found {
             let file = OpenOptions::new()
@@ -79,43 +90,38 @@ impl<'a, R: Files<File = File> + AllocGlobal> JournalFile<'a, R> {
             self.state = State::InPlace(file);
             return Ok(());
         }
-        let (file, fresh) = fresh_beside(self.rt, &self.path)?;
-        self.state = State::Beside { file, fresh };
-        self.copy_permissions()
-    }
-
-    // Gives the fresh file the permissions of the journal in whose place it will come.
-    fn copy_permissions(&self) -> io::Result<()> {
-        match (&self.found, &self.state) {
-            (Found::Regular(old), State::Beside { file, .. }) => {
-                file.set_permissions(old.metadata()?.permissions())
-            }
-            _ => Ok(()),
-        }
+        let new = Replacement::beside(self.rt, &self.path)?;
+        let begun = match &self.found {
+            Found::Regular(old) => new.copy_permissions(old),
+            Found::Nothing | Found::Special => Ok(()),
+        };
+        self.state = State::Beside(new);
+        begun
     }
 
     // Writes a front of the piece.
     fn write_some(&mut self, piece: &[u8]) -> io::Result<usize>
         ensures counted { self.new.faults ≡ self.old.faults }
+        ensures unfinished { self.new.is_finished ≡ self.old.is_finished }
         ensures bound { IfOk result (λ n. n ≤ length piece.now) }
     {
         if let State::Unwritten = self.state {
             self.begin()?;
         }
         match &mut self.state {
-            State::Beside { file, .. } => file.write(piece),
+            State::Beside(new) => new.write(piece),
             State::InPlace(file) => file.write(piece),
-            State::Unwritten | State::Ended => Err(io::Error::from(ErrorKind::Other)),
+            State::Unwritten | State::Ended => Err(Error::from(ErrorKind::Other)),
         }
     }
 
     // Lets what was written stand.
     fn end(&self) -> io::Result<()> {
-        if let State::Beside { file, fresh } = &self.state {
-            file.sync_all()?;
+        if let State::Beside(new) = &self.state {
+            new.sync()?;
             match self.found {
-                Found::Nothing => take_name(self.rt, fresh, &self.path)?,
-                _ => fs::rename(self.rt, fresh.as_str(), self.path.as_str())?,
+                Found::Nothing => new.take_name(self.rt, &self.path)?,
+                Found::Regular(_) | Found::Special => new.replace(self.rt, &self.path)?,
             }
             sync_folder(self.rt, &self.path)?;
         }
@@ -123,14 +129,16 @@ impl<'a, R: Files<File = File> + AllocGlobal> JournalFile<'a, R> {
     }
 
     // Counts a failure, and takes the fresh file away, where it has no other name yet.
-    fn fail(&mut self) -> Fault
-        ensures { self.new.faults ≡ ticked self.old.faults }
+    fn fail(&mut self, error: io::Error) -> Fault
+        ensures counted { self.new.faults ≡ ticked self.old.faults }
+        ensures unfinished { self.new.is_finished ≡ self.old.is_finished }
     {
         self.faults = self.faults.saturating_add(1);
-        if let State::Beside { fresh, .. } = &self.state {
-            let _ = fs::remove_file(self.rt, fresh.as_str());
+        if let State::Beside(new) = &self.state {
+            new.remove(self.rt);
         }
         self.state = State::Ended;
+        self.error = Some(error);
         Fault
     }
 }
@@ -151,22 +159,6 @@ fn read<R: Files + AllocGlobal>(
     Ok((Found::Regular(file), text))
 }
 
-// Locks a file. One that another run holds, or has put another in the place of, is an error.
-fn lock<R: Files>(rt: &R, file: &File, path: &PathBuf) -> io::Result<()> {
-    match file.try_lock() {
-        Ok(()) => {}
-        Err(TryLockError::WouldBlock) => return Err(io::Error::from(ErrorKind::WouldBlock)),
-        Err(TryLockError::Error(error)) => return Err(error),
-    }
-    let held = file.metadata()?;
-    let there = fs::metadata(rt, path.as_str())?;
-    if held.dev() == there.dev() && held.ino() == there.ino() {
-        Ok(())
-    } else {
-        Err(io::Error::from(ErrorKind::WouldBlock))
-    }
-}
-
 impl<R: Files<File = File> + AllocGlobal> Sink for JournalFile<'_, R> {
     ghost contents = { λ _. None };
 
@@ -176,9 +168,9 @@ impl<R: Files<File = File> + AllocGlobal> Sink for JournalFile<'_, R> {
 
     fn write(&mut self, piece: &[u8]) -> Result<usize, Fault> {
         match self.write_some(piece) {
-            Ok(0) if !piece.is_empty() => Err(self.fail()),
+            Ok(0) if !piece.is_empty() => Err(self.fail(Error::from(ErrorKind::WriteZero))),
             Ok(count) => Ok(count),
-            Err(_) => Err(self.fail()),
+            Err(error) => Err(self.fail(error)),
         }
     }
 
@@ -189,7 +181,7 @@ impl<R: Files<File = File> + AllocGlobal> Sink for JournalFile<'_, R> {
                 self.is_finished = true;
                 Ok(())
             }
-            Err(_) => Err(self.fail()),
+            Err(error) => Err(self.fail(error)),
         }
     }
 

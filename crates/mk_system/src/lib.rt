@@ -2,10 +2,13 @@
 #![tactic(auto)]
 
 mod device;
+mod edited;
 mod folder;
 mod journal;
+mod locking;
 mod replacing;
 
 pub use device::{Input, Output};
-pub use folder::Directory;
+pub use edited::EditedFile;
+pub use folder::{Directory, Unwritten};
 pub use journal::JournalFile;

@@ -1,8 +1,11 @@
 //! Files that take the place of others.
 
+ghost use Rattle.std.specs.Prelude.{◌≤◌, length, IfOk};
+
+use mk_mailbox::CHUNK_BYTES;
 use std::alloc::Global;
 use std::fs::{File, OpenOptions};
-use std::io::ErrorKind;
+use std::io::{Error, ErrorKind, Read, Seek, SeekFrom, Write};
 use std::path::PathBuf;
 use std::rt::Files;
 use std::{fs, io};
@@ -11,10 +14,13 @@ use std::{fs, io};
 const MOST_LINKS: u32 = 40;
 
 /// How many names are tried for a fresh file.
-const MOST_NAMES: u32 = 100;
+const MOST_NAMES: u32 = 10_000;
 
 /// The folder of a path that names none.
 const HERE: &str = ".";
+
+/// What a fresh file is called beside a file whose name leaves no room for more.
+const SHORT_NAME: &str = "mimetool";
 
 /// Where the links at a path lead, be something there or not.
 pub fn followed<R: Files + AllocGlobal>(rt: &R, path: &str) -> io::Result<PathBuf> {
@@ -26,24 +32,112 @@ pub fn followed<R: Files + AllocGlobal>(rt: &R, path: &str) -> io::Result<PathBu
         path.pop();
         path.push(target.as_str())?;
     }
-    Err(io::Error::from(ErrorKind::FilesystemLoop))
+    Err(Error::from(ErrorKind::FilesystemLoop))
 }
 
-/// A new file beside the one at a path, and its own path. A file that an earlier run left there keeps its name.
-pub fn fresh_beside<R: Files<File = File> + AllocGlobal>(
+/// A new file that is to take the place of another one. Until then that one is as it was.
+#[derive(Drop)]
+pub struct Replacement {
+    file: File,
+    /// The path of the new file, beside the other one.
+    fresh: PathBuf,
+}
+
+impl Replacement {
+    /// An empty file beside the one at a path. A file that an earlier run left there keeps its name.
+    pub fn beside<R: Files<File = File> + AllocGlobal>(
+        rt: &R,
+        path: &PathBuf,
+    ) -> io::Result<Replacement> {
+        match fresh_file(rt, path) {
+            Err(error) if error.kind() == ErrorKind::InvalidFilename => {
+                fresh_file(rt, &path.with_file_name(rt.alloc(), SHORT_NAME)?)
+            }
+            made => made,
+        }
+    }
+
+    /// Gives the new file the permissions of the one in whose place it will come.
+    pub fn copy_permissions(&self, old: &File) -> io::Result<()> {
+        self.file.set_permissions(old.metadata()?.permissions())
+    }
+
+    /// Writes the first bytes of a file, as many as that. Where it has fewer, that is an error.
+    pub fn copy_front(&mut self, old: &mut File, length: u64) -> io::Result<()> {
+        old.seek(SeekFrom::Start(0))?;
+        let mut buffer = [0u8; CHUNK_BYTES];
+        let mut rest = length;
+        while rest > 0 {
+            let room = rest.min(CHUNK_BYTES as u64) as usize;
+            let count = old.read(&mut buffer[..room])?;
+            if count == 0 {
+                return Err(Error::from(ErrorKind::UnexpectedEof));
+            }
+            self.file.write_all(&buffer[..count])?;
+            rest -= count as u64;
+        }
+        Ok(())
+    }
+
+    /// Writes a front of the piece.
+    pub fn write(&mut self, piece: &[u8]) -> io::Result<usize>
+        ensures { IfOk result (λ n. n ≤ length piece.now) }
+    {
+        self.file.write(piece)
+    }
+
+    /// Writes all of the piece.
+    pub fn write_all(&mut self, piece: &[u8]) -> io::Result<()> {
+        self.file.write_all(piece)
+    }
+
+    /// Lets what was written stand on the disk.
+    pub fn sync(&self) -> io::Result<()> {
+        self.file.sync_all()
+    }
+
+    /// Takes the place of the file at a path.
+    pub fn replace<R: Files>(&self, rt: &R, path: &PathBuf) -> io::Result<()> {
+        fs::rename(rt, self.fresh.as_str(), path.as_str())
+    }
+
+    /// Takes a name that no other file has. A file that has it stays, and that is an error of the kind `AlreadyExists`.
+    pub fn take_name<R: Files>(&self, rt: &R, path: &PathBuf) -> io::Result<()> {
+        match fs::hard_link(rt, self.fresh.as_str(), path.as_str()) {
+            Ok(()) => {
+                self.remove(rt);
+                Ok(())
+            }
+            Err(error) if error.kind() == ErrorKind::AlreadyExists => Err(error),
+            // A file system without links.
+            Err(_) => match fs::symlink_metadata(rt, path.as_str()) {
+                Ok(_) => Err(Error::from(ErrorKind::AlreadyExists)),
+                Err(_) => self.replace(rt, path),
+            },
+        }
+    }
+
+    /// Takes the new file away, where it still has its own name.
+    pub fn remove<R: Files>(&self, rt: &R) {
+        let _ = fs::remove_file(rt, self.fresh.as_str());
+    }
+}
+
+// A new file, with the first free one of the numbered names after a path.
+fn fresh_file<R: Files<File = File> + AllocGlobal>(
     rt: &R,
     path: &PathBuf,
-) -> io::Result<(File, PathBuf)> {
+) -> io::Result<Replacement> {
     let alloc = rt.alloc();
     for number in 1..=MOST_NAMES {
-        let name = fresh_name(alloc, path, number)?;
-        match File::create_new(rt, name.as_str()) {
-            Ok(file) => return Ok((file, name)),
+        let fresh = fresh_name(alloc, path, number)?;
+        match File::create_new(rt, fresh.as_str()) {
+            Ok(file) => return Ok(Replacement { file, fresh }),
             Err(error) if error.kind() == ErrorKind::AlreadyExists => {}
             Err(error) => return Err(error),
         }
     }
-    Err(io::Error::from(ErrorKind::AlreadyExists))
+    Err(Error::from(ErrorKind::AlreadyExists))
 }
 
 fn fresh_name(alloc: Global, path: &PathBuf, number: u32) -> io::Result<PathBuf> {
@@ -51,27 +145,15 @@ fn fresh_name(alloc: Global, path: &PathBuf, number: u32) -> io::Result<PathBuf>
     Ok(PathBuf::from_str(alloc, name.as_str())?)
 }
 
-/// Gives a file a name that no other has. One that has it stays, and that is an error of the kind `AlreadyExists`.
-pub fn take_name<R: Files>(rt: &R, fresh: &PathBuf, path: &PathBuf) -> io::Result<()> {
-    match fs::hard_link(rt, fresh.as_str(), path.as_str()) {
-        Ok(()) => {
-            let _ = fs::remove_file(rt, fresh.as_str());
-            Ok(())
-        }
-        Err(error) if error.kind() == ErrorKind::AlreadyExists => Err(error),
-        // A file system without links.
-        Err(_) => match fs::symlink_metadata(rt, path.as_str()) {
-            Ok(_) => Err(io::Error::from(ErrorKind::AlreadyExists)),
-            Err(_) => fs::rename(rt, fresh.as_str(), path.as_str()),
-        },
-    }
-}
-
-/// Lets the names in the folder of a path stand on the disk.
+/// Lets the names in the folder of a path stand on the disk. A folder that may not be read is left to the system.
 pub fn sync_folder<R: Files<File = File>>(rt: &R, path: &PathBuf) -> io::Result<()> {
     let folder = match path.parent() {
         Some(folder) if !folder.as_str().is_empty() => folder.as_str(),
         _ => HERE,
     };
-    OpenOptions::new().read(true).open(rt, folder)?.sync_all()
+    match OpenOptions::new().read(true).open(rt, folder) {
+        Ok(folder) => folder.sync_all(),
+        Err(error) if error.kind() == ErrorKind::PermissionDenied => Ok(()),
+        Err(error) => Err(error),
+    }
 }

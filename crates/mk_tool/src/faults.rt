@@ -1,4 +1,4 @@
-//! Why a command isn't run, and how that is said.
+//! Why a command isn't run to its end, and how that is said.
 
 use crate::options::subcommand;
 use clap::Error;
@@ -10,43 +10,83 @@ use std::io;
 
 const USAGE: &[u8] = b"mimetool: usage\n";
 
-/// Why a command isn't run.
+/// Why a command isn't run to its end.
 #[derive(Drop)]
-pub enum Problem<'a> {
+pub enum Problem {
     /// A word of the command line is invalid, as this sentence says.
     Usage(String),
-    /// A file can't be read.
-    File { path: &'a str, error: io::Error },
-    Memory,
+    /// A file of the command line can't be read or written.
+    File {
+        path: String,
+        error: io::Error,
+        cause: Cause,
+    },
+    /// The run was given up, and no file of the command line is to blame.
+    Stopped(Cause),
 }
 
-impl From<AllocError> for Problem<'_> {
+impl Problem {
+    /// A file that can't be read or written.
+    pub fn file(alloc: Global, path: &str, error: io::Error, cause: Cause) -> Problem {
+        if error.kind() == io::ErrorKind::OutOfMemory {
+            return Problem::Stopped(Cause::Memory);
+        }
+        match String::from_str(alloc, path) {
+            Ok(path) => Problem::File { path, error, cause },
+            Err(_) => Problem::Stopped(Cause::Memory),
+        }
+    }
+
+    /// The same problem, which names a file where that made a run stop for this cause.
+    pub fn blamed(
+        self,
+        alloc: Global,
+        cause: Cause,
+        path: &str,
+        error: Option<io::Error>,
+    ) -> Problem {
+        match (self, error) {
+            (Problem::Stopped(stopped), Some(error)) if stopped == cause => {
+                Problem::file(alloc, path, error, cause)
+            }
+            (problem, _) => problem,
+        }
+    }
+}
+
+impl From<AllocError> for Problem {
     fn from(_error: AllocError) -> Self {
-        Problem::Memory
+        Problem::Stopped(Cause::Memory)
     }
 }
 
-impl<T: Drop> From<AllocFailed<T>> for Problem<'_> {
+impl<T: Drop> From<AllocFailed<T>> for Problem {
     fn from(_error: AllocFailed<T>) -> Self {
-        Problem::Memory
+        Problem::Stopped(Cause::Memory)
     }
 }
 
-/// Says why a subcommand isn't run, and answers its status.
-pub fn report<E: Sink>(alloc: Global, name: &str, problem: &Problem<'_>, err: &mut E) -> Status {
+impl From<Cause> for Problem {
+    fn from(cause: Cause) -> Self {
+        Problem::Stopped(cause)
+    }
+}
+
+/// Says why a subcommand isn't run to its end, and answers its status.
+pub fn report<E: Sink>(alloc: Global, name: &str, problem: &Problem, err: &mut E) -> Status {
     match problem {
         Problem::Usage(sentence) => match usage_error(alloc, name, sentence.as_str()) {
             Ok(error) => say_usage(alloc, &error, err),
             Err(AllocError) => give_up(err, Cause::Memory),
         },
-        Problem::File { path, error } => match file_line(alloc, path, error) {
-            Ok(Some(line)) => {
+        Problem::File { path, error, cause } => match file_line(alloc, path.as_str(), error) {
+            Ok(line) => {
                 let _ = write_all(err, line.as_bytes());
-                give_up(err, Cause::Read)
+                give_up(err, *cause)
             }
-            Ok(None) | Err(AllocError) => give_up(err, Cause::Memory),
+            Err(AllocError) => give_up(err, Cause::Memory),
         },
-        Problem::Memory => give_up(err, Cause::Memory),
+        Problem::Stopped(cause) => give_up(err, *cause),
     }
 }
 
@@ -69,16 +109,13 @@ pub fn say_usage<E: Sink>(alloc: Global, error: &Error, err: &mut E) -> Status {
     }
 }
 
-// The line that names a file and says why it can't be read. None where memory is missing.
-fn file_line(alloc: Global, path: &str, error: &io::Error) -> Result<Option<String>, AllocError> {
-    let line = match error.kind() {
-        io::ErrorKind::OutOfMemory => return Ok(None),
-        io::ErrorKind::WouldBlock => {
-            format!(in alloc; "mimetool: {path}: another run is using it\n")?
-        }
-        _ => format!(in alloc; "mimetool: {path}: {error}\n")?,
-    };
-    Ok(Some(line))
+// The line that names a file and says what is wrong with it.
+fn file_line(alloc: Global, path: &str, error: &io::Error) -> Result<String, AllocError> {
+    if error.kind() == io::ErrorKind::WouldBlock {
+        format!(in alloc; "mimetool: {path}: another run is using it\n")
+    } else {
+        format!(in alloc; "mimetool: {path}: {error}\n")
+    }
 }
 
 /// Says that the command line as a whole is invalid.

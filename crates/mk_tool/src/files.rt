@@ -2,16 +2,16 @@
 
 use crate::faults::Problem;
 use mk_mail::Attach;
-use mk_run::Spec;
+use mk_run::{Cause, Spec};
 use std::io::Read;
 use std::rt::Files;
 use std::{fs, io};
 
 /// Opens a file for reading. A folder is an error.
-pub fn open<'a, R: Files>(rt: &R, path: &'a str) -> Result<R::File, Problem<'a>> {
+pub fn open<R: Files + AllocGlobal>(rt: &R, path: &str) -> Result<R::File, Problem> {
     match opened(rt, path) {
         Ok(file) => Ok(file),
-        Err(error) => Err(Problem::File { path, error }),
+        Err(error) => Err(Problem::file(rt.alloc(), path, error, Cause::Read)),
     }
 }
 
@@ -23,20 +23,17 @@ fn opened<R: Files>(rt: &R, path: &str) -> io::Result<R::File> {
 }
 
 /// Reads a file whole.
-pub fn read<'a, R: Files + AllocGlobal>(rt: &R, path: &'a str) -> Result<Vec<u8>, Problem<'a>> {
+pub fn read<R: Files + AllocGlobal>(rt: &R, path: &str) -> Result<Vec<u8>, Problem> {
     let mut file = open(rt, path)?;
     let mut text = Vec::new(rt.alloc());
     match file.read_to_end(&mut text) {
         Ok(_) => Ok(text),
-        Err(error) => Err(Problem::File { path, error }),
+        Err(error) => Err(Problem::file(rt.alloc(), path, error, Cause::Read)),
     }
 }
 
 /// Reads files whole, in their order.
-pub fn read_all<'a, R: Files + AllocGlobal>(
-    rt: &R,
-    paths: &[&'a str],
-) -> Result<Vec<Vec<u8>>, Problem<'a>> {
+pub fn read_all<R: Files + AllocGlobal>(rt: &R, paths: &[&str]) -> Result<Vec<Vec<u8>>, Problem> {
     let mut texts = Vec::new(rt.alloc());
     for path in paths {
         texts.push(read(rt, *path)?)?;
@@ -45,10 +42,7 @@ pub fn read_all<'a, R: Files + AllocGlobal>(
 }
 
 /// Reads the files of parts, in their order. Each word is a part, as TYPE:FILE.
-pub fn attachments<'a, R: Files + AllocGlobal>(
-    rt: &R,
-    words: &[&'a str],
-) -> Result<Vec<Attach>, Problem<'a>> {
+pub fn attachments<R: Files + AllocGlobal>(rt: &R, words: &[&str]) -> Result<Vec<Attach>, Problem> {
     let mut parts = Vec::new(rt.alloc());
     for word in words {
         if let Some(spec) = Spec::of(word.as_bytes()) {

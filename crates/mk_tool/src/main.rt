@@ -1,6 +1,7 @@
 //! `mimetool`: an editor for Internet messages with exact undo.
 #![tactic(auto)]
 
+mod commands;
 mod faults;
 mod files;
 mod letters;

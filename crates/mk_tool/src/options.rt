@@ -17,6 +17,10 @@ pub const LINE: &str = "LINE";
 
 pub const FROM: &str = "FROM";
 
+pub const IN_PLACE: &str = "IN_PLACE";
+
+pub const JSON: &str = "json";
+
 pub const JOURNAL: &str = "JOURNAL";
 
 /// The subcommand that takes back the last step of an earlier run.
@@ -127,14 +131,26 @@ fn from<'a>(alloc: Global) -> Arg<'a> {
         .action(ArgAction::Set)
 }
 
-// mimetool sections
+// --in-place FILE
+fn in_place<'a>(alloc: Global) -> Result<Arg<'a>, AllocError> {
+    Arg::new(alloc, IN_PLACE)
+        .long("in-place")
+        .value_name("FILE")
+        .help("Read the message from FILE, and put what becomes of it in the place of FILE")
+        .allow_hyphen_values(true)
+        .action(ArgAction::Set)
+        .conflicts_with(FROM)
+}
+
+// mimetool sections [--json]
 fn sections_command<'a>(alloc: Global) -> Result<Command<'a>, AllocError> {
     Command::new(alloc, SECTIONS)
         .about("Lists the sections of the message, a line each")
         .after_help(
-            "Examples:\n  mimetool sections < message\n  mimetool sections --from message | grep ' leaf image/'",
+            "Examples:\n  mimetool sections < message\n  mimetool sections --json --from message",
         )
-        .arg(from(alloc))
+        .arg(from(alloc))?
+        .arg(flag(alloc, JSON, "Print a JSON object for each section").long(JSON))
 }
 
 // mimetool extract -s PATH
@@ -208,9 +224,14 @@ fn field_command<'a>(alloc: Global) -> Result<Command<'a>, AllocError> {
     Command::new(alloc, FIELD)
         .about("Adds, renames and removes fields of a message, or prints those of a name")
         .after_help(
-            "Examples:\n  mimetool field -I 'X-Seen: yes' < message\n  mimetool field -s -x Subject: --from mailbox",
+            "Examples:\n  mimetool field -I 'X-Seen: yes' --in-place message\n  mimetool field -s -x Subject: --from mailbox",
         )
         .arg(from(alloc))?
+        .arg(
+            in_place(alloc)?
+                .conflicts_with(TAKE)?
+                .conflicts_with(WHOLE)?,
+        )?
         .arg(rename)?
         .arg(letter(
             alloc,
@@ -260,9 +281,10 @@ fn undo_command<'a>(alloc: Global) -> Result<Command<'a>, AllocError> {
     Command::new(alloc, UNDO)
         .about("Takes back the last step of an earlier edit, and prints the message")
         .after_help(
-            "Examples:\n  mimetool undo -j journal < edited > message\n  mimetool undo -j journal --from edited",
+            "Examples:\n  mimetool undo -j journal < edited > message\n  mimetool undo -j journal --in-place edited",
         )
         .arg(from(alloc))?
+        .arg(in_place(alloc)?)?
         .arg(journal(alloc).required(true))
 }
 
@@ -271,9 +293,10 @@ fn redo_command<'a>(alloc: Global) -> Result<Command<'a>, AllocError> {
     Command::new(alloc, REDO)
         .about("Makes again the last step that was taken back, and prints the message")
         .after_help(
-            "Examples:\n  mimetool redo -j journal < message > edited\n  mimetool redo -j journal --from message",
+            "Examples:\n  mimetool redo -j journal < message > edited\n  mimetool redo -j journal --in-place message",
         )
         .arg(from(alloc))?
+        .arg(in_place(alloc)?)?
         .arg(journal(alloc).required(true))
 }
 
@@ -285,7 +308,7 @@ fn journal<'a>(alloc: Global) -> Arg<'a> {
         .action(ArgAction::Set)
 }
 
-// mimetool edit [-j JOURNAL] [-e LINE].. [SCRIPT] [PIECE..]
+// mimetool edit [--from FILE|--in-place FILE] [-j JOURNAL] [-e LINE].. [SCRIPT] [PIECE..]
 fn edit_command<'a>(alloc: Global) -> Result<Command<'a>, AllocError> {
     let line = Arg::new(alloc, LINE)
         .short('e')
@@ -298,7 +321,6 @@ fn edit_command<'a>(alloc: Global) -> Result<Command<'a>, AllocError> {
         .help(
             "The file with the script: one word a line, as `add 1 Subject: hello`, `del 1 Subject 2` or `undo`",
         )
-        .required_unless_present(LINE)?
         .action(ArgAction::Set);
     let pieces = Arg::new(alloc, PIECE)
         .help("Files that the script names by their place, from 1 on")
@@ -306,9 +328,10 @@ fn edit_command<'a>(alloc: Global) -> Result<Command<'a>, AllocError> {
     Command::new(alloc, EDIT)
         .about("Edits the message by the words of a script, and prints it")
         .after_help(
-            "Examples:\n  mimetool edit -e 'add 1 X-Seen: yes' < message\n  mimetool edit -j journal script part < message > edited",
+            "Examples:\n  mimetool edit -e 'add 1 X-Seen: yes' < message > edited\n  mimetool edit -j journal script part --in-place message",
         )
         .arg(from(alloc))?
+        .arg(in_place(alloc)?)?
         .arg(journal(alloc))?
         .arg(line)?
         .arg(script)?

@@ -5,6 +5,7 @@ mod devices;
 mod directory;
 mod faults;
 mod files;
+mod in_place;
 mod journals;
 mod letters;
 mod usage;
@@ -13,6 +14,7 @@ use crate::program::obey;
 use devices::Page;
 use mk_run::Status;
 use mk_system::Input;
+use std::fs;
 use std::fs::File;
 use std::process::Abort;
 use std::rt::Files;
@@ -79,5 +81,27 @@ pub fn check_refused<R: Files<File = File> + AllocGlobal + Abort>(
     assert_eq!(rt; found.status, Status::Usage, "{words:?}");
     assert!(rt; found.output.bytes().is_empty(), "{words:?}");
     assert!(rt; !found.errors.bytes().is_empty(), "{words:?}");
+    Ok(())
+}
+
+/// Compares what a run left.
+pub fn same(rt: &impl Abort, found: &Outcome, output: &[u8], errors: &[u8], status: Status) {
+    assert_eq!(rt; found.status, status);
+    assert_eq!(rt; found.output.bytes(), output);
+    assert_eq!(rt; found.errors.bytes(), errors);
+}
+
+/// A folder has as many entries as expected: no run left a file of its own.
+pub fn check_entries<R: Files + AllocGlobal + Abort + Clone + Drop>(
+    rt: &R,
+    folder: &str,
+    expected: usize,
+) -> Result<(), Fail> {
+    let mut entries = 0usize;
+    for entry in fs::read_dir(rt, folder)? {
+        entry?;
+        entries = entries.saturating_add(1);
+    }
+    assert_eq!(rt; entries, expected);
     Ok(())
 }

@@ -12,6 +12,7 @@ mod writing;
 pub use extracting::{ExtractError, content, extract};
 pub use giving::numbered;
 pub use listing::list;
+pub use naming::said_name;
 pub use storing::{Leaf, leaves, names};
-pub use typing::push_type;
+pub use typing::{media_type, push_type};
 pub use writing::push_path;

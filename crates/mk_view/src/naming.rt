@@ -8,6 +8,7 @@ ghost use Rattle.mk_tree.specs.Tree.{field_lines};
 ghost use Rattle.mk_view.specs.Listing.{type_of};
 ghost use Rattle.mk_view.specs.FileNames.{behind_last, cleaned as cleaned_of, is_divider as divides, is_stored_by, leading as leading_of, name_by, part_name as name_of_part, plain as plain_of, raw_name as raw_name_of, disposed_name};
 
+use crate::typing::media_type;
 use crate::writing::push_path;
 use mk_head::{ContentType, content_type};
 use mk_tree::Section;
@@ -36,6 +37,15 @@ pub(crate) fn is_stored(texts: bool, media: &ContentType, raw: &Option<Vec<u8>>)
         Some(_) => true,
         None => texts || media.main.as_slice() != TEXT,
     }
+}
+
+/// The name that the fields of a section say, as it stands there: the parameter `filename` of Content-Disposition, else
+/// `name` of Content-Type (RFC 2183, 2.3; RFC 2045, 5.1).
+pub fn said_name(alloc: Global, section: &Section<'_>) -> Result<Option<Vec<u8>>, AllocError>
+    ensures { IfOk result (λ raw. option_map (λ name. name.items) raw ≡ raw_name_of section.now) }
+{
+    let media = media_type(alloc, section)?;
+    raw_name(alloc, section, &media)
 }
 
 /// The name that the fields of a section with this content type say.

@@ -20,8 +20,8 @@ pub fn push_type(alloc: Global, text: &mut Vec<u8>, section: &Section<'_>) -> Re
     text.extend_from_slice(&media.sub)
 }
 
-/// The content type of a section; without a Content-Type field that of its place.
-pub(crate) fn media_type(alloc: Global, section: &Section<'_>) -> Result<ContentType, AllocError>
+/// The content type of a section; without a Content-Type field that of its place (RFC 2046, 5.1.5).
+pub fn media_type(alloc: Global, section: &Section<'_>) -> Result<ContentType, AllocError>
     ensures { IfOk result (λ media. media_type_of media ≡ type_of section.now) }
 {
     match section.value(alloc, b"Content-Type")? {

@@ -8,12 +8,32 @@ use std::test::Fail;
 const MIXED: &[u8] =
     b"Subject: t\nContent-Type: multipart/mixed; boundary=\"b\"\n\npre\n--b\n\none\n--b \t\nContent-Type: text/html\n\ntwo\n--b--\nepi\n";
 
-const ROWS: [Row; 7] = [
+/// Leaves whose names have a quote, a byte that isn't UTF-8, and no name at all.
+const NAMED: &[u8] =
+    b"Content-Type: multipart/mixed; boundary=b\n\n--b\nContent-Type: text/plain; charset=\"utf-8\"; name=\"a\\\"b\"\n\none\n--b\nContent-Disposition: attachment; filename=\"n\xe9.txt\"\nContent-Type: text/plain; name=other\n\ntwo\n--b\n\n--b--\n";
+
+const ROWS: [Row; 9] = [
     Row {
         shows: "the sections",
         words: &["sections"],
         message: MIXED,
         output: b"1 multi multipart/mixed identity 0 56 114 2 10\n1.1 leaf text/plain identity 64 65 69 0 1\n1.2 leaf text/html identity 75 100 104 1 1\n",
+        errors: b"",
+        status: Status::Well,
+    },
+    Row {
+        shows: "the sections as JSON",
+        words: &["sections", "--json"],
+        message: MIXED,
+        output: b"{\"path\":\"1\",\"kind\":\"multi\",\"type\":\"multipart/mixed\",\"encoding\":\"identity\",\"start\":0,\"body\":56,\"end\":114,\"field_lines\":2,\"body_lines\":10,\"boundary\":\"b\"}\n{\"path\":\"1.1\",\"kind\":\"leaf\",\"type\":\"text/plain\",\"encoding\":\"identity\",\"start\":64,\"body\":65,\"end\":69,\"field_lines\":0,\"body_lines\":1,\"stored_as\":\"part-1.1\"}\n{\"path\":\"1.2\",\"kind\":\"leaf\",\"type\":\"text/html\",\"encoding\":\"identity\",\"start\":75,\"body\":100,\"end\":104,\"field_lines\":1,\"body_lines\":1,\"stored_as\":\"part-1.2\"}\n",
+        errors: b"",
+        status: Status::Well,
+    },
+    Row {
+        shows: "names and charsets as JSON",
+        words: &["sections", "--json"],
+        message: NAMED,
+        output: b"{\"path\":\"1\",\"kind\":\"multi\",\"type\":\"multipart/mixed\",\"encoding\":\"identity\",\"start\":0,\"body\":43,\"end\":215,\"field_lines\":1,\"body_lines\":12,\"boundary\":\"b\"}\n{\"path\":\"1.1\",\"kind\":\"leaf\",\"type\":\"text/plain\",\"encoding\":\"identity\",\"start\":47,\"body\":103,\"end\":107,\"field_lines\":1,\"body_lines\":1,\"charset\":\"utf-8\",\"filename\":\"a\\\"b\",\"stored_as\":\"a_b\"}\n{\"path\":\"1.2\",\"kind\":\"leaf\",\"type\":\"text/plain\",\"encoding\":\"identity\",\"start\":111,\"body\":200,\"end\":204,\"field_lines\":2,\"body_lines\":1,\"filename\":\"n\xef\xbf\xbd.txt\",\"stored_as\":\"n_.txt\"}\n{\"path\":\"1.3\",\"kind\":\"leaf\",\"type\":\"text/plain\",\"encoding\":\"identity\",\"start\":208,\"body\":209,\"end\":209,\"field_lines\":0,\"body_lines\":0,\"stored_as\":\"part-1.3\"}\n",
         errors: b"",
         status: Status::Well,
     },

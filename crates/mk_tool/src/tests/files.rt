@@ -1,9 +1,8 @@
 //! Commands that read and write files of the system. Each test has a folder of its own.
 
-use super::{Outcome, obeyed};
+use super::{obeyed, same};
 use mk_run::Status;
 use std::fs;
-use std::process::Abort;
 use std::test::Fail;
 
 const MESSAGE: &[u8] = b"A: b\n\nx\n";
@@ -25,13 +24,6 @@ const NONE_ERRORS: &[u8] =
 
 const FOLDER_ERRORS: &[u8] =
     b"mimetool: mimetool_named_test: is a directory\nmimetool: read fault\n";
-
-/// Compares what a run left.
-fn same(rt: &impl Abort, found: &Outcome, output: &[u8], errors: &[u8], status: Status) {
-    assert_eq!(rt; found.status, status);
-    assert_eq!(rt; found.output.bytes(), output);
-    assert_eq!(rt; found.errors.bytes(), errors);
-}
 
 #[test]
 fn scripts_and_pieces_are_files(rt: HostRuntime) -> Result<(), Fail> {
@@ -244,6 +236,20 @@ fn files_go_to_the_working_folder(rt: HostRuntime) -> Result<(), Fail> {
 #[test]
 fn a_folder_that_can_t_be_made_is_a_write_fault(rt: HostRuntime) -> Result<(), Fail> {
     let found = obeyed(&rt, &["unpack", "-C", ""], TWO)?;
-    same(&rt, &found, b"", b"mimetool: write fault\n", Status::Fault);
+    same(
+        &rt,
+        &found,
+        b"",
+        b"mimetool: : a folder needs a name\nmimetool: write fault\n",
+        Status::Fault,
+    );
+    let found = obeyed(&rt, &["unpack", "-C", "/dev/null"], TWO)?;
+    same(
+        &rt,
+        &found,
+        b"",
+        b"mimetool: /dev/null: File exists (os error 17)\nmimetool: write fault\n",
+        Status::Fault,
+    );
     Ok(())
 }

@@ -1,11 +1,10 @@
 //! Journals in files of the system: what one run keeps, later ones take back and make again.
 
-use super::{Outcome, obeyed};
+use super::{check_entries, obeyed, same};
 use mk_run::Status;
 use std::fs;
 use std::fs::{File, Permissions};
 use std::os::unix::fs::{PermissionsExt, symlink};
-use std::process::Abort;
 use std::rt::Files;
 use std::test::Fail;
 
@@ -21,13 +20,6 @@ const UNDONE: &str =
 
 const NOTHING: &str =
     "mimejournal 2\nc951ce7b67bdf1fc725f0b506422637c56104e24cd5177b0230f679e11b0dc84\n0 0\n";
-
-/// Compares what a run left.
-fn same(rt: &impl Abort, found: &Outcome, output: &[u8], errors: &[u8], status: Status) {
-    assert_eq!(rt; found.status, status);
-    assert_eq!(rt; found.output.bytes(), output);
-    assert_eq!(rt; found.errors.bytes(), errors);
-}
 
 /// Makes a folder with nothing in it but a script that adds a field.
 fn prepare<R: Files + AllocGlobal>(rt: &R, folder: &str, script: &str) -> Result<(), Fail> {
@@ -54,21 +46,6 @@ fn later_runs_take_back_and_make_again(rt: HostRuntime) -> Result<(), Fail> {
     assert_eq!(rt; fs::read_to_string(&rt, journal)?.as_str(), DONE);
     check_entries(&rt, folder, 2)?;
     fs::remove_dir_all(&rt, folder)?;
-    Ok(())
-}
-
-/// A folder has so many entries: no run left a file of its own.
-fn check_entries<R: Files + AllocGlobal + Abort + Clone + Drop>(
-    rt: &R,
-    folder: &str,
-    expected: usize,
-) -> Result<(), Fail> {
-    let mut entries = 0usize;
-    for entry in fs::read_dir(rt, folder)? {
-        entry?;
-        entries = entries.saturating_add(1);
-    }
-    assert_eq!(rt; entries, expected);
     Ok(())
 }
 
@@ -136,7 +113,7 @@ fn faults_leave_the_journal(rt: HostRuntime) -> Result<(), Fail> {
         &rt,
         &found,
         EDITED,
-        b"mimetool: write fault\n",
+        b"mimetool: mimetool_journal_faults_test/none/journal: No such file or directory (os error 2)\nmimetool: write fault\n",
         Status::Fault,
     );
     let found = obeyed(&rt, &["edit", "-j", folder, script], MESSAGE)?;

@@ -97,7 +97,7 @@ fn invalid_values_are_named(rt: HostRuntime) -> Result<(), Fail> {
 }
 
 /// A command line, and the first line of what is said of it.
-const SENTENCES: [(&[&str], &str); 12] = [
+const SENTENCES: [(&[&str], &str); 16] = [
     (
         &["field", "-x", "A:", "-X", "A:"],
         "error: -x and -X print fields, so neither stands beside another letter\n",
@@ -130,7 +130,7 @@ const SENTENCES: [(&[&str], &str); 12] = [
     ),
     (
         &["edit"],
-        "error: the following required arguments were not provided:\n  <SCRIPT>\n",
+        "error: write a SCRIPT, the file with the lines, or the lines themselves, each after -e\n",
     ),
     (
         &["undo"],
@@ -139,6 +139,22 @@ const SENTENCES: [(&[&str], &str); 12] = [
     (
         &["sections", "--from"],
         "error: a value is required for '--from <FILE>' but none was supplied\n",
+    ),
+    (
+        &["edit", "-e", "undo", "--in-place", "a", "--from", "b"],
+        "error: the argument '--in-place <FILE>' cannot be used with '--from <FILE>'\n",
+    ),
+    (
+        &["field", "-x", "A:", "--in-place", "a"],
+        "error: the argument '-x <NAME:>' cannot be used with '--in-place <FILE>'\n",
+    ),
+    (
+        &["field", "--in-place", "a", "-X", "A:"],
+        "error: the argument '--in-place <FILE>' cannot be used with '-X <NAME:>'\n",
+    ),
+    (
+        &["sections", "--in-place", "a"],
+        "error: unexpected argument '--in-place' found\n",
     ),
 ];
 

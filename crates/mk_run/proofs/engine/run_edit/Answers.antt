@@ -5,7 +5,7 @@ use Rattle.mk_run.specs.RunClauses.{held}
 use Rattle.mk_run.specs.Runs.{run_of}
 use Rattle.mk_script.specs.ScriptSteps.{script_of}
 use Rattle.mk_script.specs.ScriptViews.{texts_of}
-use Rattle.mk_run.proofs.RunLemmas.{Leaves-given_up, LeavesJournal-given_up}
+use Rattle.mk_run.proofs.RunLemmas.{Leaves-given_up, LeavesJournal-given_up, Prints-given_up}
 use Rattle.mk_script.proofs.ScriptTurns.{texts_length}
 use Rattle.mk_run.proofs.engine.run_edit.Goals as goal
 
@@ -26,3 +26,7 @@ returns-in-Err-clause-leaves g c =
       Leaves-given_up c.in-Err.cause script.run before after (g.E.Sink.contents c.try_edit.new.err) left.2.output left.2.errors c.give_up.ensures.line left.2.silent,
       LeavesJournal-given_up c.in-Err.cause script before after kept last finished left.3.front left.3.later,
     )
+
+pub returns-in-Err-clause-prints : goal.returns-in-Err-clause-prints
+returns-in-Err-clause-prints g c =
+    rw c.give_up.ensures.status (Prints-given_up c.in-Err.cause (journaling_of c.args.journal) _ _ _ _)

@@ -5,7 +5,7 @@ use Rattle.mk_run.specs.RunClauses.{held, counts}
 use Rattle.mk_run.specs.Runs.{run_from}
 use Rattle.mk_run.specs.inner.Sessions.{sunk}
 use Rattle.mk_script.specs.ScriptViews.{step_by, texts_of}
-use Rattle.mk_run.proofs.RunLemmas.{AppendsFront-none, Leaves-session, named_reason, session_blamed, session_ended}
+use Rattle.mk_run.proofs.RunLemmas.{AppendsFront-none, Leaves-session, Prints-session, named_reason, session_blamed, session_ended}
 use Rattle.mk_run.proofs.engine.run_steps.Goals as goal
 
 pub returns-in-Err-clause-leaves : goal.returns-in-Err-clause-leaves
@@ -60,3 +60,16 @@ returns-clause-leaves g c =
       rw refused (record { output = AppendsFront-none _ _; errors = sent.front; silent = λ _. Keeps-refl _ }),
       rw refused (record { front = AppendsFront-none _ _; later = inl (Keeps-refl _) }),
     )
+
+pub returns-in-Ok-begin-clause-prints : goal.returns-in-Ok-begin-clause-prints
+returns-in-Ok-begin-clause-prints g c =
+    let before = held (g.S.Source.remaining c.args.input.now) (g.O.Sink.contents c.args.out.now) (g.E.Sink.contents c.args.err.now) in
+    let after = held (g.S.Source.remaining c.read_all.new.input) (g.O.Sink.contents c.run_session.new.out) (g.E.Sink.contents c.run_session.new.err) in
+    Prints-session c.run_session.result (texts_of c.args.pieces.now) (map step_by c.args.steps.items) (journaling_of c.args.journal) c.in-Ok-begin.session _ _ _ c.run_session.ensures.leaves
+    c.in-Ok.message.items before after (g.O.Sink.finished c.args.out.now) (g.O.Sink.finished c.run_session.new.out) c.in-Ok.ensures.all c.in-Ok-begin.ensures.ok c.run_session.ensures.finishes
+
+pub returns-in-Ok-report_journal-clause-prints : goal.returns-in-Ok-report_journal-clause-prints
+returns-in-Ok-report_journal-clause-prints g c =
+    let named = named_reason c.in-Err-begin.error (sym c.is_memory.ensures ∙ c.if-is_memory.false) in
+    let refused : begun (journaling_of c.args.journal) c.in-Ok.message.items ≡ Err named.0 = rw named.1 at c.in-Err-begin.ensures.refused in
+    (c.in-Ok.message.items, c.in-Ok.ensures.all, rw refused refl)

@@ -9,7 +9,7 @@ use Rattle.mk_run.proofs.fields.edit_message.Goals as goal
 pub returns-in_ok-report_message-in-Some-clause-all : goal.returns-in_ok-report_message-in-Some-clause-all
 returns-in_ok-report_message-in-Some-clause-all g c = λ text begun.
     let edited = rw c.in-Some.is at (c.in-Ok.ensures.edited text begun) in
-    said_refused (letters_of c.args.letters.now) c.args.number text c.text.result.now (text_now c.edit.new.session) c.in-Some.reason _ _ _ _ _ _ edited c.text.ensures.now c.in_ok-send.ensures.whole c.in_ok-report_message-in-Some.ensures
+    said_refused (letters_of c.args.letters.now) c.args.number text c.text.result.now (text_now c.edit.new.session) c.in-Some.reason _ _ _ _ _ _ edited c.text.ensures.now c.in_ok-send.ensures.sends.whole c.in_ok-report_message-in-Some.ensures
 
 pub returns-in_ok-report_message-in-Some-clause-errors_well : goal.returns-in_ok-report_message-in-Some-clause-errors_well
 returns-in_ok-report_message-in-Some-clause-errors_well g c =
@@ -21,7 +21,7 @@ returns-in_err-report_message-in-Some-clause-some g c =
     let stopped = err_from_is_err_and c.from_residual-in_err-report_message-in-Some.result c.from_residual-in_err-report_message-in-Some.ensures.1 in
     rw stopped.1 (λ text begun.
     let edited = rw c.in-Some.is at (c.in-Ok.ensures.edited text begun) in
-    said_partly (letters_of c.args.letters.now) c.args.number text c.text.result.now (text_now c.edit.new.session) c.in-Some.reason c.in_err-report_message-in-Some.field-0.0 _ _ _ _ _ _ edited c.text.ensures.now c.in_ok-send.ensures.whole
+    said_partly (letters_of c.args.letters.now) c.args.number text c.text.result.now (text_now c.edit.new.session) c.in-Some.reason c.in_err-report_message-in-Some.field-0.0 _ _ _ _ _ _ edited c.text.ensures.now c.in_ok-send.ensures.sends.whole
     c.in_err-report_message-in-Some.ensures)
 
 pub returns-in_err-report_message-in-Some-clause-failed : goal.returns-in_err-report_message-in-Some-clause-failed
@@ -34,10 +34,10 @@ returns-in_err-report_message-in-Some-clause-failed g c =
 pub returns-in-None-clause-all : goal.returns-in-None-clause-all
 returns-in-None-clause-all g c = λ text begun.
     let edited = rw c.in-None.is at (c.in-Ok.ensures.edited text begun) in
-    said_accepted (letters_of c.args.letters.now) c.args.number text c.text.result.now (text_now c.edit.new.session) _ _ _ edited c.text.ensures.now c.in_ok-send.ensures.whole
+    said_accepted (letters_of c.args.letters.now) c.args.number text c.text.result.now (text_now c.edit.new.session) _ _ _ edited c.text.ensures.now c.in_ok-send.ensures.sends.whole
 
 pub returns-in_err-send-clause-some : goal.returns-in_err-send-clause-some
 returns-in_err-send-clause-some g c =
     let stopped = err_from_is_err_and c.from_residual.result c.from_residual.ensures.1 in
     rw stopped.1 (λ text begun.
-    said_hardly (letters_of c.args.letters.now) c.args.number text c.text.result.now (text_now c.edit.new.session) c.in-Ok.refusal _ _ _ (c.in-Ok.ensures.edited text begun) c.text.ensures.now c.in_err-send.ensures.front)
+    said_hardly (letters_of c.args.letters.now) c.args.number text c.text.result.now (text_now c.edit.new.session) c.in-Ok.refusal _ _ _ (c.in-Ok.ensures.edited text begun) c.text.ensures.now c.in_err-send.ensures.sends.front)

@@ -8,14 +8,14 @@ pub returns-in-Ok-Some-clause-all : goal.returns-in-Ok-Some-clause-all
 returns-in-Ok-Some-clause-all g c =
     let l = letters_of c.args.letters.now in
     let given = rw (c.in-Ok-Some.field-0-is, c.doc.ensures, c.in-Ok.ensures.ok) at c.in-Ok-Some.ensures in
-    given_all l c.args.number c.args.message.items c.in-Ok-Some.text.items _ _ _ given (rw c.deref.ensures.value at c.in_ok-send-in-Ok-Some.ensures.whole)
+    given_all l c.args.number c.args.message.items c.in-Ok-Some.text.items _ _ _ given (rw c.deref.ensures.value at c.in_ok-send-in-Ok-Some.ensures.sends.whole)
 
 pub returns-in_err-send-in-Ok-Some-clause-some : goal.returns-in_err-send-in-Ok-Some-clause-some
 returns-in_err-send-in-Ok-Some-clause-some g c =
     let stopped = err_from_is_err_and c.from_residual.result c.from_residual.ensures.1 in
     let l = letters_of c.args.letters.now in
     let given = rw (c.in-Ok-Some.field-0-is, c.doc.ensures, c.in-Ok.ensures.ok) at c.in-Ok-Some.ensures in
-    rw stopped.1 (given_some l c.args.number c.args.message.items c.in-Ok-Some.text.items _ _ _ given (rw c.deref.ensures.value at c.in_err-send-in-Ok-Some.ensures.front))
+    rw stopped.1 (given_some l c.args.number c.args.message.items c.in-Ok-Some.text.items _ _ _ given (rw c.deref.ensures.value at c.in_err-send-in-Ok-Some.ensures.sends.front))
 
 pub returns-in-Ok-None-clause-some : goal.returns-in-Ok-None-clause-some
 returns-in-Ok-None-clause-some g c =

@@ -10,6 +10,7 @@ loop-turn-init g c = record {
   told = ([], [], Consumes-nil _, none_out (letters_of c.args.letters.now) _ _ c.new-mailbox.result c.new-mailbox.ensures.kept);
   ended = λ e. no_silence (sym e ∙ c.new-mailbox.ensures.ended);
   well = record { input = refl; output = refl; errors = refl };
+  unfinished = refl;
   count = inl (rw c.new-mailbox.ensures.kept (omega arith));
 }
 
@@ -87,5 +88,6 @@ loop-turn-preserved g c =
         output = c.in-Ok.ensures.output_well ∙ c.loop-turn.invariant.well.output;
         errors = c.in-Ok.ensures.errors_well ∙ c.loop-turn.invariant.well.errors;
       };
+      unfinished = c.in-Ok.ensures.unfinished ∙ c.loop-turn.invariant.unfinished;
       count = counted_on c.loop-turn.turn _ _ _ m e.0 c.loop-turn.mailbox c.next.new.self c.loop-turn.invariant.count e.3 e.4;
     }

@@ -15,5 +15,6 @@ invariant-loop-turn g l = record {
   well : SameFailures
       (counts (g.S.Source.failures l.fn.input) (g.S.Source.read_count l.fn.input) (g.O.Sink.failures l.fn.out) (g.E.Sink.failures l.fn.err))
       (counts (g.S.Source.failures l.input) (g.S.Source.read_count l.input) (g.O.Sink.failures l.out) (g.E.Sink.failures l.err));
+  unfinished : g.O.Sink.finished l.out ≡ g.O.Sink.finished l.fn.out;
   count : (l.turn + length l.mailbox.kept + chunk_bytes * g.S.Source.read_count l.fn.input ≤ chunk_bytes * g.S.Source.read_count l.input) ⊎ IsFull (g.S.Source.read_count l.input);
 }

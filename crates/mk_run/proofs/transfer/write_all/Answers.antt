@@ -1,4 +1,4 @@
-use Rattle.std.proofs.Common.{◌++◌, take, rules}
+use Rattle.std.proofs.Common.{◌++◌, ◌∙◌, take, rules}
 use Rattle.std.proofs.KnownBytes.{Appends-trans}
 use Rattle.mk_run.proofs.Slices.{append-take-drop}
 use Rattle.mk_run.proofs.transfer.write_all.Goals as goal
@@ -14,4 +14,5 @@ loop-rest-preserved g c =
         Appends-trans _ _ _ _ _ before.2 c.in_ok-count.ensures.bytes,
       );
       well = search rules;
+      unfinished = c.in_ok-count.ensures.unfinished ∙ c.loop-rest.invariant.unfinished;
     }

@@ -1,33 +1,11 @@
-use Rattle.std.proofs.Common.{map, refl}
 use Rattle.mk_tree.specs.Documents.{tree}
-use Rattle.mk_view.specs.LeafViews.{leaf_view}
-use Rattle.mk_run.proofs.UnpackLemmas.{IsUnpacked-all, Stores-stopped}
+use Rattle.mk_run.proofs.UnpackLemmas.{Stores-given_up}
 use Rattle.mk_run.proofs.unpacking.unpack.Goals as goal
 
-pub returns-then-refused-clause-leaves : goal.returns-then-refused-clause-leaves
-returns-then-refused-clause-leaves g c =
-    let t = tree c.in-Ok.doc in
-    let all = c.in-Ok-unpack_all.ensures.all t c.in-Ok-leaves.ensures.placed in (
-      c.in-Ok.doc,
-      c.in-Ok.ensures.all,
-      IsUnpacked-all _ c.args.texts t (map leaf_view c.in-Ok-leaves.stored.items) c.in-Ok-unpack_all.refused _ _ _ _ _ _ _ _ _ c.in-Ok-leaves.ensures.given all (rw c.if-refused.true refl) c.in-Ok.ensures.ended,
-    )
-
-pub returns-in-Ok-unpack_all-clause-leaves : goal.returns-in-Ok-unpack_all-clause-leaves
-returns-in-Ok-unpack_all-clause-leaves g c =
-    let t = tree c.in-Ok.doc in
-    let all = c.in-Ok-unpack_all.ensures.all t c.in-Ok-leaves.ensures.placed in (
-      c.in-Ok.doc,
-      c.in-Ok.ensures.all,
-      IsUnpacked-all _ c.args.texts t (map leaf_view c.in-Ok-leaves.stored.items) c.in-Ok-unpack_all.refused _ _ _ _ _ _ _ _ _ c.in-Ok-leaves.ensures.given all (rw c.if-refused.false refl) c.in-Ok.ensures.ended,
-    )
-
-pub returns-clause-leaves : goal.returns-clause-leaves
-returns-clause-leaves g c =
-    let t = tree c.in-Ok.doc in
-    let some = c.in-Err-unpack_all.ensures.some t c.in-Ok-leaves.ensures.placed in
-    let line = rw c.writing.ensures at c.give_up-in-Err-unpack_all.ensures.line in (
-      c.in-Ok.doc,
-      c.in-Ok.ensures.all,
-      Stores-stopped _ c.args.texts t (map leaf_view c.in-Ok-leaves.stored.items) c.in-Err-unpack_all.stop _ _ _ _ _ _ _ _ _ _ c.in-Ok-leaves.ensures.given some (rw c.writing.ensures at c.give_up-in-Err-unpack_all.ensures.status) line,
+pub returns-in-Err-clause-leaves : goal.returns-in-Err-clause-leaves
+returns-in-Err-clause-leaves g c =
+    let left = c.in-Err.ensures.leaves in (
+      left.0,
+      left.1,
+      rw c.give_up.ensures.status (Stores-given_up _ c.args.texts (tree left.0) c.in-Err.cause _ _ _ _ _ _ _ _ _ left.2 c.give_up.ensures.line),
     )

@@ -1,0 +1,6 @@
+//! The listing of a message as JSON, for other programs.
+#![tactic(auto)]
+
+mod listing;
+
+pub use listing::list;

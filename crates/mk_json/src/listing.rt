@@ -1,0 +1,156 @@
+//! A JSON object for each section of a document.
+
+use mk_tree::{Children, Doc, Kind, Section};
+use mk_view::{Leaf, leaves, media_type, push_path, said_name};
+use serde_json::Value;
+use std::alloc::{AllocError, Global};
+
+const LINE_FEED: u8 = b'\n';
+
+/// What stands between the columns of the plain listing.
+const COLUMN_END: char = ' ';
+
+/// What stands between the numbers of a path.
+const PATH_DOT: u8 = b'.';
+
+/// The keys of the columns of the plain listing, in their order.
+const KEYS: [&str; 9] = [
+    "path",
+    "kind",
+    "type",
+    "encoding",
+    "start",
+    "body",
+    "end",
+    "field_lines",
+    "body_lines",
+];
+
+/// How many of those columns are words, before those that are numbers.
+const WORDS: usize = 4;
+
+/// Lists the sections of a document as JSON, an object a line, in the order of `mk_view::list` and with its words and
+/// numbers. After those stand, where a section has them, its boundary, its charset, the name that its fields say and the one
+/// that it would be stored under. Bytes that aren't UTF-8 become U+FFFD. Own format.
+pub fn list(alloc: Global, doc: &Doc) -> Result<Vec<u8>, AllocError> {
+    let plain = mk_view::list(alloc, doc)?;
+    let stored = leaves(alloc, doc, true)?;
+    let mut stored = stored.iter();
+    let mut above = Vec::new(alloc);
+    let mut text = Vec::new(alloc);
+    for line in plain.split(|byte| *byte == LINE_FEED) {
+        let Some(section) = section_of(doc, &mut above, line)? else {
+            continue;
+        };
+        let leaf = match section.kind() {
+            Kind::Leaf => stored.next(),
+            Kind::Multi | Kind::Message => None,
+        };
+        push_object(alloc, &mut text, line, &section, leaf)?;
+    }
+    Ok(text)
+}
+
+// The section that a line of the listing speaks of. The sections come in the document's order, so each is the next one below
+// the last of those above it, which are the sections that follow on each level of the section before.
+fn section_of<'a>(
+    doc: &'a Doc,
+    above: &mut Vec<Children<'a>>,
+    line: &[u8],
+) -> Result<Option<Section<'a>>, AllocError> {
+    if line.is_empty() {
+        return Ok(None);
+    }
+    above.truncate(level(line));
+    let section = match above.last_mut() {
+        None => Some(doc.root()),
+        Some(next) => next.next(),
+    };
+    if let Some(section) = &section {
+        above.push(section.children())?;
+    }
+    Ok(section)
+}
+
+// How many sections hold the one that a line of the listing speaks of: the dots of its path.
+fn level(line: &[u8]) -> usize {
+    let mut dots = 0usize;
+    for byte in line {
+        if *byte == PATH_DOT {
+            dots = dots.saturating_add(1);
+        } else if !byte.is_ascii_digit() {
+            return dots;
+        }
+    }
+    dots
+}
+
+// Writes the object of a section after a text.
+fn push_object(
+    alloc: Global,
+    text: &mut Vec<u8>,
+    line: &[u8],
+    section: &Section<'_>,
+    leaf: Option<&Leaf<'_>>,
+) -> Result<(), AllocError> {
+    push_columns(alloc, text, line)?;
+    push_member(alloc, text, "boundary", section.boundary())?;
+    let media = media_type(alloc, section)?;
+    push_member(alloc, text, "charset", media.param(b"charset"))?;
+    let name = said_name(alloc, section)?;
+    push_member(alloc, text, "filename", name.as_deref())?;
+    push_member(
+        alloc,
+        text,
+        "stored_as",
+        leaf.map(|leaf| leaf.name.as_slice()),
+    )?;
+    text.extend_from_slice(b"}\n")?;
+    Ok(())
+}
+
+// Writes the columns of a line of the listing after a text, as the first members of an object.
+fn push_columns(alloc: Global, text: &mut Vec<u8>, line: &[u8]) -> Result<(), AllocError> {
+    let line = String::from_utf8_lossy(alloc, line)?;
+    let mut before = b'{';
+    for (number, (key, column)) in KEYS.iter().zip(line.split(COLUMN_END)).enumerate() {
+        text.push(before)?;
+        push_key(text, *key)?;
+        if number < WORDS {
+            push_string(alloc, text, column.as_bytes())?;
+        } else {
+            text.extend_from_slice(column.as_bytes())?;
+        }
+        before = b',';
+    }
+    Ok(())
+}
+
+// Writes a member after others, where there is a value.
+fn push_member(
+    alloc: Global,
+    text: &mut Vec<u8>,
+    key: &str,
+    value: Option<&[u8]>,
+) -> Result<(), AllocError> {
+    if let Some(value) = value {
+        text.push(b',')?;
+        push_key(text, key)?;
+        push_string(alloc, text, value)?;
+    }
+    Ok(())
+}
+
+fn push_key(text: &mut Vec<u8>, key: &str) -> Result<(), AllocError> {
+    text.push(b'"')?;
+    text.extend_from_slice(key.as_bytes())?;
+    text.extend_from_slice(b"\":")?;
+    Ok(())
+}
+
+// Writes bytes as a string.
+fn push_string(alloc: Global, text: &mut Vec<u8>, bytes: &[u8]) -> Result<(), AllocError> {
+    let string = Value::String(String::from_utf8_lossy(alloc, bytes)?);
+    text.extend_from_slice(string.to_string(alloc)?.as_bytes())?;
+    Ok(())
+}

@@ -1,0 +1,253 @@
+//! The subcommands, over any devices.
+
+use crate::faults::{Problem, usage};
+use crate::files::{attachments, read, read_all};
+use crate::letters::{letter_words, why_refused};
+use crate::options::{
+    BOUNDARY, DIR, EACH, EDIT, EXTRACT, FIELD, JOURNAL, JSON, LINE, OVER, PACK, PATH, PIECE, REDO,
+    SCRIPT, SECTIONS, SILENT, SPEC, TEXTS, UNDO, UNPACK,
+};
+use clap::ArgMatches;
+use mk_mail::{Sink, Source};
+use mk_run::{
+    Cause, Journal, Spec, Status, Stop, read_doc, run_extract, run_pack, run_sections, try_edit,
+    try_field, try_unpack, write_all,
+};
+use mk_script::numbers;
+use mk_system::{Directory, JournalFile, Output};
+use std::alloc::{AllocError, Global};
+use std::fs::File;
+use std::io;
+use std::rt::Files;
+
+/// The folder that files are written to where none is named.
+const WORKING_FOLDER: &str = ".";
+
+/// The scripts of two subcommands.
+const UNDO_SCRIPT: &[u8] = b"undo\n";
+
+const REDO_SCRIPT: &[u8] = b"redo\n";
+
+/// What is said of an edit without lines.
+const NO_SCRIPT: &str =
+    "write a SCRIPT, the file with the lines, or the lines themselves, each after -e";
+
+/// Runs a subcommand.
+pub fn run_command<R: Files<File = File> + AllocGlobal, S: Source, O: Sink, E: Sink>(
+    rt: &R,
+    name: &str,
+    matches: &ArgMatches<'_>,
+    input: &mut S,
+    out: &mut O,
+    err: &mut E,
+) -> Result<Status, Problem> {
+    if name == EDIT {
+        edit(rt, matches, input, out, err)
+    } else if name == UNDO {
+        edit_by(rt, matches, input, out, err, UNDO_SCRIPT, &[])
+    } else if name == REDO {
+        edit_by(rt, matches, input, out, err, REDO_SCRIPT, &[])
+    } else if name == EXTRACT {
+        extract(rt, matches, input, out, err)
+    } else if name == UNPACK {
+        unpack(rt, matches, input, out, err)
+    } else if name == PACK {
+        pack(rt, matches, input, out, err)
+    } else if name == FIELD {
+        field(rt, matches, input, out, err)
+    } else if name == SECTIONS {
+        sections(rt, matches, input, out, err)
+    } else {
+        Ok(usage(err))
+    }
+}
+
+// mimetool edit
+fn edit<R: Files<File = File> + AllocGlobal, S: Source, O: Sink, E: Sink>(
+    rt: &R,
+    matches: &ArgMatches<'_>,
+    input: &mut S,
+    out: &mut O,
+    err: &mut E,
+) -> Result<Status, Problem> {
+    let alloc = rt.alloc();
+    let paths = matches.get_strs(PIECE).unwrap_or(&[]);
+    if let Some(lines) = matches.get_strs(LINE) {
+        // Each word that is no line is a piece; the first of them stands where the script would.
+        let script = joined(alloc, lines)?;
+        let mut pieces = Vec::new(alloc);
+        if let Some(path) = matches.get_str(SCRIPT) {
+            pieces.push(read(rt, path)?)?;
+        }
+        for path in paths {
+            pieces.push(read(rt, *path)?)?;
+        }
+        return edit_by(rt, matches, input, out, err, &script, &pieces);
+    }
+    let Some(path) = matches.get_str(SCRIPT) else {
+        return Err(Problem::Usage(String::from_str(alloc, NO_SCRIPT)?));
+    };
+    let script = read(rt, path)?;
+    let pieces = read_all(rt, paths)?;
+    edit_by(rt, matches, input, out, err, &script, &pieces)
+}
+
+// The lines of a script, each ended.
+fn joined(alloc: Global, lines: &[&str]) -> Result<Vec<u8>, AllocError> {
+    let mut script = Vec::new(alloc);
+    for line in lines {
+        script.extend_from_slice(line.as_bytes())?;
+        script.push(b'\n')?;
+    }
+    Ok(script)
+}
+
+// Edits by a script, with the journal that the command line names, if it names one. The journal is read last.
+fn edit_by<R: Files<File = File> + AllocGlobal, S: Source, O: Sink, E: Sink>(
+    rt: &R,
+    matches: &ArgMatches<'_>,
+    input: &mut S,
+    out: &mut O,
+    err: &mut E,
+    script: &[u8],
+    pieces: &[Vec<u8>],
+) -> Result<Status, Problem> {
+    let alloc = rt.alloc();
+    let Some(path) = matches.get_str(JOURNAL) else {
+        let mut none = Output::new(io::sink());
+        let journal = Journal::Off;
+        let done = try_edit(alloc, input, out, err, script, pieces, journal, &mut none);
+        return Ok(done?);
+    };
+    let (mut jout, old) = match JournalFile::open(rt, path) {
+        Ok(opened) => opened,
+        Err(error) => return Err(Problem::file(alloc, path, error, Cause::Read)),
+    };
+    let journal = match &old {
+        Some(text) => Journal::Old(text),
+        None => Journal::New,
+    };
+    let done = try_edit(alloc, input, out, err, script, pieces, journal, &mut jout);
+    let unwritten = jout.close();
+    match done {
+        Ok(status) => Ok(status),
+        Err(cause) => Err(Problem::from(cause).blamed(alloc, Cause::Write, path, unwritten)),
+    }
+}
+
+// mimetool sections
+fn sections<R: AllocGlobal, S: Source, O: Sink, E: Sink>(
+    rt: &R,
+    matches: &ArgMatches<'_>,
+    input: &mut S,
+    out: &mut O,
+    err: &mut E,
+) -> Result<Status, Problem> {
+    let alloc = rt.alloc();
+    if !matches.get_flag(JSON) {
+        return Ok(run_sections(alloc, input, out, err));
+    }
+    let doc = match read_doc(alloc, input) {
+        Ok(doc) => doc,
+        Err(Stop::Fault) => return Err(Problem::Stopped(Cause::Read)),
+        Err(Stop::Memory) => return Err(Problem::Stopped(Cause::Memory)),
+    };
+    let listing = mk_json::list(alloc, &doc)?;
+    if write_all(out, &listing).is_ok() {
+        Ok(Status::Well)
+    } else {
+        Err(Problem::Stopped(Cause::Write))
+    }
+}
+
+// mimetool extract
+fn extract<R: AllocGlobal, S: Source, O: Sink, E: Sink>(
+    rt: &R,
+    matches: &ArgMatches<'_>,
+    input: &mut S,
+    out: &mut O,
+    err: &mut E,
+) -> Result<Status, Problem> {
+    let alloc = rt.alloc();
+    let Some(word) = matches.get_str(PATH) else {
+        return Ok(usage(err));
+    };
+    match numbers(alloc, word.as_bytes())? {
+        Some(path) => Ok(run_extract(alloc, input, out, err, &path)),
+        None => Err(Problem::Usage(format!(in alloc;
+            "invalid value '{word}' for '-s <PATH>': write numbers from 1 on with dots between them, as 1.2"
+        )?)),
+    }
+}
+
+// mimetool unpack
+fn unpack<R: Files<File = File> + AllocGlobal, S: Source, O: Sink, E: Sink>(
+    rt: &R,
+    matches: &ArgMatches<'_>,
+    input: &mut S,
+    out: &mut O,
+    err: &mut E,
+) -> Result<Status, Problem> {
+    let alloc = rt.alloc();
+    let path = matches.get_str(DIR).unwrap_or(WORKING_FOLDER);
+    let texts = matches.get_flag(TEXTS);
+    let over = matches.get_flag(OVER);
+    let silent = matches.get_flag(SILENT);
+    let mut dir = Directory::new(rt, path);
+    let done = try_unpack(alloc, input, out, err, &mut dir, texts, over, silent);
+    let unwritten = dir.close();
+    match (done, unwritten) {
+        (Ok(status), _) => Ok(status),
+        (Err(cause), None) => Err(Problem::Stopped(cause)),
+        (Err(cause), Some(unwritten)) => {
+            let file = match &unwritten.path {
+                Some(file) => file.as_str(),
+                None => path,
+            };
+            Err(Problem::from(cause).blamed(alloc, Cause::Write, file, Some(unwritten.error)))
+        }
+    }
+}
+
+// mimetool pack
+fn pack<R: Files + AllocGlobal, S: Source, O: Sink, E: Sink>(
+    rt: &R,
+    matches: &ArgMatches<'_>,
+    input: &mut S,
+    out: &mut O,
+    err: &mut E,
+) -> Result<Status, Problem> {
+    let alloc = rt.alloc();
+    let Some(boundary) = matches.get_str(BOUNDARY) else {
+        return Ok(usage(err));
+    };
+    let words = matches.get_strs(SPEC).unwrap_or(&[]);
+    for word in words {
+        if Spec::of(word.as_bytes()).is_none() {
+            return Err(Problem::Usage(format!(in alloc;
+                "invalid value '{word}' for '<SPEC>...': write TYPE:FILE, as image/gif:dot.gif"
+            )?));
+        }
+    }
+    let parts = attachments(rt, words)?;
+    Ok(run_pack(alloc, input, out, err, boundary.as_bytes(), &parts))
+}
+
+// mimetool field
+fn field<R: AllocGlobal, S: Source, O: Sink, E: Sink>(
+    rt: &R,
+    matches: &ArgMatches<'_>,
+    input: &mut S,
+    out: &mut O,
+    err: &mut E,
+) -> Result<Status, Problem> {
+    let alloc = rt.alloc();
+    let words = letter_words(matches);
+    if let Some(letters) = words.letters(alloc)? {
+        if letters.ok() {
+            let each = matches.get_flag(EACH);
+            return Ok(try_field(alloc, input, out, err, &letters, each)?);
+        }
+    }
+    Err(Problem::Usage(why_refused(alloc, &words)?))
+}
