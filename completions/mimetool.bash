@@ -3,14 +3,14 @@
 _mimetool_options() {
     local options=''
     case $1 in
-        edit) options='--from -j -e -h --help' ;;
-        undo) options='--from -j -h --help' ;;
-        redo) options='--from -j -h --help' ;;
-        sections) options='--from -h --help' ;;
+        edit) options='--from --in-place -j -e -h --help' ;;
+        undo) options='--from --in-place -j -h --help' ;;
+        redo) options='--from --in-place -j -h --help' ;;
+        sections) options='--from --json -h --help' ;;
         extract) options='--from -s -h --help' ;;
         unpack) options='--from -f -t --silent -C -h --help' ;;
         pack) options='-b -h --help' ;;
-        field) options='--from --rename -a -A -i -I -u -U -x -X -s -h --help' ;;
+        field) options='--from --in-place --rename -a -A -i -I -u -U -x -X -s -h --help' ;;
         help) options='' ;;
         '') options='-h --help -V --version' ;;
     esac
@@ -29,7 +29,7 @@ _mimetool() {
     done
     compopt -o filenames 2>/dev/null
     case $command:$prev in
-        edit:-j | undo:-j | redo:-j | *:--from)
+        edit:-j | undo:-j | redo:-j | *:--from | *:--in-place)
             mapfile -t COMPREPLY < <(compgen -f -- "$cur")
             return ;;
         unpack:-C)

@@ -38,18 +38,18 @@ impl From<AllocError> for Unwritten {
 
 /// A folder of the system. It is made at the first file, where it isn't there.
 #[derive(Drop)]
-pub struct Directory<'a, R: Files<File = File> + AllocGlobal> {
-    rt: &'a R,
-    path: &'a str,
+pub struct Directory<'r, 'p, R: Files<File = File> + AllocGlobal> {
+    rt: &'r R,
+    path: &'p str,
     is_made: bool,
     unwritten: Option<Unwritten>,
     faults: u64,
 }
 
-impl<'a, R: Files<File = File> + AllocGlobal> Directory<'a, R> {
+impl<'r, 'p, R: Files<File = File> + AllocGlobal> Directory<'r, 'p, R> {
     /// The folder at a path, to which nothing is written yet.
-    pub fn new(rt: &'a R, path: &'a str) -> Self
-        ensures { ⟦<Directory<'a, R> as Folder>⟧.failures result ≡ 0 }
+    pub fn new(rt: &'r R, path: &'p str) -> Self
+        ensures { ⟦<Directory<'r, 'p, R> as Folder>⟧.failures result ≡ 0 }
     {
         Directory {
             rt,
@@ -154,7 +154,7 @@ fn write_new<R: Files<File = File>>(rt: &R, path: &PathBuf, text: &[u8]) -> io::
     }
 }
 
-impl<R: Files<File = File> + AllocGlobal> Folder for Directory<'_, R> {
+impl<R: Files<File = File> + AllocGlobal> Folder for Directory<'_, '_, R> {
     ghost files = { λ _. None };
 
     ghost failures = { λ s. s.faults };

@@ -150,7 +150,11 @@ fn read<R: Files + AllocGlobal>(
     path: &PathBuf,
 ) -> io::Result<(Found, Vec<u8>)> {
     let mut text = Vec::new(rt.alloc());
-    if !file.metadata()?.is_file() {
+    let metadata = file.metadata()?;
+    if metadata.is_dir() {
+        return Err(Error::from(ErrorKind::IsADirectory));
+    }
+    if !metadata.is_file() {
         file.read_to_end(&mut text)?;
         return Ok((Found::Special, text));
     }

@@ -19,7 +19,7 @@ const MOST_NAMES: u32 = 10_000;
 /// The folder of a path that names none.
 const HERE: &str = ".";
 
-/// What a fresh file is called beside a file whose name leaves no room for more.
+/// The name in that of a fresh file, where the other file's own leaves no room for more.
 const SHORT_NAME: &str = "mimetool";
 
 /// Where the links at a path lead, be something there or not.
@@ -123,7 +123,7 @@ impl Replacement {
     }
 }
 
-// A new file, with the first free one of the numbered names after a path.
+// A new file, with the first free one of the numbered names that the file at a path gives.
 fn fresh_file<R: Files<File = File> + AllocGlobal>(
     rt: &R,
     path: &PathBuf,
@@ -140,9 +140,11 @@ fn fresh_file<R: Files<File = File> + AllocGlobal>(
     Err(Error::from(ErrorKind::AlreadyExists))
 }
 
+// A hidden name, so that what lists messages doesn't take the file for one.
 fn fresh_name(alloc: Global, path: &PathBuf, number: u32) -> io::Result<PathBuf> {
-    let name = format!(in alloc; "{}.{number}.new", path.as_str())?;
-    Ok(PathBuf::from_str(alloc, name.as_str())?)
+    let name = path.file_name().unwrap_or(SHORT_NAME);
+    let fresh = format!(in alloc; ".{name}.{number}.new")?;
+    Ok(path.with_file_name(alloc, fresh.as_str())?)
 }
 
 /// Lets the names in the folder of a path stand on the disk. A folder that may not be read is left to the system.

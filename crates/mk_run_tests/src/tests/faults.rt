@@ -60,9 +60,10 @@ fn the_output_fails(rt: HostRuntime) -> Result<(), Fail> {
         check_failed_output(&rt, status, &out, &err);
         assert_eq!(rt;
             jout.bytes().is_empty(),
-            out.faults() > 0,
+            out.bytes() != OUTPUT,
             "after {good} writes"
         );
+        assert_eq!(rt; jout.is_finished(), out.faults() == 0);
     }
     Ok(())
 }
@@ -127,6 +128,7 @@ fn the_journal_fails(rt: HostRuntime) -> Result<(), Fail> {
         let mut jout = Page::failing(alloc, SIZE, good)?;
         let status = run(alloc, &mut out, &mut err, &mut jout);
         assert_eq!(rt; out.bytes(), OUTPUT);
+        assert_eq!(rt; out.is_finished(), jout.bytes() == JOURNAL);
         check_failed_journal(&rt, status, &err, &jout);
     }
     Ok(())
@@ -167,9 +169,10 @@ fn run(alloc: Global, out: &mut Page, err: &mut Page, jout: &mut Page) -> Status
     run_edit(alloc, &mut input, out, err, SCRIPT, &pieces, journal, jout)
 }
 
-// A front of the output went out, and where it is not the whole the errors say so.
+// A front of the output went out, and where it isn't the whole or wasn't finished the errors say so.
 fn check_failed_output(rt: &impl Abort, status: Status, out: &Page, err: &Page) {
     assert!(rt; OUTPUT.starts_with(out.bytes()));
+    assert_eq!(rt; out.is_finished(), out.faults() == 0);
     if out.faults() == 0 {
         assert_eq!(rt; status, Status::Refused);
         assert_eq!(rt; out.bytes(), OUTPUT);

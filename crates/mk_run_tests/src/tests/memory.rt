@@ -82,11 +82,13 @@ fn check_run(rt: &impl Abort, alloc: Global, mut out: Page, mut err: Page, mut j
     if status == Status::Memory {
         assert_eq!(rt; out.bytes(), b"".as_slice());
         assert_eq!(rt; jout.bytes(), b"".as_slice());
+        assert!(rt; !out.is_finished());
         assert!(rt; err.bytes().ends_with(b"mimetool: memory\n"));
     } else {
         assert_eq!(rt; status, Status::Refused);
         assert_eq!(rt; out.bytes(), OUTPUT);
         assert_eq!(rt; err.bytes(), ERRORS);
+        assert!(rt; out.is_finished());
         assert!(rt; jout.is_finished());
     }
 }

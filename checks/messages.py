@@ -1,0 +1,132 @@
+"""Messages, and what `sections --json` says of each section beside what the plain listing says."""
+
+ALBUM = """\
+{"path":"1","kind":"multi","type":"multipart/mixed","encoding":"identity","start":0,"body":120,"end":529,"field_lines":4,"body_lines":20,"boundary":"cut here"}
+{"path":"1.1","kind":"leaf","type":"text/plain","encoding":"quoted-printable","start":159,"body":244,"end":267,"field_lines":2,"body_lines":2,"charset":"utf-8","stored_as":"part-1.1"}
+{"path":"1.2","kind":"leaf","type":"image/gif","encoding":"base64","start":278,"body":353,"end":402,"field_lines":2,"body_lines":1,"filename":"dot.gif","stored_as":"dot.gif"}
+{"path":"1.3","kind":"message","type":"message/rfc822","encoding":"identity","start":413,"body":443,"end":516,"field_lines":1,"body_lines":4}
+{"path":"1.3.1","kind":"leaf","type":"text/plain","encoding":"identity","start":443,"body":498,"end":516,"field_lines":2,"body_lines":1,"stored_as":"part-1.3.1"}
+"""
+
+
+def leaf(**said):
+    return {"kind": "leaf", **said}
+
+
+def of(fields, **said):
+    """A message of one leaf with these fields."""
+    return fields + b"\n\nx\n", [leaf(**said)]
+
+
+def disposed(value, filename, stored_as):
+    """A leaf with a Content-Disposition."""
+    return of(b"Content-Disposition: " + value, filename=filename, stored_as=stored_as)
+
+
+def multi(boundary, *parts, fields=b"Content-Type: multipart/mixed; boundary=%s"):
+    """A multipart of these parts, each with its fields."""
+    head = fields % boundary if b"%s" in fields else fields
+    return head + b"\n\n" + b"".join(b"--" + boundary + b"\n" + part + b"\n" for part in parts) + b"--" + boundary + b"--\n"
+
+
+PART = "part-1"
+GIF = b"Content-Type: image/gif; name=a.gif\n\nx"
+INNER = multi(b"in", b"\none", GIF)
+DIGEST = multi(b"d", b"\nSubject: s\n\none", b"Content-Type: text/plain; charset=koi8-r\n\nx",
+               fields=b"Content-Type: multipart/digest; boundary=%s")
+
+# What a row shows, its message, and what is said of each section in turn.
+ROWS = [
+    ("an empty message", b"", [leaf(type="text/plain", stored_as=PART)]),
+    ("no fields", b"\nx\n", [leaf(type="text/plain", stored_as=PART)]),
+    ("no body", b"A: b\n", [leaf(stored_as=PART)]),
+    ("an envelope", b"From a\nA: b\n\nx\n", [leaf(stored_as=PART)]),
+    ("CR LF", b"Content-Type: image/gif;\r\n name=\"a.gif\"\r\n\r\nx\r\n", [leaf(type="image/gif", filename="a.gif", stored_as="a.gif")]),
+    ("bytes alone", b"\x00\xff\n", [leaf(stored_as=PART)]),
+    ("a charset", *of(b"Content-Type: text/plain; charset=UTF-8", charset="UTF-8", stored_as=PART)),
+    ("a charset in quotes", *of(b'Content-Type: text/plain; charset="iso-8859-1"', charset="iso-8859-1", stored_as=PART)),
+    ("a charset with a comment", *of(b"Content-Type: text/plain; charset=us-ascii (plain)", charset="us-ascii", stored_as=PART)),
+    ("a charset that is empty", *of(b'Content-Type: text/plain; charset=""', charset="", stored_as=PART)),
+    ("a charset in capitals, of two", *of(b"Content-Type: text/html; CHARSET=a; charset=b", type="text/html", charset="a", stored_as=PART)),
+    ("a charset without a type", *of(b"Content-Type: x; charset=a", type="text/plain", charset="a", stored_as=PART)),
+    ("a boundary of a leaf", *of(b"Content-Type: text/plain; boundary=b", type="text/plain", stored_as=PART)),
+    ("a multipart without a boundary", *of(b"Content-Type: multipart/mixed", type="multipart/mixed", stored_as=PART)),
+    ("a multipart with an empty boundary", *of(b'Content-Type: multipart/mixed; boundary=""', type="multipart/mixed", stored_as=PART)),
+    ("a name", *of(b"Content-Type: image/gif; name=a.gif", filename="a.gif", stored_as="a.gif")),
+    ("a file name", *disposed(b"attachment; filename=a.gif", "a.gif", "a.gif")),
+    ("a file name before a name", *of(b"Content-Type: image/gif; name=a.gif\nContent-Disposition: inline; filename=b.gif",
+                                      filename="b.gif", stored_as="b.gif")),
+    ("a disposition without a file name", *of(b"Content-Disposition: inline\nContent-Type: image/gif; name=a.gif", filename="a.gif", stored_as="a.gif")),
+    ("a file name that is empty", *of(b'Content-Type: image/gif; name=a\nContent-Disposition: inline; filename=""', filename="", stored_as=PART)),
+    ("a file name without a disposition", *of(b"Content-Disposition: filename=a", stored_as=PART)),
+    ("a name of a disposition", *of(b"Content-Disposition: inline; name=a", stored_as=PART)),
+    ("blanks in a file name", *disposed(b'inline; filename="a b.gif"', "a b.gif", "a_b.gif")),
+    ("a folded file name", *disposed(b'inline;\n filename="a\n b.gif"', "a b.gif", "a_b.gif")),
+    ("quotes in a file name", *disposed(rb'inline; filename="a \"b\".gif"', 'a "b".gif', "a__b_.gif")),
+    ("backslashes in a file name", *disposed(rb'inline; filename="c:\\d\\e.gif"', r"c:\d\e.gif", "e.gif")),
+    ("a backslash outside quotes", *disposed(rb"inline; filename=c:\d.gif", r"c:\d.gif", "d.gif")),
+    ("slashes in a file name", *disposed(b"inline; filename=../../etc/passwd", "../../etc/passwd", "passwd")),
+    ("a slash at the end", *disposed(b"inline; filename=a/", "a/", PART)),
+    ("a file name that begins with a dot", *disposed(b"inline; filename=.profile", ".profile", "_profile")),
+    ("a file name that begins with a hyphen", *disposed(b"inline; filename=-rf", "-rf", "_rf")),
+    ("control characters", *disposed(b'inline; filename="a\x01\x1f\x7f\x08\x0cb"', "a\x01\x1f\x7f\x08\x0cb", "a_____b")),
+    ("a tab and a CR", *disposed(b'inline; filename="a\tb\rc"', "a\tb\rc", "a_b_c")),
+    ("a zero byte", *disposed(b'inline; filename="a\x00b"', "a\x00b", "a_b")),
+    ("a file name in UTF-8", *disposed("inline; filename=\"\u00e4\u20ac\U0001f600.gif\"".encode(), "\u00e4\u20ac\U0001f600.gif", "_________.gif")),
+    ("a byte that isn't UTF-8", *disposed(b'inline; filename="caf\xe9.gif"', "caf\ufffd.gif", "caf_.gif")),
+    ("bytes that can't be UTF-8", *disposed(b'inline; filename="\xff\xfe"', "\ufffd\ufffd", "__")),
+    ("a charset that isn't UTF-8", *of(b"Content-Type: text/plain; charset=\xff", charset="\ufffd", stored_as=PART)),
+    ("an encoded word", *disposed(b'inline; filename="=?utf-8?q?a=C3=A4.gif?="', "=?utf-8?q?a=C3=A4.gif?=", "__utf-8_q_a_C3_A4.gif__")),
+    ("an extended parameter", *of(b"Content-Disposition: inline; filename*=utf-8''a%20b", stored_as=PART)),
+    ("a long file name", *disposed(b"inline; filename=" + b"n" * 300, "n" * 300, "n" * 100)),
+    ("an unclosed file name", *disposed(b'inline; filename="a; b', "a; b", "a__b")),
+    ("a comment in a file name", *disposed(b"inline; filename=a(b)c", "ac", "ac")),
+    ("characters that HTML has", *disposed(b'inline; filename="<a>&\'/b"', "<a>&'/b", "b")),
+    ("a multipart in a multipart", multi(b"out", INNER, b"\nx"), [
+        {"kind": "multi", "boundary": "out"}, {"kind": "multi", "boundary": "in"}, leaf(stored_as="part-1.1.1"),
+        leaf(type="image/gif", filename="a.gif", stored_as="a.gif"), leaf(stored_as="part-1.2")]),
+    ("names that are the same", multi(b"b", GIF, GIF, b"Content-Type: image/gif; name=a.gif.1\n\nx", GIF, b"Content-Type: text/plain; name=part-1.6\n\nx", b"\nx"), [
+        {"boundary": "b"}, leaf(filename="a.gif", stored_as="a.gif"), leaf(filename="a.gif", stored_as="a.gif.1"),
+        leaf(filename="a.gif.1", stored_as="a.gif.1.1"), leaf(filename="a.gif", stored_as="a.gif.2"),
+        leaf(filename="part-1.6", stored_as="part-1.6"), leaf(stored_as="part-1.6.1")]),
+    ("names of other case", multi(b"b", GIF, GIF.replace(b"a.gif", b"A.gif")), [
+        {"boundary": "b"}, leaf(filename="a.gif", stored_as="a.gif"), leaf(filename="A.gif", stored_as="A.gif")]),
+    ("a message in a message", b"Content-Type: message/rfc822; name=m\n\nContent-Type: message/rfc822\n\n" + GIF, [
+        {"kind": "message", "filename": "m"}, {"kind": "message"}, leaf(filename="a.gif", stored_as="a.gif")]),
+    ("a message in base64", *of(b"Content-Type: message/rfc822\nContent-Transfer-Encoding: base64", type="message/rfc822", encoding="base64", stored_as=PART)),
+    ("an unknown encoding", *of(b"Content-Transfer-Encoding: x", encoding="other", stored_as=PART)),
+    ("a digest", DIGEST, [
+        {"type": "multipart/digest", "boundary": "d"}, {"kind": "message", "type": "message/rfc822"}, leaf(stored_as="part-1.1.1"),
+        leaf(type="text/plain", charset="koi8-r", stored_as="part-1.2")]),
+    ("a multipart with a name and a charset", multi(b"b", b"\nx", fields=b"Content-Type: multipart/mixed; name=n; charset=c; boundary=b"), [
+        {"kind": "multi", "boundary": "b", "charset": "c", "filename": "n"}, leaf(stored_as="part-1.1")]),
+    ("a multipart without parts", b"Content-Type: multipart/mixed; boundary=b\n\nx\n", [{"kind": "multi", "boundary": "b"}]),
+    ("a boundary with blanks at its end", multi(b"b", b"\nx", fields=b'Content-Type: multipart/mixed; boundary="b \t"'), [
+        {"kind": "multi", "boundary": "b"}, leaf(stored_as="part-1.1")]),
+    ("a boundary with quotes and other bytes", multi(b'a"\\\xff', b"\nx", fields=b'Content-Type: multipart/mixed; boundary="a\\"\\\\\xff"'), [
+        {"kind": "multi", "boundary": 'a"\\\ufffd'}, leaf(stored_as="part-1.1")]),
+]
+
+
+def broad(count):
+    """A multipart of many parts, all of one name."""
+    parts = [b"--b\nContent-Type: image/gif; name=n%d.gif\n\nx\n" % (number % (count // 2)) for number in range(count)]
+    text = b"Content-Type: multipart/mixed; boundary=b\n\n" + b"".join(parts) + b"--b--\n"
+    said = [{"kind": "multi", "boundary": "b"}]
+    for number in range(count):
+        name = f"n{number % (count // 2)}.gif"
+        said.append(leaf(filename=name, stored_as=name if number < count // 2 else name + ".1"))
+    return text, said
+
+
+def deep(levels):
+    """Multiparts in multiparts, with a leaf in the last one. At level 101 all is a leaf."""
+    text, said = b"\nx\n", []
+    for level in range(levels, 0, -1):
+        text = b"Content-Type: multipart/mixed; boundary=b%d\n\n--b%d\n%s--b%d--\n" % (level, level, text, level)
+    for level in range(1, min(levels, 100) + 1):
+        said.append({"kind": "multi", "boundary": f"b{level}"})
+    level = min(levels, 100) + 1
+    last = {"type": "multipart/mixed"} if levels > 100 else {"type": "text/plain"}
+    said.append(leaf(**last, stored_as="part-1" + ".1" * (level - 1)))
+    return text, said

@@ -1,0 +1,157 @@
+"""Command lines that are invalid as they stand, and what is said of each. The words are those of clap."""
+
+A_PAIR = "write two names with a colon between them, as Subject:X-Subject"
+A_FIELD = "write a name, a colon and a value, as 'X-Seen: yes'"
+A_FIELD_OR_NAME = A_FIELD + ", or a name and a colon alone, as X-Seen:"
+A_NAME = "write a name and a colon, as Subject:"
+A_PATH = "write numbers from 1 on with dots between them, as 1.2"
+A_SPEC = "write TYPE:FILE, as image/gif:dot.gif"
+APART = "-x and -X print fields, so neither stands beside another letter"
+
+COMMANDS = ["edit", "undo", "redo", "sections", "extract", "unpack", "pack", "field"]
+WITH_FROM = [command for command in COMMANDS if command != "pack"]
+IN_PLACE = ["edit", "undo", "redo", "field"]
+
+# What a command needs beside the words that a row is about.
+NEEDED = {
+    "edit": ["-e", "undo"], "undo": ["-j", "j"], "redo": ["-j", "j"], "sections": [], "extract": ["-s", "1"], "unpack": [],
+    "pack": ["-b", "b", "text/plain:f"], "field": [],
+}
+
+# Each option that takes a value, with a value that it takes.
+OPTIONS = {
+    "edit": {"-j <JOURNAL>": "j", "-e <LINE>": "undo"},
+    "undo": {"-j <JOURNAL>": "j"},
+    "redo": {"-j <JOURNAL>": "j"},
+    "sections": {},
+    "extract": {"-s <PATH>": "1"},
+    "unpack": {"-C <DIR>": "d"},
+    "pack": {"-b <BOUNDARY>": "b"},
+    "field": {
+        "--rename <OLD:NEW>": "A:B", "-a <FIELD>": "A: 1", "-A <FIELD>": "A: 1", "-i <FIELD>": "A: 1", "-I <FIELD>": "A: 1",
+        "-u <NAME:>": "A:", "-U <NAME:>": "A:", "-x <NAME:>": "A:", "-X <NAME:>": "A:",
+    },
+}
+for command in WITH_FROM:
+    OPTIONS[command]["--from <FILE>"] = "f"
+for command in IN_PLACE:
+    OPTIONS[command]["--in-place <FILE>"] = "f"
+
+FLAGS = {"sections": ["--json"], "unpack": ["-f", "-t", "--silent"], "field": ["-s"]}
+
+# Values that a command's argument doesn't take: the words, the argument, the value, and what should stand there.
+VALUES = [
+    *[(["extract", "-s", value], "-s <PATH>", value, A_PATH)
+      for value in ("", "0", "1.0", "01", "1.01", "1.", ".1", "1..2", "-1", "1,2", "a", " 1", "1 ", "1.4294967296", "1\n")],
+    *[(["pack", "-b", "b", value], "<SPEC>...", value, A_SPEC) for value in ("text", "text/plain", "", "a b")],
+    (["pack", "-b", "b", "text/plain:f", "n"], "<SPEC>...", "n", A_SPEC),
+    *[(["field", "--rename", value], "--rename <OLD:NEW>", value, A_PAIR)
+      for value in ("", "AB", ":", "A:", ":B", "A:B C", "A B:C", "A:B:C", "A: B")],
+    *[(["field", letter, value], f"{letter} <FIELD>", value, A_FIELD)
+      for letter in ("-a", "-A") for value in ("", "x", "A:", "A: ", "A: \t", ": x", "A b: c", "A: b\n", "A: b\nC: d")],
+    *[(["field", letter, value], f"{letter} <FIELD>", value, A_FIELD_OR_NAME)
+      for letter in ("-i", "-I") for value in ("", "x", ":", ": x", "A b: c", "A: b\n", "A: b\nC: d")],
+    *[(["field", letter, value], f"{letter} <NAME:>", value, A_NAME)
+      for letter in ("-u", "-U", "-x", "-X") for value in ("", "A", ":", "A: b", "A b:", "A:B:")],
+    (["field", "-A", "A: 1", "-I", "x y"], "-I <FIELD>", "x y", A_FIELD_OR_NAME),
+    (["field", "-x", "A:", "-I", "x"], "-I <FIELD>", "x", A_FIELD_OR_NAME),
+    (["field", "-U", "x", "-a", "y", "--rename", "z"], "--rename <OLD:NEW>", "z", A_PAIR),
+]
+
+# Letters that don't stand beside each other.
+BESIDE = [
+    ["-x", "A:", "-X", "A:"],
+    *[[letter, "A:", *other] for letter in ("-x", "-X") for other in (
+        ["--rename", "A:B"], ["-a", "A: 1"], ["-A", "A: 1"], ["-i", "A: 1"], ["-I", "A: 1"], ["-u", "A:"], ["-U", "A:"])],
+]
+
+# Other command lines, and all that has to be said of each.
+SAID = [
+    ("no command", [], ["requires a subcommand", "Usage: mimetool"]),
+    ("an unknown command", ["list"], ["unrecognized subcommand 'list'", "Usage: mimetool"]),
+    ("a command in capitals", ["Edit"], ["unrecognized subcommand 'Edit'", "Usage: mimetool"]),
+    ("an empty word for a command", [""], ["Usage: mimetool"]),
+    ("an unknown option before a command", ["-x"], ["unexpected argument '-x' found", "Usage: mimetool"]),
+    ("an option of a command before it", ["--from", "f", "sections"], ["unexpected argument '--from' found", "Usage: mimetool"]),
+    ("edit alone", ["edit"], ["SCRIPT", "-e", "Usage: mimetool edit"]),
+    ("edit with a journal alone", ["edit", "-j", "j"], ["SCRIPT", "-e", "Usage: mimetool edit"]),
+    ("edit with a message alone", ["edit", "--from", "f"], ["SCRIPT", "-e", "Usage: mimetool edit"]),
+    ("edit --in-place alone", ["edit", "--in-place", "f"], ["SCRIPT", "-e", "Usage: mimetool edit"]),
+    ("undo without a journal", ["undo"], ["required arguments were not provided", "-j <JOURNAL>", "Usage: mimetool undo"]),
+    ("redo without a journal", ["redo"], ["required arguments were not provided", "-j <JOURNAL>", "Usage: mimetool redo"]),
+    ("extract without a path", ["extract"], ["required arguments were not provided", "-s <PATH>", "Usage: mimetool extract"]),
+    ("pack without all", ["pack"], ["required arguments were not provided", "-b <BOUNDARY>", "<SPEC>...", "Usage: mimetool pack"]),
+    ("pack without a boundary", ["pack", "text/plain:f"],
+     ["required arguments were not provided", "-b <BOUNDARY>", "Usage: mimetool pack"]),
+    ("pack without parts", ["pack", "-b", "b"], ["required arguments were not provided", "<SPEC>...", "Usage: mimetool pack"]),
+    ("a piece that begins with a hyphen", ["edit", "-e", "undo", "-n"], ["unexpected argument '-n' found", "Usage: mimetool edit"]),
+    ("--json with a value", ["sections", "--json=1"], ["--json", "Usage: mimetool sections"]),
+    ("--json of another command", ["unpack", "--json"], ["unexpected argument '--json' found", "Usage: mimetool unpack"]),
+    ("a letter in capitals", ["field", "--Rename", "A:B"], ["unexpected argument '--Rename' found", "Usage: mimetool field"]),
+]
+
+# Words that stand where none is taken.
+SUPERFLUOUS = {"undo": "w", "redo": "w", "sections": "1", "extract": "1", "unpack": "n", "field": "A: 1"}
+
+# Options that exclude each other, of a command that has both.
+EXCLUDED = [
+    *[(command, ["--in-place", "f", "--from", "f"], ["--in-place <FILE>", "--from <FILE>"]) for command in IN_PLACE],
+    ("field", ["--in-place", "f", "-x", "A:"], ["--in-place <FILE>", "-x <NAME:>"]),
+    ("field", ["--in-place", "f", "-X", "A:"], ["--in-place <FILE>", "-X <NAME:>"]),
+    ("field", ["-s", "-x", "A:", "--in-place", "f"], ["--in-place <FILE>", "-x <NAME:>"]),
+]
+
+# Command lines of which a word isn't UTF-8.
+NO_TEXT = [
+    ["sections", "--from", b"\xff"], ["sections", b"--j\xffson"], [b"\xff"], ["edit", b"s\xff"], ["edit", "-e", b"add 1 A: \xe9"],
+    ["edit", "-e", "undo", b"\xff"], ["edit", "-e", "undo", "-j", b"\xff"], ["edit", "-e", "undo", "--in-place", b"\xff"],
+    ["undo", "-j", "j", "--in-place", b"f\xff"], ["extract", "-s", b"1.\xff"], ["unpack", "-C", b"\xc3"],
+    ["pack", "-b", b"\xff", "text/plain:f"], ["pack", "-b", "b", b"text/plain:\xff"], ["field", "-A", b"A: \xff"],
+    ["field", "--in-place", b"\xed\xa0\x80"],
+]
+
+
+def doubled():
+    """Each option given twice where it may be given once: the command, its words and the option."""
+    for command, options in OPTIONS.items():
+        for option, value in options.items():
+            word = option.split()[0]
+            if (command, word) != ("edit", "-e"):
+                needed = NEEDED[command] if word not in NEEDED[command] else NEEDED[command][2:]
+                yield command, [command, *needed, word, value, word, value], option
+    for command, flags in FLAGS.items():
+        for flag in flags:
+            yield command, [command, flag, flag], flag
+
+
+def said():
+    """All rows: what each shows, its words, and all that its errors have to hold."""
+    yield from SAID
+    for command in COMMANDS:
+        usage = f"Usage: mimetool {command}"
+        for option in ("-Z", "--no-such-option"):
+            yield f"an unknown option of {command}", [command, *NEEDED[command], option], [f"unexpected argument '{option}' found", usage]
+        if command in SUPERFLUOUS:
+            word = SUPERFLUOUS[command]
+            yield f"a superfluous word of {command}", [command, *NEEDED[command], word], [f"unexpected argument '{word}' found", usage]
+        for option in OPTIONS[command]:
+            words = [command, *NEEDED[command], option.split()[0]]
+            yield f"{option} of {command} without its value", words, [f"a value is required for '{option}' but none was supplied", usage]
+    for command in ("edit", "undo", "redo", "field"):
+        for option in ("-f", "-t"):
+            yield f"{option} of {command}", [command, *NEEDED[command], option], [f"unexpected argument '{option}' found", f"Usage: mimetool {command}"]
+    for command in ("sections", "extract", "unpack", "pack"):
+        yield (f"--in-place of {command}", [command, *NEEDED[command], "--in-place", "f"],
+               ["unexpected argument '--in-place' found", f"Usage: mimetool {command}"])
+    yield "--from of pack", ["pack", *NEEDED["pack"], "--from", "f"], ["unexpected argument '--from' found", "Usage: mimetool pack"]
+    for command, words, option in doubled():
+        yield f"{option} of {command} twice", words, [f"the argument '{option}' cannot be used multiple times", f"Usage: mimetool {command}"]
+    for command, words, options in EXCLUDED:
+        needed = [] if command == "field" else NEEDED[command]
+        yield (f"{' beside '.join(options)} of {command}", [command, *needed, *words],
+               ["cannot be used with", *options, f"Usage: mimetool {command}"])
+    for words, argument, value, takes in VALUES:
+        yield (f"{argument} with {value!r}", words,
+               [f"error: invalid value '{value}' for '{argument}': {takes}\n", f"Usage: mimetool {words[0]} "])
+    for letters in BESIDE:
+        yield f"letters {' '.join(letters)}", ["field", *letters], [f"error: {APART}\n", "Usage: mimetool field "]
