@@ -59,6 +59,7 @@ def check_fresh_names(program):
     program.ended("a fresh name that is taken", found, output=said("a.gif"), text=(b"1", read(folder, "a.gif")),
                   other=(b"kept", read(folder, ".a.gif.1.new")), files=([".a.gif.1.new", "a.gif"], names(folder)))
     for files in (["a.gif", "a.gif.1.new"], ["a.gif.1.new", "a.gif"]):
+        folder = program.folder()
         contents = {"a.gif": b"1", "a.gif.1.new": b"2"}
         found = program.run(["unpack", "-f"], folder, parts(**{name.replace(".", "_"): contents[name] for name in files}))
         program.ended("a fresh name in the message", found, output=said(*files), text=(b"1", read(folder, "a.gif")),

@@ -136,7 +136,7 @@ def said():
             yield f"a superfluous word of {command}", [command, *NEEDED[command], word], [f"unexpected argument '{word}' found", usage]
         for option in OPTIONS[command]:
             words = [command, *NEEDED[command], option.split()[0]]
-            yield f"{option} of {command} without its value", words, [f"a value is required for '{option}' but none was supplied", usage]
+            yield f"{option} of {command} without its value", words, [f"a value is required for '{option}' but none was supplied"]
     for command in ("edit", "undo", "redo", "field"):
         for option in ("-f", "-t"):
             yield f"{option} of {command}", [command, *NEEDED[command], option], [f"unexpected argument '{option}' found", f"Usage: mimetool {command}"]
