@@ -1,0 +1,111 @@
+"""The letters of `field`, and mailboxes."""
+
+from . import edits, fields, lines, session, tree, values
+
+EDITING = ("--rename", "-a", "-A", "-i", "-I", "-u", "-U")
+PRINTING = ("-x", "-X")
+
+
+def messages(text):
+    """A mailbox is cut before each From-line that directly follows an empty line (own)."""
+    found, before = [], None
+    for line in lines.cut(text):
+        if not found or (lines.is_from_line(line.content) and before == b""):
+            found.append([])
+        found[-1].append(line)
+        before = line.content
+    return [lines.printed(message) for message in found]
+
+
+def is_bare(field):
+    """A field is bare where only blanks stand behind its colon (own)."""
+    return field.partition(b":")[2].strip(b" \t") == b""
+
+
+def is_open_field(field):
+    """A given field is exactly one, and its last line has no ending (own)."""
+    return fields.is_one_field(field) and not lines.cut(field)[-1].ending
+
+
+def is_allowed_letter(letter, word):
+    """The value of a letter is a field, a name with its colon, or two names with one between them (own)."""
+    if letter == "--rename":
+        old, colon, new = word.partition(b":")
+        return bool(colon) and lines.is_name(old) and lines.is_name(new)
+    if letter in ("-u", "-U", "-x", "-X"):
+        return word.endswith(b":") and lines.is_name(word[:-1])
+    return is_open_field(word) and not (letter in ("-a", "-A") and is_bare(word))
+
+
+def are_allowed(letters):
+    """`-x` and `-X` stand alone, and each value is of its form (own)."""
+    printing = [letter for letter in letters if letter in PRINTING]
+    return not (printing and len(letters) > 1) and all(is_allowed_letter(*pair) for pair in letters.items())
+
+
+def head_of(history):
+    """The fields of the root as it is now (own)."""
+    return tree.document(history.text()).root.fields
+
+
+def rename_edits(head, word):
+    """Each field of the old name gets the new one (own)."""
+    old, _, new = word.partition(b":")
+    same = old.lower() == new.lower()
+    return [edits.Edit("ren", (1,), name=old, number=number if same else 1, new=new)
+            for number in range(1, len(fields.numbers(head, old)) + 1)]
+
+
+def letter_edits(letter, word, head, ending):
+    """The edits of one letter on the fields that are there (own)."""
+    name = word[:-1] if letter in ("-u", "-U") else lines.name_of(word)
+    there = fields.numbers(head, name)
+    adding = [edits.Edit("add", (1,), text=word + ending)]
+    last = [] if is_bare(word) else adding
+    if letter == "--rename":
+        return rename_edits(head, word)
+    if letter == "-a":
+        return [] if there else adding
+    if letter == "-A":
+        return adding
+    if letter == "-i":
+        return [edits.Edit("ren", (1,), name=name, number=1, new=b"Old-" + fields.name(head[at])) for at in there] + last
+    if letter == "-I":
+        return [edits.Edit("del", (1,), name=name, number=1)] * len(there) + last
+    return [edits.Edit("del", (1,), name=name, number=2 if letter == "-u" else 1)] * (len(there) - 1)
+
+
+def filtered(message, letters):
+    """A message after its letters, or as it came with the reason where an edit is refused (own): text, reason."""
+    history, ending = session.Session(message), lines.ending_of(message)
+    for letter in EDITING:
+        if letter in letters:
+            for edit in letter_edits(letter, letters[letter], head_of(history), ending):
+                reason = history.edit(edit)
+                if reason:
+                    return message, reason
+    return history.text(), None
+
+
+def shown(message, letters):
+    """`-X` prints fields of a name whole, `-x` what stands behind their colons (own)."""
+    found = b""
+    for letter, word in letters.items():
+        for field in tree.document(message).root.fields:
+            if fields.is_named(field, word[:-1]):
+                raw = lines.printed(field)
+                found += raw if letter == "-X" else raw.partition(b":")[2]
+    return found
+
+
+def run(text, letters, each):
+    """The whole input, or each message of a mailbox, goes through the letters (own): output, errors, status."""
+    output, errors = b"", b""
+    for number, message in enumerate(messages(text) if each else [text], 1):
+        if any(letter in PRINTING for letter in letters):
+            output += shown(message, letters)
+            continue
+        result, reason = filtered(message, letters)
+        output += result
+        errors += b"message %d: %s\n" % (number, reason.encode()) if reason else b""
+    return output, errors, 1 if errors else 0

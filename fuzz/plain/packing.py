@@ -1,0 +1,65 @@
+"""Messages that are built of fields and files."""
+
+from . import encodings, fields, lines, values
+
+MOST = 100
+
+
+def is_good_field(text):
+    """A field for a built message is one field, and none that the message gets anyway (RFC 2045, 3 and 4)."""
+    if not fields.is_one_field(text):
+        return False
+    name = lines.name_of(lines.cut(text)[0].content).lower()
+    return name != b"mime-version" and not name.startswith(b"content-")
+
+
+def is_good_type(media):
+    """A media type is token, `/`, token of at most 100 bytes, and no multipart or message (RFC 2045, 5.1; own)."""
+    main, slash, sub = media.partition(b"/")
+    form = bool(slash) and values.is_token(main) and values.is_token(sub)
+    return form and len(media) <= MOST and main.lower() not in (b"multipart", b"message")
+
+
+def is_good_name(name):
+    """A name is 1 to 100 bytes 32 to 126 without quote and backslash (own)."""
+    return 1 <= len(name) <= MOST and all(32 <= byte <= 126 and byte not in b'"\\' for byte in name)
+
+
+def refusal(given, parts, boundary):
+    """The first reason against a message: fields, types, names, the boundary, each by its least number (own)."""
+    tests = [("BadField", is_good_field, given), ("BadType", is_good_type, [media for media, _, _ in parts]),
+             ("BadName", is_good_name, [name for _, name, _ in parts])]
+    for reason, is_good, items in tests:
+        for number, item in enumerate(items):
+            if not is_good(item):
+                return "%s %d" % (reason, number)
+    return None if values.is_boundary(boundary) else "BadBoundary"
+
+
+def part(media, name, text, ending):
+    """A part has a type, a disposition, an encoding and the encoded bytes (RFC 2045, 5 and 6; RFC 2183)."""
+    is_text = media.partition(b"/")[0].lower() == b"text"
+    encode = encodings.quoted_printable_encoded if is_text else encodings.base64_encoded
+    head = [b'Content-Type: %s; name="%s"' % (media, name), b'Content-Disposition: attachment; filename="%s"' % name,
+            b"Content-Transfer-Encoding: " + (b"quoted-printable" if is_text else b"base64"), b""]
+    return b"".join(line + ending for line in head) + encode(text, ending)
+
+
+def built(given, parts, boundary, ending):
+    """The fields, those of a multipart, each part behind a delimiter, and the close line (RFC 2046, 5.1)."""
+    message = b"".join(field if field.endswith(b"\n") else field + ending for field in given)
+    message += b"MIME-Version: 1.0" + ending
+    message += b'Content-Type: multipart/mixed; boundary="%s"' % boundary + ending + ending
+    for media, name, text in parts:
+        message += b"--" + boundary + ending + part(media, name, text, ending) + ending
+    return message + b"--" + boundary + b"--" + ending
+
+
+def run(text, boundary, parts):
+    """The input gives the fields and the ending; all but one empty line behind them is refused (own): output, errors, status."""
+    head, _, body = fields.split(lines.cut(text))
+    given = [lines.printed(field) for field in head] + ([b""] if body else [])
+    reason = refusal(given, parts, boundary)
+    if reason:
+        return b"", b"pack: " + reason.encode() + b"\n", 1
+    return built(given, parts, boundary, lines.ending_of(text)), b"", 0

@@ -1,0 +1,134 @@
+"""The command line: which words mean what, and how a run ends."""
+
+from collections import namedtuple
+
+from . import letters, listing, names, packing, scripts
+
+Run = namedtuple("Run", "words message files")            # files: a dictionary of names and bytes
+Answer = namedtuple("Answer", "status output errors files loose", defaults=(False,))
+
+OPTIONS = {
+    b"sections": (b"--from",), b"extract": (b"-s", b"--from"), b"unpack": (b"-C", b"--from"),
+    b"field": (b"--rename", b"-a", b"-A", b"-i", b"-I", b"-u", b"-U", b"-x", b"-X", b"--from"),
+    b"edit": (b"-j", b"-e", b"--from"), b"undo": (b"-j", b"--from"), b"redo": (b"-j", b"--from"), b"pack": (b"-b",),
+}
+FLAGS = {b"unpack": (b"-f", b"-t", b"--silent"), b"field": (b"-s",)}
+NEEDED = {b"extract": b"-s", b"undo": b"-j", b"redo": b"-j", b"pack": b"-b"}
+
+
+class Usage(Exception):
+    """A command line that isn't of the program's form."""
+
+
+class ReadFault(Exception):
+    """A file that can't be read."""
+
+
+def asked(words):
+    """A command, options with a value, flags, and other words; an option but `-e` is given once (own)."""
+    command, waiting, found, others = words[0], list(words[1:]), {}, []
+    while waiting:
+        word = waiting.pop(0)
+        if word == b"--":
+            others, waiting = others + waiting, []
+        elif word in OPTIONS[command]:
+            if not waiting or (word in found and word != b"-e"):
+                raise Usage
+            found.setdefault(word, []).append(waiting.pop(0))
+        elif word in FLAGS.get(command, ()):
+            if word in found:
+                raise Usage
+            found[word] = True
+        elif word.startswith(b"-") and word != b"-":
+            raise Usage
+        else:
+            others.append(word)
+    if NEEDED.get(command, b"") not in found and command in NEEDED:
+        raise Usage
+    return command, {word: value[0] if isinstance(value, list) and word != b"-e" else value
+                     for word, value in found.items()}, others
+
+
+def file_of(files, name):
+    """A file that isn't there can't be read (own)."""
+    if name not in files:
+        raise ReadFault
+    return files[name]
+
+
+def run_letters(found, message):
+    """`field` takes its letters by the words of the command line (own)."""
+    given = {letter: found[letter.encode()] for letter in letters.EDITING + letters.PRINTING if letter.encode() in found}
+    if not letters.are_allowed(given):
+        raise Usage
+    return letters.run(message, given, b"-s" in found)
+
+
+def run_edit(command, found, others, message, files):
+    """`edit` takes a script from a file or the command line, `undo` and `redo` are scripts of one word (own)."""
+    journal = found.get(b"-j")
+    if command != b"edit":
+        script, pieces = command, []
+    elif b"-e" in found:
+        script, pieces = b"".join(line + b"\n" for line in found[b"-e"]), others
+    elif others:
+        script, pieces = file_of(files, others[0]), others[1:]
+    else:
+        raise Usage
+    given = [file_of(files, name) for name in pieces]
+    output, errors, status, left = scripts.run(message, script, given, files.get(journal), journal is not None)
+    return output, errors, status, {**files, journal: left} if left is not None else files
+
+
+def run_unpack(found, message, files):
+    """`unpack` writes below its folder; what else is there stays (own)."""
+    folder = found[b"-C"] + b"/" if b"-C" in found else b""
+    there = {name[len(folder):]: text for name, text in files.items()
+             if name.startswith(folder) and b"/" not in name[len(folder):]}
+    output, errors, status, left = names.unpack(message, there, b"-t" in found, b"-f" in found, b"--silent" in found)
+    return output, errors, status, {**files, **{folder + name: text for name, text in left.items()}}
+
+
+def run_pack(found, others, message, files):
+    """Each part is a type, a colon and a file, whose name is what follows its last slash (own)."""
+    specs = [word.partition(b":") for word in others]
+    if not specs or any(not colon for _, colon, _ in specs):
+        raise Usage
+    parts = [(media, name.split(b"/")[-1], file_of(files, name)) for media, _, name in specs]
+    return packing.run(message, found[b"-b"], parts)
+
+
+def obeyed(run):
+    """What a run prints, how it ends, and the files afterwards (own)."""
+    command, found, others = asked(run.words)
+    if command not in (b"edit", b"pack") and others:
+        raise Usage
+    if command == b"extract" and listing.path_of(found[b"-s"]) is None:
+        raise Usage
+    message = file_of(run.files, found[b"--from"]) if b"--from" in found else run.message
+    if command in (b"edit", b"undo", b"redo"):
+        return run_edit(command, found, others, message, run.files)
+    if command == b"unpack":
+        return run_unpack(found, message, run.files)
+    if command == b"sections":
+        plain = listing.listing(message), b"", 0
+    elif command == b"extract":
+        plain = listing.extract(message, found[b"-s"])
+    elif command == b"field":
+        plain = run_letters(found, message)
+    else:
+        plain = run_pack(found, others, message, run.files)
+    return *plain, run.files
+
+
+def answer(run):
+    """How a run ends; of a fault the errors end with its line, of a usage fault the status counts alone (own)."""
+    try:
+        for word in run.words:
+            word.decode()
+        output, errors, status, files = obeyed(run)
+    except (Usage, UnicodeDecodeError):
+        return Answer(2, b"", b"", run.files, True)
+    except ReadFault:
+        return Answer(3, b"", b"mimetool: read fault\n", run.files, True)
+    return Answer(status, output, errors, files)

@@ -1,0 +1,138 @@
+"""Scripts: their syntax, and what a run of one prints."""
+
+from dataclasses import replace
+
+from . import edits, journals, lines, listing, session
+
+PATH_NUMBERS = 101
+WORDS = {"add": 3, "top": 3, "del": 4, "ren": 5, "set": 5, "body": 3, "replace": 3, "insert": 4, "remove": 2, "wrap": 4}
+REST = ("add", "top", "set", "wrap")
+
+
+class Fault(Exception):
+    """A line that isn't of a script's form."""
+
+
+def path(word):
+    """A path in a script has at most 101 numbers (own)."""
+    found = listing.path_of(word)
+    if found is None or len(found) > PATH_NUMBERS:
+        raise Fault
+    return found
+
+
+def number(word, least=0):
+    """A number is 0 or has no leading zero, and is at most 4,294,967,295 (own)."""
+    if not listing.is_number(word, least):
+        raise Fault
+    return int(word)
+
+
+def piece(word, pieces):
+    """A piece is given by its number, from 1 to their count (own)."""
+    at = number(word, 1)
+    if at > len(pieces):
+        raise Fault
+    return pieces[at - 1]
+
+
+def word_of(given):
+    """A name, a new name or a subtype isn't empty (own)."""
+    if not given:
+        raise Fault
+    return given
+
+
+def parts_of(content):
+    """Words are parted by one space; the last of some is the rest of the line (own)."""
+    word = content.split(b" ")[0].decode("latin-1")
+    if word not in WORDS:
+        raise Fault
+    found = content.split(b" ", WORDS[word] - 1) if word in REST else content.split(b" ")
+    if len(found) != WORDS[word]:
+        raise Fault
+    return word, found[1:]
+
+
+def edit_of(content, pieces):
+    """A line that names an edit, without the ending of its field (own)."""
+    word, given = parts_of(content)
+    where = path(given[0])
+    if word in ("add", "top"):
+        return edits.Edit(word, where, text=given[1])
+    if word == "remove":
+        return edits.Edit(word, where)
+    if word in ("body", "replace"):
+        return edits.Edit(word, where, text=piece(given[1], pieces))
+    if word == "insert":
+        return edits.Edit(word, where, place=number(given[1]), text=piece(given[2], pieces))
+    if word == "wrap":
+        return edits.Edit(word, where, subtype=word_of(given[1]), boundary=given[2])
+    name, at = word_of(given[1]), number(given[2])
+    if word == "set":
+        return edits.Edit(word, where, name=name, number=at, text=given[3])
+    return edits.Edit(word, where, name=name, number=at, new=word_of(given[3]) if word == "ren" else b"")
+
+
+def step_of(content, pieces, inside):
+    """A line is a word alone or an edit; `begin`, `undo` and `redo` stand outside groups, `end` inside (own)."""
+    if content == b"end" if inside else content in (b"begin", b"undo", b"redo"):
+        return content.decode()
+    return edit_of(content, pieces)
+
+
+def parsed(script, pieces):
+    """The steps of a script, each with its line number, or the number of the first faulty line (own): steps, fault."""
+    steps, faults, begun = [], [], None
+    for at, line in enumerate(lines.cut(script), 1):
+        if line.content == b"" or line.content.startswith(b"#"):
+            continue
+        try:
+            step = step_of(line.content, pieces, begun is not None)
+        except Fault:
+            faults.append(at)
+            continue
+        begun = at if step == "begin" else None if step == "end" else begun
+        steps.append((at, step))
+    faults += [begun] if begun else []
+    return steps, min(faults) if faults else None
+
+
+def with_ending(edit, ending):
+    """A field of a script gets the ending of the text (own)."""
+    if edit.word not in ("add", "top", "set"):
+        return edit
+    return replace(edit, text=edit.text + ending)
+
+
+def obey(history, steps):
+    """The lines are done in turn; a refused one is reported and the run goes on (own): the error lines."""
+    errors, members = b"", None
+    for at, step in steps:
+        if step == "begin":
+            members = []
+        elif members is not None and step != "end":
+            members.append((at, with_ending(step, lines.ending_of(history.text()))))
+        else:
+            if step == "end":
+                refused = history.group([edit for _, edit in members])
+                at, reason = (members[refused[0]][0], refused[1]) if refused else (at, None)
+                members = None
+            else:
+                reason = (history.undo() if step == "undo" else history.redo() if step == "redo" else
+                          history.edit(with_ending(step, lines.ending_of(history.text()))))
+            errors += b"line %d: %s\n" % (at, reason.encode()) if reason else b""
+    return errors
+
+
+def run(message, script, pieces, journal=None, journaled=False):
+    """Syntax, journal, lines, message, journal, in this order (own): output, errors, status, journal."""
+    steps, fault = parsed(script, pieces)
+    if fault:
+        return b"", b"script: line %d: syntax\n" % fault, 2, journal
+    try:
+        history = session.Session(message) if journal is None else journals.loaded(message, journal)
+    except journals.Refused as reason:
+        return b"", b"journal: " + str(reason).encode() + b"\n", 1, journal
+    errors = obey(history, steps)
+    return history.text(), errors, 1 if errors else 0, journals.saved(history) if journaled else None
