@@ -4,6 +4,7 @@ mod calls;
 mod edits;
 mod letters;
 mod mailboxes;
+mod memory;
 
 use calls::{Call, check};
 use std::test::Fail;

@@ -207,19 +207,3 @@ fn each_byte_alone_in_quoted_printable(rt: HostRuntime) -> Result<(), Fail> {
     }
     Ok(())
 }
-
-// Below, each call gives its answer or says that memory ran out, whichever allocation is refused.
-
-#[test]
-fn qp_encode_gives_its_answer_or_memory(rt: HostRuntime) {
-    if let Ok(text) = qp_encode(rt.alloc(), b"-- \n", Ending::Lf) {
-        same(&rt, &text, b"=2D-=20\n", "a dash and a space");
-    }
-}
-
-#[test]
-fn b64_encode_gives_its_answer_or_memory(rt: HostRuntime) {
-    if let Ok(text) = b64_encode(rt.alloc(), b"hi", Ending::Lf) {
-        same(&rt, &text, b"aGk=", "two letters");
-    }
-}

@@ -172,31 +172,3 @@ gives: refused: UnknownEncoding
 fn other_encodings_are_unknown(rt: HostRuntime) -> Result<(), Fail> {
     check(&rt, rt.alloc(), Call::Decode, UNKNOWN)
 }
-
-// The call gives its answer or says that memory ran out, whichever allocation is refused.
-#[test]
-fn decode_gives_its_answer_or_memory(rt: HostRuntime) {
-    let rows: [(Encoding, &[u8], Option<&[u8]>, Option<CodeError>); 5] = [
-        (Encoding::Identity, b"a=", Some(b"a="), None),
-        (
-            Encoding::Qp,
-            b"=c3=A9 =\n =zz \n",
-            Some(b"\xc3\xa9  =zz\n"),
-            None,
-        ),
-        (Encoding::Base64, b"aG\n!k=zz", Some(b"hi"), None),
-        (Encoding::Base64, b"aGl=", None, Some(CodeError::BadBase64)),
-        (
-            Encoding::Other,
-            b"x",
-            None,
-            Some(CodeError::UnknownEncoding),
-        ),
-    ];
-    for (encoding, text, content, refusal) in rows {
-        match decode(rt.alloc(), encoding, text) {
-            Ok(bytes) => assert!(rt; content == Some(bytes.as_slice())),
-            Err(error) => assert!(rt; error == CodeError::Memory || Some(error) == refusal),
-        }
-    }
-}

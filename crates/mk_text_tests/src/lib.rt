@@ -12,6 +12,8 @@ mod headers;
 #[cfg(test)]
 mod lines;
 #[cfg(test)]
+mod memory;
+#[cfg(test)]
 mod types;
 #[cfg(test)]
 mod words;

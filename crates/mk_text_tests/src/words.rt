@@ -178,22 +178,3 @@ fn a_printable_text_of_200_bytes_stays(rt: HostRuntime) -> Result<(), Fail> {
     assert_eq!(rt; words_length(rt.alloc(), 201)?, 4 * 74 + 40);
     Ok(())
 }
-
-// Below, each call gives its answer or says that memory ran out, whichever allocation is refused.
-
-#[test]
-fn words_decode_gives_its_answer_or_memory(rt: HostRuntime) {
-    if let Ok(text) = words_decode(rt.alloc(), b"=?iso-8859-1?Q?caf=E9?= =?UTF-8?B?w6k=?= x") {
-        same(&rt, &text, b"caf\xc3\xa9\xc3\xa9 x", "two words");
-    }
-}
-
-#[test]
-fn words_encode_gives_its_answer_or_memory(rt: HostRuntime) {
-    if let Ok(value) = words_encode(rt.alloc(), "\u{e9}", Ending::Lf) {
-        same(&rt, &value, b"=?utf-8?B?w6k=?=", "a letter beyond ASCII");
-    }
-    if let Ok(value) = words_encode(rt.alloc(), "a b", Ending::Lf) {
-        same(&rt, &value, b"a b", "a printable text");
-    }
-}

@@ -1,12 +1,19 @@
-//! Runs in which an allocation may be refused: `rt try --test --fail-alloc N` refuses the N-th of
-//! each test. Each test then sees the defined answer, or runs out of memory with all as before.
+//! Runs in which a growth of memory is refused: each gives its defined answer, or runs out of memory and leaves a prefix of
+//! that, and then gives its answer when it is made again. `checks/refuse` runs each test here with each growth refused in turn.
+
+ghost use Rattle.std.specs.Prelude.{◌≡◌, true};
+ghost use Rattle.mk_mail.specs.LetterViews.{letters_of};
+ghost use Rattle.mk_mail.specs.Letters.{are_allowed};
 
 use super::devices::{Page, Text};
 use super::filtered::{FILTERED, MAILBOX};
 use super::letters::only;
 use super::shelf::Slot;
-use mk_mail::Attach;
-use mk_run::{Journal, Spec, Status, Stop, read_all, run_edit, run_field, run_pack, unpack};
+use mk_mail::{Attach, Letters};
+use mk_run::{
+    Journal, Spec, Status, Stop, read_all, run_edit, run_extract, run_field, run_pack,
+    run_sections, unpack,
+};
 use mk_script::{ScriptError, path, steps};
 use std::alloc::Global;
 use std::process::Abort;
@@ -68,11 +75,25 @@ fn memory_for_a_run(rt: HostRuntime) {
     let Ok(jout) = Page::new(alloc, SIZE) else {
         return;
     };
-    check_run(&rt, alloc, out, err, jout);
+    if check_run(&rt, alloc, out, err, jout) == Status::Memory {
+        let (out, err, jout) = (page(&rt, alloc), page(&rt, alloc), page(&rt, alloc));
+        assert_eq!(rt; check_run(&rt, alloc, out, err, jout), Status::Refused);
+    }
+}
+
+// A device, where there is memory again.
+fn page(rt: &impl Abort, alloc: Global) -> Page {
+    Page::new(alloc, SIZE).expect(rt, "memory")
 }
 
 // The run is the defined one, or it is given up when memory runs out.
-fn check_run(rt: &impl Abort, alloc: Global, mut out: Page, mut err: Page, mut jout: Page) {
+fn check_run(
+    rt: &impl Abort,
+    alloc: Global,
+    mut out: Page,
+    mut err: Page,
+    mut jout: Page,
+) -> Status {
     let pieces = Vec::new(alloc);
     let mut input = Text::new(MESSAGE, SIZE);
     let journal = Journal::New;
@@ -91,6 +112,7 @@ fn check_run(rt: &impl Abort, alloc: Global, mut out: Page, mut err: Page, mut j
         assert!(rt; out.is_finished());
         assert!(rt; jout.is_finished());
     }
+    status
 }
 
 const SPOILT: &[u8] =
@@ -109,11 +131,21 @@ fn memory_for_unpacking(rt: HostRuntime) {
     let Ok(dir) = Slot::new(alloc, SIZE) else {
         return;
     };
-    check_unpacking(&rt, alloc, out, err, dir);
+    if check_unpacking(&rt, alloc, out, err, dir) == Status::Memory {
+        let dir = Slot::new(alloc, SIZE).expect(&rt, "memory");
+        let (out, err) = (page(&rt, alloc), page(&rt, alloc));
+        assert_eq!(rt; check_unpacking(&rt, alloc, out, err, dir), Status::Refused);
+    }
 }
 
 // All is unpacked, or a front of it.
-fn check_unpacking(rt: &impl Abort, alloc: Global, mut out: Page, mut err: Page, mut dir: Slot) {
+fn check_unpacking(
+    rt: &impl Abort,
+    alloc: Global,
+    mut out: Page,
+    mut err: Page,
+    mut dir: Slot,
+) -> Status {
     let mut input = Text::new(SPOILT, SIZE);
     let status = unpack(
         alloc, &mut input, &mut out, &mut err, &mut dir, true, false, false,
@@ -128,6 +160,7 @@ fn check_unpacking(rt: &impl Abort, alloc: Global, mut out: Page, mut err: Page,
         assert_eq!(rt; err.bytes(), TOLD);
         assert!(rt; dir.file() == (b"x", b"hi"));
     }
+    status
 }
 
 const PICTURED: &[u8] =
@@ -143,15 +176,27 @@ fn memory_for_packing(rt: HostRuntime) {
         return;
     };
     match spec.attach(alloc, Vec::new(alloc)) {
-        Ok(part) => check_packing(&rt, alloc, out, err, part),
+        Ok(part) => {
+            let parts = [part];
+            if check_packing(&rt, alloc, out, err, &parts) == Status::Memory {
+                let (out, err) = (page(&rt, alloc), page(&rt, alloc));
+                assert_eq!(rt; check_packing(&rt, alloc, out, err, &parts), Status::Well);
+            }
+        }
         Err(_) => assert!(rt; spec.attach(alloc, Vec::new(alloc)).is_ok()),
     }
 }
 
 // The message goes out, or the run is given up when memory runs out.
-fn check_packing(rt: &impl Abort, alloc: Global, mut out: Page, mut err: Page, part: Attach) {
+fn check_packing(
+    rt: &impl Abort,
+    alloc: Global,
+    mut out: Page,
+    mut err: Page,
+    parts: &[Attach],
+) -> Status {
     let mut input = Text::new(b"A: b", SIZE);
-    let status = run_pack(alloc, &mut input, &mut out, &mut err, b"b", &[part]);
+    let status = run_pack(alloc, &mut input, &mut out, &mut err, b"b", parts);
     if status == Status::Memory {
         assert_eq!(rt; out.bytes(), b"".as_slice());
         assert!(rt; err.bytes().ends_with(b"mimetool: memory\n"));
@@ -160,6 +205,7 @@ fn check_packing(rt: &impl Abort, alloc: Global, mut out: Page, mut err: Page, p
         assert_eq!(rt; out.bytes(), PICTURED);
         assert_eq!(rt; err.bytes(), b"".as_slice());
     }
+    status
 }
 
 #[test]
@@ -168,19 +214,30 @@ fn memory_for_filtering(rt: HostRuntime) {
     let (Ok(out), Ok(err)) = (Page::new(alloc, SIZE), Page::new(alloc, SIZE)) else {
         return;
     };
-    check_filtering(&rt, alloc, out, err);
-}
-
-// All messages are filtered, or a front of them.
-fn check_filtering(rt: &impl Abort, alloc: Global, mut out: Page, mut err: Page) {
     let Ok(letters) = only(alloc, b"A: 9") else {
         return;
     };
-    if !letters.ok() {
-        return;
+    if letters.ok() && check_filtering(&rt, alloc, out, err, &letters) == Status::Memory {
+        let (out, err) = (page(&rt, alloc), page(&rt, alloc));
+        assert_eq!(rt;
+            check_filtering(&rt, alloc, out, err, &letters),
+            Status::Well
+        );
     }
+}
+
+// All messages are filtered, or a front of them.
+fn check_filtering(
+    rt: &impl Abort,
+    alloc: Global,
+    mut out: Page,
+    mut err: Page,
+    letters: &Letters,
+) -> Status
+    requires { are_allowed (letters_of letters.now) ≡ true }
+{
     let mut input = Text::new(MAILBOX, SIZE);
-    let status = run_field(alloc, &mut input, &mut out, &mut err, &letters, true);
+    let status = run_field(alloc, &mut input, &mut out, &mut err, letters, true);
     if status == Status::Memory {
         assert!(rt; FILTERED.starts_with(out.bytes()));
         assert_eq!(rt; err.bytes(), b"mimetool: memory\n".as_slice());
@@ -189,4 +246,60 @@ fn check_filtering(rt: &impl Abort, alloc: Global, mut out: Page, mut err: Page)
         assert_eq!(rt; out.bytes(), FILTERED);
         assert_eq!(rt; err.bytes(), b"".as_slice());
     }
+    status
+}
+
+const LISTING: &[u8] =
+    b"1 multi multipart/mixed identity 0 52 69 2 4\n1.1 leaf text/plain identity 58 59 61 0 1\n";
+
+#[test]
+fn memory_for_sections(rt: HostRuntime) {
+    let alloc = rt.alloc();
+    let (Ok(out), Ok(err)) = (Page::new(alloc, SIZE), Page::new(alloc, SIZE)) else {
+        return;
+    };
+    if check_sections(&rt, alloc, out, err) == Status::Memory {
+        let (out, err) = (page(&rt, alloc), page(&rt, alloc));
+        assert_eq!(rt; check_sections(&rt, alloc, out, err), Status::Well);
+    }
+}
+
+// The sections are listed, or nothing is.
+fn check_sections(rt: &impl Abort, alloc: Global, mut out: Page, mut err: Page) -> Status {
+    let mut input = Text::new(MESSAGE, SIZE);
+    let status = run_sections(alloc, &mut input, &mut out, &mut err);
+    check_shown(rt, status, &out, &err, LISTING);
+    status
+}
+
+// All of an answer went out, or memory ran out and nothing did.
+fn check_shown(rt: &impl Abort, status: Status, out: &Page, err: &Page, answer: &[u8]) {
+    if status == Status::Memory {
+        assert_eq!(rt; out.bytes(), b"".as_slice());
+        assert_eq!(rt; err.bytes(), b"mimetool: memory\n".as_slice());
+    } else {
+        assert_eq!(rt; status, Status::Well);
+        assert_eq!(rt; out.bytes(), answer);
+        assert_eq!(rt; err.bytes(), b"".as_slice());
+    }
+}
+
+#[test]
+fn memory_for_extracting(rt: HostRuntime) {
+    let alloc = rt.alloc();
+    let (Ok(out), Ok(err)) = (Page::new(alloc, SIZE), Page::new(alloc, SIZE)) else {
+        return;
+    };
+    if check_extracting(&rt, alloc, out, err) == Status::Memory {
+        let (out, err) = (page(&rt, alloc), page(&rt, alloc));
+        assert_eq!(rt; check_extracting(&rt, alloc, out, err), Status::Well);
+    }
+}
+
+// The content is given, or nothing is.
+fn check_extracting(rt: &impl Abort, alloc: Global, mut out: Page, mut err: Page) -> Status {
+    let mut input = Text::new(MESSAGE, SIZE);
+    let status = run_extract(alloc, &mut input, &mut out, &mut err, &[1, 1]);
+    check_shown(rt, status, &out, &err, b"x");
+    status
 }
