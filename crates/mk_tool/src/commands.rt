@@ -29,8 +29,7 @@ const UNDO_SCRIPT: &[u8] = b"undo\n";
 const REDO_SCRIPT: &[u8] = b"redo\n";
 
 /// What is said of an edit without lines.
-const NO_SCRIPT: &str =
-    "write a SCRIPT, the file with the lines, or the lines themselves, each after -e";
+const NO_SCRIPT: &str = "give a SCRIPT, or its lines, each after -e";
 
 /// Runs a subcommand.
 pub fn run_command<R: Files<File = File> + AllocGlobal, S: Source, O: Sink, E: Sink>(

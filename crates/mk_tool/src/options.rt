@@ -136,7 +136,7 @@ fn in_place<'a>(alloc: Global) -> Result<Arg<'a>, AllocError> {
     Arg::new(alloc, IN_PLACE)
         .long("in-place")
         .value_name("FILE")
-        .help("Read the message from FILE, and put what becomes of it in the place of FILE")
+        .help("Read the message from FILE, and replace FILE by the result")
         .allow_hyphen_values(true)
         .action(ArgAction::Set)
         .conflicts_with(FROM)
@@ -145,7 +145,7 @@ fn in_place<'a>(alloc: Global) -> Result<Arg<'a>, AllocError> {
 // mimetool sections [--json]
 fn sections_command<'a>(alloc: Global) -> Result<Command<'a>, AllocError> {
     Command::new(alloc, SECTIONS)
-        .about("Lists the sections of the message, a line each")
+        .about("Lists the sections of the message, one a line")
         .after_help(
             "Examples:\n  mimetool sections < message\n  mimetool sections --json --from message",
         )
@@ -162,7 +162,7 @@ fn extract_command<'a>(alloc: Global) -> Result<Command<'a>, AllocError> {
         .allow_hyphen_values(true)
         .action(ArgAction::Set);
     Command::new(alloc, EXTRACT)
-        .about("Prints the content of a section, decoded where it has no sections below it")
+        .about("Prints the content of a section, decoded if no sections are below it")
         .after_help(
             "Examples:\n  mimetool extract -s 1.2 < message > picture.gif\n  mimetool extract -s 1 --from message",
         )
@@ -174,16 +174,16 @@ fn extract_command<'a>(alloc: Global) -> Result<Command<'a>, AllocError> {
 fn unpack_command<'a>(alloc: Global) -> Result<Command<'a>, AllocError> {
     let dir = Arg::new(alloc, DIR)
         .short('C')
-        .help("The folder to write to; it is made where it isn't there")
+        .help("The folder to write to; it is created if it doesn't exist")
         .allow_hyphen_values(true)
         .action(ArgAction::Set);
     Command::new(alloc, UNPACK)
-        .about("Writes the contents of the leaves into files, and prints their names and types")
+        .about("Writes the contents of the leaves to files, and prints their names and types")
         .after_help(
             "Examples:\n  mimetool unpack -C attachments < message\n  mimetool unpack -t -f --from message",
         )
         .arg(from(alloc))?
-        .arg(flag(alloc, OVER, "Write over files that are there").short('f'))?
+        .arg(flag(alloc, OVER, "Overwrite existing files").short('f'))?
         .arg(flag(alloc, TEXTS, "Write texts without a name too").short('t'))?
         .arg(flag(alloc, SILENT, "Print no names").long(SILENT))?
         .arg(dir)
@@ -193,18 +193,16 @@ fn unpack_command<'a>(alloc: Global) -> Result<Command<'a>, AllocError> {
 fn pack_command<'a>(alloc: Global) -> Result<Command<'a>, AllocError> {
     let boundary = Arg::new(alloc, BOUNDARY)
         .short('b')
-        .help("The boundary between the parts, as =_b")
+        .help("The boundary between the parts, such as =_b")
         .required(true)
         .allow_hyphen_values(true)
         .action(ArgAction::Set);
     let specs = Arg::new(alloc, SPEC)
-        .help("The parts, each as TYPE:FILE, as image/gif:dot.gif")
+        .help("The parts, each as TYPE:FILE, such as image/gif:dot.gif")
         .required(true)
         .action(ArgAction::Append);
     Command::new(alloc, PACK)
-        .about(
-            "Builds a multipart of files after the fields that come from standard input, and prints it",
-        )
+        .about("Builds a multipart from files, after the fields on standard input, and prints it")
         .after_help(
             "Examples:\n  mimetool pack -b =_b text/plain:letter image/gif:dot.gif < fields\n  printf 'Subject: report\\n' | mimetool pack -b =_b application/pdf:report.pdf",
         )
@@ -218,7 +216,7 @@ fn field_command<'a>(alloc: Global) -> Result<Command<'a>, AllocError> {
     let each = flag(
         alloc,
         EACH,
-        "Take the input as a mailbox, message by message",
+        "Treat the input as a mailbox, message by message",
     )
     .short('s');
     Command::new(alloc, FIELD)
@@ -237,7 +235,7 @@ fn field_command<'a>(alloc: Global) -> Result<Command<'a>, AllocError> {
             alloc,
             ADD_IF,
             A_FIELD,
-            "Add FIELD, unless one of its name is there",
+            "Add FIELD if there is no field of its name",
         )
         .short('a'))?
         .arg(letter(alloc, ADD, A_FIELD, "Add FIELD").short('A'))?
@@ -245,19 +243,19 @@ fn field_command<'a>(alloc: Global) -> Result<Command<'a>, AllocError> {
             alloc,
             PREFIXED,
             A_FIELD,
-            "Add FIELD, and put Old- before the others of its name",
+            "Put Old- before the fields of its name, and add FIELD; a name and a colon alone add none",
         )
         .short('i'))?
         .arg(letter(
             alloc,
             ONLY,
             A_FIELD,
-            "Put FIELD in the place of those of its name",
+            "Remove the fields of its name, and add FIELD; a name and a colon alone add none",
         )
         .short('I'))?
-        .arg(letter(alloc, FIRST, A_NAME, "Keep the first field NAME").short('u'))?
-        .arg(letter(alloc, LAST, A_NAME, "Keep the last field NAME").short('U'))?
-        .arg(letter(alloc, TAKE, A_NAME, "Print what the fields NAME hold").short('x'))?
+        .arg(letter(alloc, FIRST, A_NAME, "Keep only the first field NAME").short('u'))?
+        .arg(letter(alloc, LAST, A_NAME, "Keep only the last field NAME").short('U'))?
+        .arg(letter(alloc, TAKE, A_NAME, "Print the values of the fields NAME").short('x'))?
         .arg(letter(alloc, WHOLE, A_NAME, "Print the fields NAME").short('X'))?
         .arg(each)
 }
@@ -279,7 +277,7 @@ fn flag<'a>(alloc: Global, name: &'a str, help: &'a str) -> Arg<'a> {
 // mimetool undo -j JOURNAL
 fn undo_command<'a>(alloc: Global) -> Result<Command<'a>, AllocError> {
     Command::new(alloc, UNDO)
-        .about("Takes back the last step of an earlier edit, and prints the message")
+        .about("Undoes the last step of an earlier edit, and prints the message")
         .after_help(
             "Examples:\n  mimetool undo -j journal < edited > message\n  mimetool undo -j journal --in-place edited",
         )
@@ -291,7 +289,7 @@ fn undo_command<'a>(alloc: Global) -> Result<Command<'a>, AllocError> {
 // mimetool redo -j JOURNAL
 fn redo_command<'a>(alloc: Global) -> Result<Command<'a>, AllocError> {
     Command::new(alloc, REDO)
-        .about("Makes again the last step that was taken back, and prints the message")
+        .about("Redoes the last step that was undone, and prints the message")
         .after_help(
             "Examples:\n  mimetool redo -j journal < message > edited\n  mimetool redo -j journal --in-place message",
         )
@@ -303,7 +301,7 @@ fn redo_command<'a>(alloc: Global) -> Result<Command<'a>, AllocError> {
 fn journal<'a>(alloc: Global) -> Arg<'a> {
     Arg::new(alloc, JOURNAL)
         .short('j')
-        .help("The file that keeps the steps for later runs; it is made where it isn't there")
+        .help("The file that keeps the steps for later runs; it is created if it doesn't exist")
         .allow_hyphen_values(true)
         .action(ArgAction::Set)
 }
@@ -313,20 +311,20 @@ fn edit_command<'a>(alloc: Global) -> Result<Command<'a>, AllocError> {
     let line = Arg::new(alloc, LINE)
         .short('e')
         .help(
-            "A line of the script, in place of SCRIPT; may be given more than once, and every other word is a PIECE then",
+            "A line of the script, in place of SCRIPT; may be given more than once. Every other word is then a PIECE",
         )
         .allow_hyphen_values(true)
         .action(ArgAction::Append);
     let script = Arg::new(alloc, SCRIPT)
         .help(
-            "The file with the script: one word a line, as `add 1 Subject: hello`, `del 1 Subject 2` or `undo`",
+            "The file with the script: one edit a line, such as `add 1 Subject: hello`, `del 1 Subject 2` or `undo`",
         )
         .action(ArgAction::Set);
     let pieces = Arg::new(alloc, PIECE)
-        .help("Files that the script names by their place, from 1 on")
+        .help("Files that the script names by number, from 1 on")
         .action(ArgAction::Append);
     Command::new(alloc, EDIT)
-        .about("Edits the message by the words of a script, and prints it")
+        .about("Edits the message by the lines of a script, and prints it")
         .after_help(
             "Examples:\n  mimetool edit -e 'add 1 X-Seen: yes' < message > edited\n  mimetool edit -j journal script part --in-place message",
         )

@@ -130,7 +130,7 @@ const SENTENCES: [(&[&str], &str); 16] = [
     ),
     (
         &["edit"],
-        "error: write a SCRIPT, the file with the lines, or the lines themselves, each after -e\n",
+        "error: give a SCRIPT, or its lines, each after -e\n",
     ),
     (
         &["undo"],
