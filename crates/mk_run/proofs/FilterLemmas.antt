@@ -23,18 +23,16 @@ use Rattle.mk_mail.specs.Letters.{PlainLetters, edits_of}
 use Rattle.mk_mailbox.specs.Mailboxes.{FitsReads, IsNextPiece, IsOver, chunk_bytes}
 use Rattle.mk_mailbox.specs.Pieces.{mailbox_pieces}
 use Rattle.mk_mail.proofs.FieldNames.{root_fields}
-use Rattle.mk_run.specs.declared.status.Status.TheVariants.{Well, Refused}
-use Rattle.mk_run.specs.declared.status.Cause.{Cause}
-use Rattle.mk_run.specs.declared.status.Cause.TheVariants.{Read, Write, Memory}
-use Rattle.mk_run.specs.declared.transfer.Stop.{Stop}
-use Rattle.mk_run.specs.declared.transfer.Stop.TheVariants.{Fault as Stopped, Memory as Wanting}
+use Rattle.mk_transfer.specs.declared.status.Status.TheVariants.{Well, Refused}
+use Rattle.mk_transfer.specs.declared.status.Cause.{Cause}
+use Rattle.mk_transfer.specs.declared.status.Cause.TheVariants.{Read, Write, Memory}
+use Rattle.mk_transfer.specs.declared.transfer.Stop.{Stop}
+use Rattle.mk_transfer.specs.declared.transfer.Stop.TheVariants.{Fault as Stopped, Memory as Wanting}
 use Rattle.mk_run.specs.FilterClauses.{Filters, IsBroken, IsEdited, IsFiltered, IsReason, SaysAll, SaysSome}
 use Rattle.mk_run.specs.Filtering.{given_by, message_line, report_of, said_from, said_of, said_of_edits, said_or}
-use Rattle.mk_run.specs.RunClauses.{Held, IsSent, IsStopped, cause_line, cause_of_writing, held, status_of}
-use Rattle.mk_run.specs.Shown.{shown}
-use Rattle.mk_run.specs.Unpacking.{Said, said_behind, silence}
-use Rattle.mk_run.proofs.Fronts.{AppendsFront-behind, not-is_nil-append}
-use Rattle.mk_run.proofs.RunLemmas.{AppendsFront-none, AppendsFront-whole}
+use Rattle.mk_transfer.specs.RunClauses.{Held, IsSent, IsStopped, cause_line, cause_of_writing, held, status_of}
+use Rattle.mk_transfer.specs.Said.{shown, Said, said_behind, silence}
+use Rattle.mk_transfer.proofs.Fronts.{AppendsFront-behind, not-is_nil-append, AppendsFront-none, AppendsFront-whole}
 
 -- ---- what is said of messages, one after another
 
@@ -312,10 +310,6 @@ given_begun f name text held head fields e h g =
 
 pub no_silence : {A : Type 0} → true ≡ false → A
 no_silence e = cc
-
-pub not_reading : {A : Type 0} (stop : Stop) (cause : Cause) → cause ≡ cause_of_writing stop → cause ≡ Read → A
-not_reading Stopped cause e r = cc
-not_reading Wanting cause e r = cc
 
 some_line : (t : Bool) → true ≡ not t → (if t then Well else Refused) ≡ Refused
 some_line true h = cc

@@ -10,34 +10,20 @@ use Rattle.mk_edit.specs.declared.errors.LoadError.{LoadError}
 use Rattle.mk_edit.specs.declared.errors.LoadError.TheVariants.{JournalSyntax as SyntaxIn, JournalOther as OtherIn, JournalMismatch as MismatchIn, Memory as MemoryIn}
 use Rattle.mk_edit.specs.Saving.{JournalRefusal, JournalSyntax, JournalOther, JournalMismatch}
 use Rattle.mk_mailbox.specs.Devices.{AppendsFront, Rose}
-use Rattle.mk_run.specs.declared.status.Status.{Status}
-use Rattle.mk_run.specs.declared.status.Status.TheVariants.{Well, Refused}
-use Rattle.mk_run.specs.declared.status.Cause.{Cause}
-use Rattle.mk_run.specs.declared.status.Cause.TheVariants.{Read, Write, Memory}
-use Rattle.mk_run.specs.declared.transfer.Stop.{Stop}
-use Rattle.mk_run.specs.declared.transfer.Stop.TheVariants.{Fault as Stopped, Memory as Wanting}
+use Rattle.mk_transfer.specs.declared.status.Status.{Status}
+use Rattle.mk_transfer.specs.declared.status.Status.TheVariants.{Well, Refused}
+use Rattle.mk_transfer.specs.declared.status.Cause.{Cause}
+use Rattle.mk_transfer.specs.declared.status.Cause.TheVariants.{Read, Write, Memory}
+use Rattle.mk_transfer.specs.declared.transfer.Stop.{Stop}
+use Rattle.mk_transfer.specs.declared.transfer.Stop.TheVariants.{Fault as Stopped, Memory as Wanting}
 use Rattle.mk_script.specs.ScriptSteps.{ScriptStep}
 use Rattle.mk_run.specs.Journaling.{Journaling, begun, named_by}
 use Rattle.mk_run.specs.JournalRuns.{IsBlamedFor, LeavesJournal, LeavesJournalSoFar, Prints}
-use Rattle.mk_run.specs.Runs.{Run, ScriptRun, run_from, errors_of}
-use Rattle.mk_run.specs.RunClauses.{Held, Counts, Leaves, LeavesSoFar, cause_line, cause_of_writing, ends_itself, status_of}
+use Rattle.mk_transfer.specs.Said.{Run}
+use Rattle.mk_run.specs.Runs.{ScriptRun, run_from, errors_of}
+use Rattle.mk_transfer.specs.RunClauses.{Held, Counts, Leaves, LeavesSoFar, cause_line, cause_of_writing, ends_itself, status_of}
 use Rattle.mk_run.specs.inner.Keeping.{says_memory}
 use Rattle.mk_run.specs.inner.Sessions.{LeavesSession, Sunk, sunk}
-
--- where nothing went out, a front did
-pub AppendsFront-none : (known : Option (List ℕ)) (bytes : List ℕ) → AppendsFront known known bytes
-AppendsFront-none known bytes = ([], bytes, refl, Appends-nil known)
-
--- bytes that went out after a call that wrote nothing
-Keeps-Appends : (old mid new : Option (List ℕ)) (bytes : List ℕ) → Keeps old mid → Appends mid new bytes → Appends old new bytes
-Keeps-Appends None mid new bytes k a = tt
-Keeps-Appends (Some x) None new bytes k a = absurd k
-Keeps-Appends (Some x) (Some y) None bytes k a = absurd a
-Keeps-Appends (Some x) (Some y) (Some z) bytes k a = a ∙ ap (λ l. l ++ bytes) k
-
--- a front that went out after a call that wrote nothing
-pub AppendsFront-kept : (old mid new : Option (List ℕ)) (bytes : List ℕ) → Keeps old mid → AppendsFront mid new bytes → AppendsFront old new bytes
-AppendsFront-kept old mid new bytes k a = (a.0, a.1, a.2, Keeps-Appends old mid new a.0 k a.3)
 
 -- the status where no error line went out, and where one did
 pub status_at : (errors : List ℕ) (refused : Bool) (status : Status) → refused ≡ not (is_nil errors) → status ≡ (if refused then Refused else Well)
@@ -46,10 +32,6 @@ status_at errors refused status r s = elim (cases_Bool (is_nil errors)) [
   | inl t ↦ rw t (let no_line : refused ≡ false = rw t at r in rw no_line at s)
   | inr f ↦ rw f (let line : refused ≡ true = rw f at r in rw line at s)
 ]
-
--- where all went out, a front did
-pub AppendsFront-whole : (old new : Option (List ℕ)) (bytes : List ℕ) → Appends old new bytes → AppendsFront old new bytes
-AppendsFront-whole old new bytes h = (bytes, [], sym (append-nil bytes), h)
 
 -- what the steps on a session left, in a run that read its whole input
 pub Leaves-session : (result : Result Status Cause) (pieces : List (List ℕ)) (steps : List ScriptStep) (journaling : Journaling) (h : History) (before after : Held) (kept left : Option (List ℕ)) (finished : Bool)
@@ -102,20 +84,6 @@ named_reason (SyntaxIn offset) e = (JournalSyntax offset, refl)
 named_reason OtherIn e = (JournalOther, refl)
 named_reason (MismatchIn entry) e = (JournalMismatch entry, refl)
 named_reason MemoryIn e = absurd (cc)
-
--- what was left before the line that says why a run is given up, and that line
-pub Leaves-given_up : (cause : Cause) (run : Run) (before after : Held) (between : Option (List ℕ))
-    → AppendsFront before.output after.output run.output → AppendsFront before.errors between run.errors → AppendsFront between after.errors (cause_line cause)
-    → (cause ≡ Read → Keeps before.output after.output)
-    → Leaves (status_of cause) run before after
-Leaves-given_up Read run before after between output errors line silent = record { output = output; cause = Read; status_is = refl; between = between; errors = errors; line = line; silent = silent }
-Leaves-given_up Write run before after between output errors line silent = record { output = output; cause = Write; status_is = refl; between = between; errors = errors; line = line; silent = silent }
-Leaves-given_up Memory run before after between output errors line silent = record { output = output; cause = Memory; status_is = refl; between = between; errors = errors; line = line; silent = silent }
-
--- no cause of writing is one of reading
-pub writing-not_read : (stop : Stop) → cause_of_writing stop ≡ Read → ⊥
-writing-not_read Stopped e = cc
-writing-not_read Wanting e = cc
 
 -- what was left of the journal where a run is given up
 pub LeavesJournal-given_up : (cause : Cause) (script : ScriptRun) (before after : Held) (kept left : Option (List ℕ)) (finished : Bool)

@@ -8,14 +8,13 @@ use Rattle.mk_edit.specs.Groups.{Together}
 use Rattle.mk_mailbox.specs.Devices.{AppendsFront}
 use Rattle.mk_mail.specs.Filtered.{filtered, outcome}
 use Rattle.mk_mail.specs.Letters.{PlainLetters}
-use Rattle.mk_run.specs.declared.status.Status.{Status}
-use Rattle.mk_run.specs.declared.status.Status.TheVariants.{Well, Refused, Usage, Fault, Memory}
-use Rattle.mk_run.specs.declared.status.Cause.{Cause}
-use Rattle.mk_run.specs.declared.status.Cause.TheVariants.{Read}
+use Rattle.mk_transfer.specs.declared.status.Status.{Status}
+use Rattle.mk_transfer.specs.declared.status.Status.TheVariants.{Well, Refused, Usage, Fault, Memory}
+use Rattle.mk_transfer.specs.declared.status.Cause.{Cause}
+use Rattle.mk_transfer.specs.declared.status.Cause.TheVariants.{Read}
 use Rattle.mk_run.specs.Filtering.{field_run, messages_of, said_from}
-use Rattle.mk_run.specs.RunClauses.{Held, IsDone, cause_line, status_of}
-use Rattle.mk_run.specs.Runs.{Run}
-use Rattle.mk_run.specs.Unpacking.{Said}
+use Rattle.mk_transfer.specs.RunClauses.{Held, IsDone, cause_line, status_of}
+use Rattle.mk_transfer.specs.Said.{Run, Said}
 
 -- the run was given up: a front of the output and of the errors went out, and then a front of the line that says why; where
 -- reading failed nothing went to the output, unless the messages go out one by one

@@ -12,9 +12,7 @@ use Rattle.mk_mail.specs.Letters.{PlainLetters, root_path}
 use Rattle.mk_mailbox.specs.Pieces.{mailbox_pieces}
 use Rattle.mk_script.specs.Paths.{parted}
 use Rattle.mk_run.specs.Reports.{behind_name, reason_name}
-use Rattle.mk_run.specs.Runs.{Run}
-use Rattle.mk_run.specs.Shown.{shown}
-use Rattle.mk_run.specs.Unpacking.{Said, said_behind, silence}
+use Rattle.mk_transfer.specs.Said.{Run, shown, Said, said_behind, silence}
 
 -- the fields of a message that have a name
 abbrev pub fields_named : List ℕ → List ℕ → List FieldText

@@ -2,15 +2,15 @@
 use Rattle.std.specs.Prelude.{◌≡◌, ◌≢◌, ◌⊎◌, ℕ, Bool, true, List, [], Option, Result, Ok, Err}
 use Rattle.std.specs.Io.KnownBytes.{Appends, Consumes, Keeps}
 use Rattle.mk_mailbox.specs.Devices.{AppendsFront, Rose}
-use Rattle.mk_run.specs.declared.status.Status.{Status}
-use Rattle.mk_run.specs.declared.status.Status.TheVariants.{Well, Refused, Usage, Fault, Memory}
-use Rattle.mk_run.specs.declared.status.Cause.{Cause}
-use Rattle.mk_run.specs.declared.status.Cause.TheVariants.{Read, Write, Memory as NoMemory}
+use Rattle.mk_transfer.specs.declared.status.Status.{Status}
+use Rattle.mk_transfer.specs.declared.status.Status.TheVariants.{Well, Refused, Usage, Fault, Memory}
+use Rattle.mk_transfer.specs.declared.status.Cause.{Cause}
+use Rattle.mk_transfer.specs.declared.status.Cause.TheVariants.{Read, Write, Memory as NoMemory}
 use Rattle.mk_edit.specs.History.{History}
 use Rattle.mk_edit.specs.Saving.{JournalRefusal}
 use Rattle.mk_run.specs.Journaling.{Journaling, begun}
 use Rattle.mk_run.specs.Runs.{ScriptRun, run_of, run_steps}
-use Rattle.mk_run.specs.RunClauses.{Held, Counts, Leaves, LeavesSoFar, ReadFailed, WriteFailed}
+use Rattle.mk_transfer.specs.RunClauses.{Held, Counts, Leaves, LeavesSoFar, ReadFailed, WriteFailed}
 use Rattle.mk_script.specs.ScriptSteps.{ScriptStep}
 
 -- a front of the journal went out, and a byte of it only once the whole output had gone out

@@ -1,15 +1,7 @@
 pub mod Reports
-pub mod RunClauses
 pub mod Journaling
 pub mod JournalRuns
 pub mod Runs
-pub mod Statuses
-pub mod Shown
-pub mod Folders
-pub mod Unpacking
-pub mod UnpackClauses
-pub mod Packing
-pub mod Parts
 pub mod Filtering
 pub mod Asked
 pub mod FilterClauses

@@ -7,8 +7,8 @@ use Rattle.mk_edit.specs.History.{History}
 use Rattle.mk_edit.specs.Histories.{text_now, step, left_by}
 use Rattle.mk_edit.specs.Saving.{JournalRefusal}
 use Rattle.mk_decide.specs.Edits.{Order, Do, Group, Undo, Redo, PlainEdit, AddField, RemoveField, RenameField, SetField, SetBody, SetSection, InsertPart, RemovePart, Wrap, path_of, Refusal, Member}
-use Rattle.mk_run.specs.declared.status.Status.{Status}
-use Rattle.mk_run.specs.declared.status.Status.TheVariants.{Well, Refused, Usage}
+use Rattle.mk_transfer.specs.declared.status.Status.{Status}
+use Rattle.mk_transfer.specs.declared.status.Status.TheVariants.{Well, Refused, Usage}
 use Rattle.mk_run.specs.Journaling.{Journaling, begun, journal_line, left_journal}
 use Rattle.mk_run.specs.Reports.{error_line, syntax_line}
 use Rattle.mk_script.specs.Script.{ScriptWord, Adds, Deletes, Renames, Sets, Bodies, Replaces, Inserts, Removes, Wraps}
@@ -93,12 +93,6 @@ history_after pieces (s ∷ ss) h = history_after pieces ss (left_by h (outcome_
 abbrev pub errors_of : List (List ℕ) → List ScriptStep → History → List ℕ
 errors_of pieces [] h = []
 errors_of pieces (s ∷ ss) h = reported pieces s h ++ errors_of pieces ss (left_by h (outcome_of pieces s h))
-
--- what a run writes to the output and to the errors, and its status
-pub record Run : Type 0 where
-  pub output : List ℕ
-  pub errors : List ℕ
-  pub status : Status
 
 -- a run of a script, and the journal that it leaves
 pub record ScriptRun : Type 0 where

@@ -1,6 +1,6 @@
 //! The run of a script on a message, over any devices.
 
-ghost use Rattle.std.specs.Prelude.{◌≡◌, ◌≢◌, ◌≤◌, ◌⊎◌, true, false, [], length, map, Ok, IfOk, IfErr, OnOk, OnErr};
+ghost use Rattle.std.specs.Prelude.{◌≡◌, ◌≢◌, ◌⊎◌, true, false, [], length, map, Ok, IfOk, IfErr, OnOk, OnErr};
 ghost use Rattle.std.specs.Io.KnownBytes.{Appends, Keeps};
 ghost use Rattle.mk_mailbox.specs.Devices.{AppendsFront, Rose};
 ghost use Rattle.mk_script.specs.ScriptSteps.{script_of};
@@ -8,18 +8,17 @@ ghost use Rattle.mk_script.specs.ScriptViews.{step_by, texts_of};
 ghost use Rattle.mk_run.specs.Journaling.{journaling_of};
 ghost use Rattle.mk_run.specs.JournalRuns.{IsBlamedFor, LeavesRun, LeavesSteps, Prints, SinkFailed};
 ghost use Rattle.mk_run.specs.Runs.{run_from};
-ghost use Rattle.mk_run.specs.RunClauses.{held, counts, SameFailures, ReadFailed, cause_line as line_of, cause_of_reading, cause_of_writing, status_of as status_for, ends_itself};
+ghost use Rattle.mk_transfer.specs.RunClauses.{held, counts, SameFailures, ReadFailed, ends_itself};
 ghost use Rattle.mk_run.specs.inner.Keeping.{bytes_kept};
 ghost use Rattle.mk_run.specs.inner.Sessions.{LeavesSession, sunk};
 
 use crate::journaling::{Journal, begin, is_memory, journal_of};
-use crate::report::{cause_line, report_journal, report_syntax};
-use crate::status::{Cause, Status};
+use crate::report::{report_journal, report_syntax};
 use crate::steps::do_steps;
-use crate::transfer::{Stop, finish, read_all, send, write_all};
 use mk_edit::Session;
 use mk_mail::{Sink, Source};
 use mk_script::{ScriptError, Step, steps};
+use mk_transfer::{Cause, Status, Stop, finish, give_up, read_all, reading, send, writing};
 use std::alloc::{AllocError, Global};
 
 /// Edits the message that the input gives by the steps of a script, and prints what becomes of it.
@@ -61,19 +60,6 @@ pub fn run_edit<S: Source, O: Sink, E: Sink, J: Sink>(
     match try_edit(alloc, input, out, err, script, pieces, journal, jout) {
         Ok(status) => status,
         Err(cause) => give_up(err, cause),
-    }
-}
-
-/// Says why a run is given up. Where that fails too, nothing more is tried.
-pub fn give_up<E: Sink>(err: &mut E, cause: Cause) -> Status
-    ensures status { result ≡ status_for cause }
-    ensures line { AppendsFront (E.contents err.old) (E.contents err.new) (line_of cause) }
-    ensures counted { E.failures err.old ≤ E.failures err.new }
-{
-    let _ = write_all(err, cause_line(cause));
-    match cause {
-        Cause::Read | Cause::Write => Status::Fault,
-        Cause::Memory => Status::Memory,
     }
 }
 
@@ -230,24 +216,4 @@ fn print<O: Sink, J: Sink>(
     send(jout, &journal)?;
     finish(out)?;
     finish(jout)
-}
-
-/// The cause where reading stopped.
-pub fn reading(stop: Stop) -> Cause
-    ensures { result ≡ cause_of_reading stop }
-{
-    match stop {
-        Stop::Fault => Cause::Read,
-        Stop::Memory => Cause::Memory,
-    }
-}
-
-/// The cause where writing stopped.
-pub fn writing(stop: Stop) -> Cause
-    ensures { result ≡ cause_of_writing stop }
-{
-    match stop {
-        Stop::Fault => Cause::Write,
-        Stop::Memory => Cause::Memory,
-    }
 }

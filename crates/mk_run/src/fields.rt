@@ -10,12 +10,12 @@ ghost use Rattle.mk_run.specs.FilterClauses.{IsEdited, SaysAll, SaysSome};
 ghost use Rattle.mk_run.specs.Filtering.{behind_colon as is_behind_colon, contents_named, given_by, said_of, said_of_edits, wholes_named};
 
 use crate::report::report_message;
-use crate::transfer::{Stop, send};
 use mk_edit::{EditError, GroupError, Session};
 use mk_head::each_field;
 use mk_line::Meter;
 use mk_mail::{Letters, Sink, field_edits};
 use mk_script::parted;
+use mk_transfer::{Stop, send};
 use mk_tree::Doc;
 use std::alloc::{AllocError, Global};
 

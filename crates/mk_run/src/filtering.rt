@@ -4,14 +4,12 @@ ghost use Rattle.std.specs.Prelude.{◌≡◌, ◌⊎◌, ◌-◌, true, false, 
 ghost use Rattle.mk_mail.specs.LetterViews.{letters_of};
 ghost use Rattle.mk_mail.specs.Letters.{are_allowed};
 ghost use Rattle.mk_run.specs.FilterClauses.{LeavesFiltered, LeavesFilteredSoFar, LeavesSaid};
-ghost use Rattle.mk_run.specs.RunClauses.{held, counts, SameFailures, ReadFailed, WriteFailed, IsBlamed, ends_itself};
+ghost use Rattle.mk_transfer.specs.RunClauses.{held, counts, SameFailures, ReadFailed, WriteFailed, IsBlamed, ends_itself};
 
-use crate::engine::{give_up, reading, writing};
 use crate::fields::filter_message;
-use crate::status::{Cause, Status};
-use crate::transfer::{finish, read_all};
 use mk_mail::{Letters, MailFault, Mailbox, Sink, Source};
 use mk_mailbox::MOST_READS;
+use mk_transfer::{Cause, Status, finish, give_up, read_all, reading, writing};
 use std::alloc::Global;
 
 /// The number of the message where all of the input is one.

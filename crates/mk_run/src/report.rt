@@ -1,18 +1,16 @@
 //! The lines that a run writes to the errors.
 
-ghost use Rattle.std.specs.Prelude.{◌≡◌, ◌++◌, codes, IfOk, OnOk, IfSome};
+ghost use Rattle.std.specs.Prelude.{◌≡◌, ◌++◌, IfOk, OnOk, IfSome};
 ghost use Rattle.mk_decide.specs.Answers.{refusal_of};
-ghost use Rattle.mk_mail.specs.Letters.{root_path};
 ghost use Rattle.mk_run.specs.Filtering.{message_line as line_of_message};
 ghost use Rattle.mk_run.specs.Journaling.{journal_line, named_by};
 ghost use Rattle.mk_run.specs.Reports.{reason_name as name_of, behind_name, error_line, syntax_line};
-ghost use Rattle.mk_run.specs.RunClauses.{Sends, cause_line as line_of};
+ghost use Rattle.mk_transfer.specs.RunClauses.{Sends};
 
-use crate::status::Cause;
-use crate::transfer::{Stop, send};
 use mk_edit::{EditError, LoadError};
 use mk_mail::{Sink, push_path};
 use mk_script::SPACE;
+use mk_transfer::{Stop, send};
 use std::alloc::{AllocError, Global};
 
 const LINE_FEED: u8 = b'\n';
@@ -126,17 +124,6 @@ fn line_of_journal(alloc: Global, error: LoadError) -> Result<Vec<u8>, AllocErro
             Ok(format!(in alloc; "journal: JournalMismatch {entry}\n")?.into_bytes())
         }
         LoadError::Memory => Err(AllocError),
-    }
-}
-
-/// The line that says why a run is given up.
-pub fn cause_line(cause: Cause) -> &'static [u8]
-    ensures { result.now ≡ line_of cause }
-{
-    match cause {
-        Cause::Read => b"mimetool: read fault\n",
-        Cause::Write => b"mimetool: write fault\n",
-        Cause::Memory => b"mimetool: memory\n",
     }
 }
 

@@ -9,16 +9,16 @@ ghost use Rattle.mk_edit.specs.History.{History};
 ghost use Rattle.mk_decide.specs.Views.{edit_of};
 ghost use Rattle.mk_edit.specs.Views.{order_of};
 ghost use Rattle.mk_run.specs.Runs.{edit_by, field_text, line_at, refusal_line, numbers_of, ordered_by, path_at as path_in, piece_text, outcome_of, reported, history_after, errors_of, IsObeyed};
-ghost use Rattle.mk_run.specs.RunClauses.{Sends};
+ghost use Rattle.mk_transfer.specs.RunClauses.{Sends};
 ghost use Rattle.mk_script.specs.ScriptSteps.{Groups};
 ghost use Rattle.mk_script.specs.ScriptViews.{said_by, numbered, step_by, texts_of};
 
 use crate::report::report_refusal;
-use crate::transfer::Stop;
 use mk_edit::{Command, Edit, EditError, GroupError, Session};
 use mk_line::{Meter, eol_of};
 use mk_mail::Sink;
 use mk_script::{NumberedWord, Step, Target, Word};
+use mk_transfer::Stop;
 use std::alloc::{AllocError, Global};
 
 /// Does the steps in turn and reports each refusal as it comes. Answers whether there was one.

@@ -7,7 +7,7 @@ use Rattle.std.specs.Global.{Vec}
 use Rattle.std.specs.Ordering.{nat_cmp}
 use Rattle.std.specs.Str.{bytes_eq}
 use Rattle.mk_view.proofs.Taken.{kept_by_name}
-use Rattle.mk_run.specs.Folders.{Gets}
+use Rattle.mk_show.specs.Folders.{Gets}
 use Rattle.mk_run_tests.specs.Kept.{texts_in}
 
 chosen : (b : Bool) (text : Vec ℕ) (other : Option (Vec ℕ)) → option_map (λ t. t.items) (cond b (Some text) other) ≡ cond b (Some text.items) (option_map (λ t. t.items) other)

@@ -5,7 +5,7 @@ use Rattle.std.specs.BTreeMap.{BTreeMap, get_by}
 use Rattle.std.specs.Cmp.Lexicographic.{slice_cmp}
 use Rattle.std.specs.Global.{Vec}
 use Rattle.std.specs.Ordering.{nat_cmp}
-use Rattle.mk_run.specs.Folders.{Files}
+use Rattle.mk_show.specs.Folders.{Files}
 
 -- the text that is kept under each name
 abbrev pub texts_in : BTreeMap (Vec ℕ) (Vec ℕ) → Files

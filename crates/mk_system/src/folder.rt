@@ -5,7 +5,7 @@ ghost use Rattle.mk_line.specs.Meters.{ticked};
 
 use crate::replacing::Replacement;
 use mk_mailbox::Fault;
-use mk_run::Folder;
+use mk_show::Folder;
 use std::alloc::AllocError;
 use std::fs::{File, OpenOptions};
 use std::io::{Error, ErrorKind, Write};

@@ -2,9 +2,9 @@
 use Rattle.std.specs.Prelude.{◌≡◌, ◌⊎◌, ℕ, Bool, List, Option, Result, Ok, Err}
 use Rattle.std.specs.Io.KnownBytes.{Appends, Keeps}
 use Rattle.mk_mailbox.specs.Devices.{AppendsFront}
-use Rattle.mk_run.specs.declared.status.Status.{Status}
-use Rattle.mk_run.specs.declared.status.Cause.{Cause}
-use Rattle.mk_run.specs.declared.status.Cause.TheVariants.{Read}
+use Rattle.mk_transfer.specs.declared.status.Status.{Status}
+use Rattle.mk_transfer.specs.declared.status.Cause.{Cause}
+use Rattle.mk_transfer.specs.declared.status.Cause.TheVariants.{Read}
 use Rattle.mk_run.specs.JournalRuns.{WritesJournal}
 use Rattle.mk_run.specs.Runs.{ScriptRun}
 

@@ -1,7 +1,7 @@
 //! Folders in memory: one that tells its files and fails when it is told to, and one that takes no memory once it is made.
 
 ghost use Rattle.std.specs.Prelude.{◌≡◌, None, Some, true, false, OnErr, OnOk};
-ghost use Rattle.mk_run.specs.Folders.{Gets, IsFree, IsThere};
+ghost use Rattle.mk_show.specs.Folders.{Gets, IsFree, IsThere};
 ghost use Rattle.mk_run_tests.specs.Kept.{texts_in};
 
 use mk_mail::Fault;

@@ -1,11 +1,12 @@
 use Rattle.std.proofs.Common.{Err, sym, subst}
 use Rattle.mk_run.specs.Journaling.{journaling_of}
 use Rattle.mk_run.specs.JournalRuns.{LeavesSteps}
-use Rattle.mk_run.specs.RunClauses.{held}
+use Rattle.mk_transfer.specs.RunClauses.{held}
 use Rattle.mk_run.specs.Runs.{run_of}
 use Rattle.mk_script.specs.ScriptSteps.{script_of}
 use Rattle.mk_script.specs.ScriptViews.{texts_of}
-use Rattle.mk_run.proofs.RunLemmas.{Leaves-given_up, LeavesJournal-given_up, Prints-given_up}
+use Rattle.mk_transfer.proofs.GivenUp.{Leaves-given_up}
+use Rattle.mk_run.proofs.RunLemmas.{LeavesJournal-given_up, Prints-given_up}
 use Rattle.mk_script.proofs.ScriptTurns.{texts_length}
 use Rattle.mk_run.proofs.engine.run_edit.Goals as goal
 

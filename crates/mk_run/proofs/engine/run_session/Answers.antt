@@ -2,11 +2,13 @@ use Rattle.std.proofs.Common.{◌≡◌, ◌∙◌, if◌then◌else◌, sym, ap
 use Rattle.std.proofs.KnownBytes.{Keeps-refl}
 use Rattle.mk_edit.specs.Histories.{text_now}
 use Rattle.mk_run.specs.Journaling.{journaling_of, left_journal}
-use Rattle.mk_run.specs.declared.status.Status.TheVariants.{Well, Refused}
+use Rattle.mk_transfer.specs.declared.status.Status.TheVariants.{Well, Refused}
 use Rattle.mk_run.specs.Runs.{history_after}
 use Rattle.mk_run.specs.inner.Keeping.{bytes_kept}
 use Rattle.mk_script.specs.ScriptViews.{step_by, texts_of}
-use Rattle.mk_run.proofs.RunLemmas.{AppendsFront-none, AppendsFront-whole, status_at, writing-not_read}
+use Rattle.mk_transfer.proofs.Fronts.{AppendsFront-none, AppendsFront-whole}
+use Rattle.mk_run.proofs.RunLemmas.{status_at}
+use Rattle.mk_transfer.proofs.GivenUp.{writing-not_read}
 use Rattle.mk_run.proofs.engine.run_session.Goals as goal
 use Rattle.mk_run.proofs.engine.run_session.Goals.{then-refused, else-refused}
 

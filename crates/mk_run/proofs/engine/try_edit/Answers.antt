@@ -1,6 +1,6 @@
 use Rattle.std.proofs.Common.{[], refl, inl}
 use Rattle.std.proofs.KnownBytes.{Appends-nil, Consumes-nil, Keeps-refl}
-use Rattle.mk_run.proofs.RunLemmas.{AppendsFront-none}
+use Rattle.mk_transfer.proofs.Fronts.{AppendsFront-none}
 use Rattle.mk_run.proofs.engine.try_edit.Goals as goal
 
 pub returns-in-Ok-report_syntax-clause-leaves : goal.returns-in-Ok-report_syntax-clause-leaves

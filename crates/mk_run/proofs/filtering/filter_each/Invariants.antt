@@ -3,7 +3,7 @@ use Rattle.std.specs.Io.KnownBytes.{Consumes, IsAtEnd}
 use Rattle.mk_mailbox.specs.Devices.{IsFull}
 use Rattle.mk_mail.specs.LetterViews.{letters_of}
 use Rattle.mk_mailbox.specs.Mailboxes.{chunk_bytes}
-use Rattle.mk_run.specs.RunClauses.{SameFailures, counts}
+use Rattle.mk_transfer.specs.RunClauses.{SameFailures, counts}
 use Rattle.mk_run.proofs.FilterLemmas.{AreOut}
 use Rattle.mk_run.proofs.filtering.filter_each.Given as goal
 

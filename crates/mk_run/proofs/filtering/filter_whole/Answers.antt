@@ -2,8 +2,9 @@ use Rattle.std.proofs.Common.{sym, subst}
 use Rattle.std.proofs.KnownBytes.{Keeps-refl}
 use Rattle.mk_mail.specs.LetterViews.{letters_of}
 use Rattle.mk_run.specs.FilterClauses.{SaysSome}
-use Rattle.mk_run.proofs.FilterLemmas.{not_reading, said_one}
-use Rattle.mk_run.proofs.RunLemmas.{AppendsFront-none}
+use Rattle.mk_transfer.proofs.GivenUp.{not_reading}
+use Rattle.mk_run.proofs.FilterLemmas.{said_one}
+use Rattle.mk_transfer.proofs.Fronts.{AppendsFront-none}
 use Rattle.mk_run.proofs.filtering.filter_whole.Goals as goal
 
 pub returns-in-Err-clause-leaves : goal.returns-in-Err-clause-leaves

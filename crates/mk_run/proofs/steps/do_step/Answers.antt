@@ -4,9 +4,9 @@ use Rattle.mk_line.specs.Lines.{is_nil}
 use Rattle.std.proofs.lemmas.Result.{err_from_is_err_and}
 use Rattle.mk_decide.specs.Answers.{refusal_of}
 use Rattle.mk_script.specs.ScriptViews.{step_by, texts_of}
-use Rattle.mk_run.specs.RunClauses.{IsSent, IsStopped}
+use Rattle.mk_transfer.specs.RunClauses.{IsSent, IsStopped}
 use Rattle.mk_run.proofs.RefusalLemmas.{reported-refused, reported-none, is_some_line}
-use Rattle.mk_run.proofs.RunLemmas.{AppendsFront-none}
+use Rattle.mk_transfer.proofs.Fronts.{AppendsFront-none}
 use Rattle.mk_run.proofs.steps.do_step.Goals as goal
 
 pub returns-in_err-task-clause-sends : goal.returns-in_err-task-clause-sends

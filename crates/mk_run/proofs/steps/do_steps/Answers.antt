@@ -3,7 +3,7 @@ use Rattle.std.proofs.lemmas.Result.{err_from_is_err_and}
 use Rattle.std.proofs.KnownBytes.{Appends-trans}
 use Rattle.mk_run.specs.Runs.{reported, errors_of, history_after}
 use Rattle.mk_script.specs.ScriptViews.{step_by, texts_of}
-use Rattle.mk_run.proofs.Fronts.{AppendsFront-behind, not-is_nil-append}
+use Rattle.mk_transfer.proofs.Fronts.{AppendsFront-behind, not-is_nil-append}
 use Rattle.mk_run.proofs.steps.do_steps.Goals as goal
 
 pub returns-in_err-refused-clause-sends : goal.returns-in_err-refused-clause-sends

@@ -1,8 +1,0 @@
-//! Laws of runs, over the definitions alone: each a function with an empty body whose clause is the law.
-
-ghost use Rattle.mk_run.specs.Packing.{BodiesAreRefused};
-
-/// A text with a body is never packed: its first field that can't stand at the start is named, or else their number.
-pub fn bodies_are_refused()
-    ensures { BodiesAreRefused }
-{}

@@ -1,0 +1,3 @@
+pub mod PackLemmas
+pub mod ShownLemmas
+pub mod UnpackLemmas

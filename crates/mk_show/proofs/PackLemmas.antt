@@ -1,0 +1,62 @@
+-- The last piece of a text, and the body after a head.
+use Rattle.std.proofs.Common.{◌≡◌, ◌≢◌, ◌++◌, ℕ, suc, Bool, true, false, Option, None, Some, List, [], ◌∷◌, length, nat_lt, sym, ap, ◌∙◌, refl, subst, inl, inr}
+use Rattle.std.proofs.lemmas.Bool.{cases_Bool}
+use Rattle.std.specs.Option.{option_map, unwrap_or}
+use Rattle.mk_line.specs.declared.cutting.Ending.{Ending}
+use Rattle.mk_line.specs.Lines.{AreLines, cut, eol_of}
+use Rattle.mk_line.proofs.Cuts.{lines_behind, lines_cut}
+use Rattle.mk_head.specs.Split.{behind_head, head_lines, head_of}
+use Rattle.mk_head.specs.Fields.{HeaderView, header_view}
+use Rattle.mk_head.proofs.Splits.{head_body}
+use Rattle.mk_decide.proofs.OpenPlaces.{more_lines}
+use Rattle.mk_script.specs.Paths.{parted, pieces_of}
+use Rattle.mk_show.specs.Parts.{last_of}
+use Rattle.mk_build.specs.declared.building.BuildError.TheVariants as refused
+use Rattle.mk_build.specs.Building.{Attached, build_refusal, built, first_failing, is_free_field}
+use Rattle.mk_show.specs.Packing.{fields_given, fields_in_front, has_body, packed, told}
+use Rattle.mk_transfer.specs.Said.{shown}
+use Rattle.mk_script.proofs.PathLemmas.{pieces_of-parted, pieces_of-whole}
+use Rattle.mk_script.proofs.PieceLemmas.{HasFirst, pieces_of-some}
+
+last_more : (piece : List ℕ) (pieces : List (List ℕ)) → HasFirst pieces → last_of (piece ∷ pieces) ≡ last_of pieces
+last_more piece [] h = absurd h
+last_more piece (next ∷ pieces) h = refl
+
+pub last_behind : (separator : ℕ) (text : List ℕ) (p : List ℕ × List ℕ) → parted separator text ≡ Some p → last_of (pieces_of separator text) ≡ last_of (pieces_of separator p.1)
+last_behind separator text p e = ap last_of (pieces_of-parted separator text p e) ∙ last_more p.0 (pieces_of separator p.1) (pieces_of-some separator p.1)
+
+pub last_whole : {A : Type 0} (f : A → List ℕ × List ℕ) (separator : ℕ) (text : List ℕ) (found : Option A) → option_map f found ≡ parted separator text → ((p : A) → found ≢ Some p) → last_of (pieces_of separator text) ≡ text
+last_whole f separator text None e n = ap last_of (pieces_of-whole separator text (sym e))
+last_whole f separator text (Some p) e n = absurd (n p refl)
+
+-- the text goes on after its head exactly where there is a body
+pub body_told : (text : List ℕ) (h : HeaderView) (body : ℕ) → h ≡ header_view (head_of (cut text)) → body ≡ h.body → nat_lt body (length text) ≡ has_body (cut text)
+body_told text h body e b =
+    let apart = head_body (cut text) in
+    ap (λ n. nat_lt n (length text)) (b ∙ ap (λ v. v.body) e)
+    ∙ more_lines text (head_lines (head_of (cut text))) (behind_head (cut text)) (sym apart) (lines_behind (head_lines (head_of (cut text))) (behind_head (cut text)) (subst AreLines (sym apart) (lines_cut text)))
+
+-- what goes out where there is no reason against it
+pub packed_well : (boundary : List ℕ) (parts : List Attached) (text : List ℕ) (fields : List (List ℕ)) (output errors : List ℕ) (eol : Ending)
+    → fields ≡ fields_given (cut text) → eol ≡ eol_of (cut text) → build_refusal fields parts boundary ≡ None → output ≡ built eol fields parts boundary → errors ≡ []
+    → shown output errors ≡ packed boundary parts text
+packed_well boundary parts text fields output errors eol f e r o n =
+    ap (λ x. shown output x) n ∙ (ap (λ x. shown x []) o ∙ (ap (told (built eol fields parts boundary)) (sym r)
+    ∙ (ap (λ fs. told (built eol fs parts boundary) (build_refusal fs parts boundary)) f
+    ∙ ap (λ x. told (built x (fields_given (cut text)) parts boundary) (build_refusal (fields_given (cut text)) parts boundary)) e)))
+
+more_or : (o : Option ℕ) (n : ℕ) → unwrap_or (option_map suc o) (suc n) ≡ suc (unwrap_or o n)
+more_or None n = refl
+more_or (Some k) n = refl
+
+-- after others one fails
+failing_behind : {X : Type 0} (test : X → Bool) (xs : List X) (y : X) → test y ≡ false → first_failing test (xs ++ y ∷ []) ≡ Some (unwrap_or (first_failing test xs) (length xs))
+failing_behind test [] y h = rw h refl
+failing_behind test (x ∷ xs) y h = elim (cases_Bool (test x)) [
+  | inl t ↦ rw t (ap (option_map suc) (failing_behind test xs y h) ∙ ap (λ n. Some n) (sym (more_or (first_failing test xs) (length xs))))
+  | inr f ↦ rw f refl
+]
+
+pub body_refused : (text : List ℕ) (parts : List Attached) (boundary : List ℕ) → has_body (cut text) ≡ true
+    → build_refusal (fields_given (cut text)) parts boundary ≡ Some (refused.BadField (unwrap_or (first_failing is_free_field (fields_in_front (cut text))) (length (fields_in_front (cut text)))))
+body_refused text parts boundary has = rw (has, failing_behind is_free_field (fields_in_front (cut text)) [] refl) refl

@@ -1,0 +1,230 @@
+-- What is left of leaves that are unpacked in turn.
+use Rattle.std.proofs.Common.{◌≡◌, ◌⊎◌, ◌||◌, if◌then◌else◌, ℕ, Bool, true, false, not, List, [], ◌∷◌, ◌++◌, Option, Err, refl, sym, ap, ◌∙◌, subst, append_assoc, inl, inr}
+use Rattle.std.proofs.lemmas.List.{append-nil}
+use Rattle.std.specs.Io.KnownBytes.{Appends, IsAtEnd, Keeps}
+use Rattle.std.proofs.KnownBytes.{Appends-trans}
+use Rattle.mk_line.specs.Lines.{is_nil}
+use Rattle.mk_tree.specs.Documents.{Document}
+use Rattle.mk_tree.specs.Sections.{section_at}
+use Rattle.mk_view.specs.declared.extracting.ExtractError.{ExtractError}
+use Rattle.mk_view.specs.Extracts.{IsExtract, IsExtractRefused}
+use Rattle.mk_mailbox.specs.Devices.{AppendsFront}
+use Rattle.mk_view.specs.FileNames.{Named}
+use Rattle.mk_transfer.specs.declared.status.Cause.{Cause}
+use Rattle.mk_transfer.specs.declared.status.Cause.TheVariants.{Read, Write, Memory as NoMemory}
+use Rattle.mk_transfer.specs.declared.status.Status.{Status}
+use Rattle.mk_transfer.specs.declared.status.Status.TheVariants.{Well, Refused, Fault, Memory}
+use Rattle.mk_transfer.specs.declared.transfer.Stop.{Stop}
+use Rattle.mk_transfer.specs.declared.transfer.Stop.TheVariants.{Fault as Stopped, Memory as Wanting}
+use Rattle.mk_show.specs.declared.unpacking.Manner.{Manner}
+use Rattle.mk_show.specs.Folders.{Files}
+use Rattle.mk_transfer.specs.RunClauses.{held, cause_line, cause_of_writing, status_of}
+use Rattle.mk_show.specs.Unpacking.{AreLeaves, Unpacks, UnpacksLeaf, stored_line, exists_line}
+use Rattle.mk_transfer.specs.Said.{Said, silence, said_behind, shown}
+use Rattle.mk_show.specs.Shown.{extract_line, is_wanting}
+use Rattle.mk_show.specs.UnpackClauses.{Written, written, GetsNext, PutsText, PutsNone, PutsFront, UnpackedAll, UnpackedSome, IsUnpacked, IsBrokenOff, Stores, StoresSoFar}
+use Rattle.mk_transfer.proofs.Fronts.{AppendsFront-behind, not-is_nil-append, AppendsFront-none, AppendsFront-kept}
+
+behind-silence : (s : Said) → s ≡ said_behind s silence
+behind-silence s = rw (append-nil s.output, append-nil s.errors) refl
+
+behind-behind : (a b c : Said) → said_behind (said_behind a b) c ≡ said_behind a (said_behind b c)
+behind-behind a b c = rw (append_assoc a.output b.output c.output, append_assoc a.errors b.errors c.errors) refl
+
+Unpacks-append : (manner : Manner) (t : Document) (xs ys : List Named) (first more : Said) (a b c : Option Files)
+    → Unpacks manner t xs first a b → Unpacks manner t ys more b c → Unpacks manner t (xs ++ ys) (said_behind first more) a c
+Unpacks-append manner t [] ys first more a b c u v = rw u.0 (subst (λ o. Unpacks manner t ys more o c) u.1 v)
+Unpacks-append manner t (x ∷ xs) ys first more a b c u v = (
+  u.0,
+  said_behind u.1 more,
+  u.2,
+  u.3,
+  Unpacks-append manner t xs ys u.1 more u.2 b c u.4 v,
+  ap (λ s. said_behind s more) u.5 ∙ behind-behind u.0 u.1 more,
+)
+
+Unpacks-one : (manner : Manner) (t : Document) (leaf : Named) (said : Said) (old new : Option Files) → UnpacksLeaf manner t leaf said old new
+    → Unpacks manner t (leaf ∷ []) said old new
+Unpacks-one manner t leaf said old new u = (said, silence, new, u, (refl, refl), behind-silence said)
+
+-- no leaf was unpacked, and all is as it was
+pub UnpackedAll-none : (manner : Manner) (t : Document) (out err : Option (List ℕ)) (files : Option Files) → Appends out out [] → Appends err err []
+    → UnpackedAll manner t [] (not (is_nil silence.errors)) (written out err files) (written out err files)
+UnpackedAll-none manner t out err files o e = record { said = silence; unpacks = (refl, refl); output = o; errors = e; refused_is = refl }
+
+-- one leaf was unpacked, and all went out that is said of it
+pub UnpackedAll-one : (manner : Manner) (t : Document) (leaf : Named) (said : Said) (refused : Bool) (before after : Written)
+    → UnpacksLeaf manner t leaf said before.files after.files
+    → Appends before.output after.output said.output → Appends before.errors after.errors said.errors → refused ≡ not (is_nil said.errors)
+    → UnpackedAll manner t (leaf ∷ []) refused before after
+UnpackedAll-one manner t leaf said refused before after u output errors told =
+    record { said = said; unpacks = Unpacks-one manner t leaf said before.files after.files u; output = output; errors = errors; refused_is = told }
+
+-- one leaf was unpacked, and a front went out of what is said of it
+pub UnpackedSome-one : (manner : Manner) (t : Document) (leaf : Named) (said : Said) (before after : Written)
+    → UnpacksLeaf manner t leaf said before.files after.files
+    → AppendsFront before.output after.output said.output → AppendsFront before.errors after.errors said.errors
+    → UnpackedSome manner t (leaf ∷ []) before after
+UnpackedSome-one manner t leaf said before after u output errors = record {
+  done = leaf ∷ [];
+  rest = [];
+  leaves_are = refl;
+  said = said;
+  between = after.files;
+  unpacks = Unpacks-one manner t leaf said before.files after.files u;
+  next = refl;
+  output = output;
+  errors = errors;
+}
+
+-- of one leaf at most a front was put, and nothing was said
+pub UnpackedSome-none : (manner : Manner) (t : Document) (leaf : Named) (out err : Option (List ℕ)) (old new : Option Files) → GetsNext manner.over t (leaf ∷ []) old new
+    → UnpackedSome manner t (leaf ∷ []) (written out err old) (written out err new)
+UnpackedSome-none manner t leaf out err old new next = record {
+  done = [];
+  rest = leaf ∷ [];
+  leaves_are = refl;
+  said = silence;
+  between = old;
+  unpacks = (refl, refl);
+  next = next;
+  output = AppendsFront-none out [];
+  errors = AppendsFront-none err [];
+}
+
+-- leaves were unpacked, and then others
+pub UnpackedAll-behind : (manner : Manner) (t : Document) (xs ys : List Named) (refused more : Bool) (a b c : Written) → UnpackedAll manner t xs refused a b
+    → UnpackedAll manner t ys more b c → UnpackedAll manner t (xs ++ ys) (refused || more) a c
+UnpackedAll-behind manner t xs ys refused more a b c u v = record {
+  said = said_behind u.said v.said;
+  unpacks = Unpacks-append manner t xs ys u.said v.said a.files b.files c.files u.unpacks v.unpacks;
+  output = Appends-trans a.output b.output c.output u.said.output v.said.output u.output v.output;
+  errors = Appends-trans a.errors b.errors c.errors u.said.errors v.said.errors u.errors v.errors;
+  refused_is = rw (u.refused_is, v.refused_is) (sym (not-is_nil-append u.said.errors v.said.errors));
+}
+
+GetsNext-more : (over : Bool) (t : Document) (ys more : List Named) (old new : Option Files) → GetsNext over t ys old new → GetsNext over t (ys ++ more) old new
+GetsNext-more over t [] [] old new h = h
+GetsNext-more over t [] (m ∷ ms) old new h = inl h
+GetsNext-more over t (y ∷ ys) more old new h = h
+
+leaves_apart : (xs done rest more : List Named) → xs ++ ((done ++ rest) ++ more) ≡ (xs ++ done) ++ (rest ++ more)
+leaves_apart xs done rest more = simp append_assoc
+
+-- leaves were unpacked, and then some of others, after which stand more
+pub UnpackedSome-behind : (manner : Manner) (t : Document) (xs ys more leaves : List Named) (refused : Bool) (a b c : Written) → UnpackedAll manner t xs refused a b
+    → UnpackedSome manner t ys b c → leaves ≡ xs ++ (ys ++ more) → UnpackedSome manner t leaves a c
+UnpackedSome-behind manner t xs ys more leaves refused a b c u v e = record {
+  done = xs ++ v.done;
+  rest = v.rest ++ more;
+  leaves_are = e ∙ ap (λ zs. xs ++ (zs ++ more)) v.leaves_are ∙ leaves_apart xs v.done v.rest more;
+  said = said_behind u.said v.said;
+  between = v.between;
+  unpacks = Unpacks-append manner t xs v.done u.said v.said a.files b.files v.between u.unpacks v.unpacks;
+  next = GetsNext-more manner.over t v.rest more v.between c.files v.next;
+  output = AppendsFront-behind a.output b.output c.output u.said.output v.said.output [] _ u.output v.output (ap (λ l. u.said.output ++ l) (sym (append-nil v.said.output)));
+  errors = AppendsFront-behind a.errors b.errors c.errors u.said.errors v.said.errors [] _ u.errors v.errors (ap (λ l. u.said.errors ++ l) (sym (append-nil v.said.errors)));
+}
+
+-- a line that ends is not empty
+pub line_told : (xs : List ℕ) (y : ℕ) (ys : List ℕ) → true ≡ not (is_nil (xs ++ y ∷ ys))
+line_told [] y ys = refl
+line_told (x ∷ xs) y ys = refl
+
+-- the contents of a leaf were put
+pub stored-leaf : (manner : Manner) (t : Document) (leaf : Named) (bytes target : List ℕ) (old new : Option Files) → IsExtract (section_at leaf.0 t) bytes
+    → PutsText manner.over old new leaf.1 bytes target
+    → UnpacksLeaf manner t leaf (record { output = if manner.silent then [] else stored_line (section_at leaf.0 t) target; errors = [] }) old new
+stored-leaf manner t leaf bytes target old new content put = inl (record {
+  bytes = bytes;
+  content = content;
+  target = target;
+  target_is = put.target_is;
+  gets = put.gets;
+  said_is = refl;
+})
+
+-- all its names are those of files
+pub crowded-leaf : (manner : Manner) (t : Document) (leaf : Named) (bytes : List ℕ) (old new : Option Files) → IsExtract (section_at leaf.0 t) bytes
+    → PutsNone manner.over old new leaf.1 → UnpacksLeaf manner t leaf (record { output = []; errors = exists_line leaf.1 }) old new
+crowded-leaf manner t leaf bytes old new content none = inr (inl (record {
+  bytes = bytes;
+  content = content;
+  kept = none.kept;
+  there = none.there;
+  same = none.same;
+  said_is = refl;
+}))
+
+-- its content can't be decoded
+pub undecoded-leaf : (manner : Manner) (t : Document) (leaf : Named) (error : ExtractError) (files : Option Files) → IsExtractRefused (section_at leaf.0 t) error
+    → is_wanting error ≡ false → UnpacksLeaf manner t leaf (record { output = []; errors = extract_line leaf.0 error }) files files
+undecoded-leaf manner t leaf error files reason known = inr (inr (record { error = error; reason = reason; known = known; same = refl; said_is = refl }))
+
+-- a front of its content was put
+pub front-leaf : (over : Bool) (t : Document) (leaf : Named) (bytes : List ℕ) (old new : Option Files) → IsExtract (section_at leaf.0 t) bytes
+    → (new ≡ old) ⊎ PutsFront over old new leaf.1 bytes → GetsNext over t (leaf ∷ []) old new
+front-leaf over t leaf bytes old new content h = elim h [
+  | inl same ↦ inl same
+  | inr put ↦ inr (record { bytes = bytes; content = content; put = put })
+]
+
+shown_status : (said : Said) (b : Bool) (status : Status) → b ≡ not (is_nil said.errors) → status ≡ (if b then Refused else Well) → (shown said.output said.errors).status ≡ status
+shown_status said b status h e = by_errors said.errors b status h e
+  where
+    by_errors : (errors : List ℕ) (b : Bool) (status : Status) → b ≡ not (is_nil errors) → status ≡ (if b then Refused else Well) → (shown said.output errors).status ≡ status
+    by_errors [] b status h e = sym (e ∙ ap (λ (c : Bool). if c then Refused else Well) h)
+    by_errors (byte ∷ bytes) b status h e = sym (e ∙ ap (λ (c : Bool). if c then Refused else Well) h)
+
+-- all leaves were unpacked, and the run ended by itself
+pub IsUnpacked-all : (manner : Manner) (texts : Bool) (t : Document) (leaves : List Named) (refused : Bool) (status : Status) (input left out sent err told : Option (List ℕ)) (old new : Option Files)
+    → AreLeaves texts t leaves → UnpackedAll manner t leaves refused (written out err old) (written sent told new) → status ≡ (if refused then Refused else Well) → IsAtEnd left
+    → IsUnpacked manner texts t status (held input out err) (held left sent told) old new
+IsUnpacked-all manner texts t leaves refused status input left out sent err told old new are u e end = record {
+  leaves = leaves;
+  are_leaves = are;
+  said = u.said;
+  unpacks = u.unpacks;
+  run = record { status_is = shown_status u.said refused status u.refused_is e; written = record { output = u.output; errors = u.errors }; read = end };
+}
+
+-- some leaves were unpacked, and the run was given up
+IsBrokenOff-some : (manner : Manner) (texts : Bool) (t : Document) (leaves : List Named) (cause : Cause) (status : Status) (input left out sent err between told : Option (List ℕ)) (old new : Option Files)
+    → AreLeaves texts t leaves → UnpackedSome manner t leaves (written out err old) (written sent between new) → status_of cause ≡ status → (cause ≡ Read → Keeps out sent) → AppendsFront between told (cause_line cause)
+    → IsBrokenOff manner texts t status (held input out err) (held left sent told) old new
+IsBrokenOff-some manner texts t leaves cause status input left out sent err between told old new are u e silent line = record {
+  leaves = leaves;
+  are_leaves = are;
+  done = u.done;
+  rest = u.rest;
+  leaves_are = u.leaves_are;
+  said = u.said;
+  between = u.between;
+  unpacks = u.unpacks;
+  next = u.next;
+  run = record { output = u.output; cause = cause; status_is = e; between = between; errors = u.errors; line = line; silent = silent };
+}
+
+not_read : {A : Type 0} → Write ≡ Read → A
+not_read e = absurd cc
+
+not_read_either : {A : Type 0} → NoMemory ≡ Read → A
+not_read_either e = absurd cc
+
+-- writing was stopped
+-- what was left when a run stopped, and the line that says why
+pub Stores-given_up : (manner : Manner) (texts : Bool) (t : Document) (cause : Cause) (input left out sent err between told : Option (List ℕ)) (old new : Option Files)
+    → StoresSoFar manner texts t (Err cause) (held input out err) (held left sent between) old new → AppendsFront between told (cause_line cause)
+    → Stores manner texts t (status_of cause) (held input out err) (held left sent told) old new
+Stores-given_up manner texts t Read input left out sent err between told old new w line = elim w [
+  | inl u ↦ inl (record { cause = Read; status_is = refl; output = u.output; line = AppendsFront-kept err between told (cause_line Read) u.errors line }, u.files)
+  | inr h ↦ absurd (h.writing refl)
+]
+Stores-given_up manner texts t Write input left out sent err between told old new w line = elim w [
+  | inl u ↦ inl (record { cause = Write; status_is = refl; output = u.output; line = AppendsFront-kept err between told (cause_line Write) u.errors line }, u.files)
+  | inr h ↦ inr (IsBrokenOff-some manner texts t h.leaves Write Fault input left out sent err between told old new h.are_leaves h.some refl (λ r. not_read r) line)
+]
+Stores-given_up manner texts t NoMemory input left out sent err between told old new w line = elim w [
+  | inl u ↦ inl (record { cause = NoMemory; status_is = refl; output = u.output; line = AppendsFront-kept err between told (cause_line NoMemory) u.errors line }, u.files)
+  | inr h ↦ inr (IsBrokenOff-some manner texts t h.leaves NoMemory Memory input left out sent err between told old new h.are_leaves h.some refl (λ r. not_read_either r) line)
+]

@@ -1,0 +1,69 @@
+-- A message packed from fields and files (own).
+use Rattle.std.specs.Prelude.{◌≡◌, ◌++◌, if◌then◌else◌, ℕ, Bool, true, false, Option, None, Some, unwrap_or, List, [], ◌∷◌, codes, decimal, length, map}
+use Rattle.mk_line.specs.Ascii.{line_feed, space}
+use Rattle.mk_line.specs.Lines.{TextLine, cut, eol_of}
+use Rattle.mk_head.specs.Split.{behind_head, fields_from}
+use Rattle.mk_head.specs.Splits.{has_line}
+use Rattle.mk_head.specs.Fields.{fields_of}
+use Rattle.mk_build.specs.declared.building.BuildError.{BuildError}
+use Rattle.mk_build.specs.declared.building.BuildError.TheVariants as refused
+use Rattle.mk_build.specs.Building.{Attached, build_refusal, built, first_failing, is_free_field}
+use Rattle.mk_transfer.specs.Said.{Run, shown}
+
+-- the fields at the start of lines, each with all its bytes
+abbrev pub fields_in_front : List TextLine → List (List ℕ)
+fields_in_front ls = map (λ f. f.raw) (fields_of (fields_from false ls))
+
+-- more than a separator stands after the fields
+abbrev pub has_body : List TextLine → Bool
+has_body ls = has_line (behind_head ls)
+
+-- what lines give for fields: those at the start and, where they have a body, an empty text for it, which is no field
+abbrev pub fields_given : List TextLine → List (List ℕ)
+fields_given ls = fields_in_front ls ++ (if has_body ls then [] ∷ [] else [])
+
+-- the name under which a reason is reported
+abbrev pub build_name : BuildError → List ℕ
+build_name (refused.BadField index) = codes "BadField"
+build_name (refused.BadType index) = codes "BadType"
+build_name (refused.BadName index) = codes "BadName"
+build_name refused.BadBoundary = codes "BadBoundary"
+build_name refused.Memory = codes "Memory"
+
+-- the index that a reason names, of a field or of a part
+abbrev pub index_of : BuildError → Option ℕ
+index_of (refused.BadField index) = Some index
+index_of (refused.BadType index) = Some index
+index_of (refused.BadName index) = Some index
+index_of refused.BadBoundary = None
+index_of refused.Memory = None
+
+-- an index after a name, where there is one
+abbrev pub behind_name : Option ℕ → List ℕ
+behind_name None = []
+behind_name (Some index) = space ∷ decimal index
+
+-- the line that reports why no message is built
+abbrev pub pack_line : BuildError → List ℕ
+pack_line error = codes "pack: " ++ (build_name error ++ (behind_name (index_of error) ++ line_feed ∷ []))
+
+-- the message goes out where there is no reason against it, and else the reason to the errors
+abbrev pub told : List ℕ → Option BuildError → Run
+told message None = shown message []
+told message (Some error) = shown [] (pack_line error)
+
+-- the message of the fields that a text gives and of these parts, with the line ending of the text
+abbrev pub packed : List ℕ → List Attached → List ℕ → Run
+packed boundary parts text =
+    let fields = fields_given (cut text) in
+    told (built (eol_of (cut text)) fields parts boundary) (build_refusal fields parts boundary)
+
+-- the same as a fact
+abbrev pub IsPacked : List ℕ → List Attached → List ℕ → Run → Type 0
+IsPacked boundary parts text run = run ≡ packed boundary parts text
+
+-- a text with a body is never packed: the reason names its first field that can't stand at the start, or their number where all can
+abbrev pub BodiesAreRefused : Type 0
+BodiesAreRefused = (text : List ℕ) (parts : List Attached) (boundary : List ℕ) → has_body (cut text) ≡ true →
+    let fields = fields_in_front (cut text) in
+    build_refusal (fields_given (cut text)) parts boundary ≡ Some (refused.BadField (unwrap_or (first_failing is_free_field fields) (length fields)))

@@ -1,0 +1,172 @@
+-- What a run that unpacks a message leaves in its devices.
+use Rattle.std.specs.Prelude.{◌≡◌, ◌⊎◌, ◌++◌, ℕ, Bool, false, not, List, [], ◌∷◌, Option, Result, Ok, Err}
+use Rattle.std.specs.Io.KnownBytes.{Appends, Consumes, Keeps}
+use Rattle.mk_line.specs.Lines.{is_nil}
+use Rattle.mk_tree.specs.Documents.{Document, tree}
+use Rattle.mk_tree.specs.Sections.{section_at}
+use Rattle.mk_mailbox.specs.Devices.{AppendsFront, Rose}
+use Rattle.mk_view.specs.Extracts.{IsExtract}
+use Rattle.mk_view.specs.FileNames.{Named}
+use Rattle.mk_transfer.specs.declared.status.Status.{Status}
+use Rattle.mk_transfer.specs.declared.status.Status.TheVariants.{Well, Refused, Usage, Fault, Memory}
+use Rattle.mk_transfer.specs.declared.status.Cause.{Cause}
+use Rattle.mk_transfer.specs.declared.status.Cause.TheVariants.{Read, Write, Memory as NoMemory}
+use Rattle.mk_show.specs.declared.unpacking.Manner.{Manner}
+use Rattle.mk_show.specs.Folders.{Files, Gets}
+use Rattle.mk_transfer.specs.RunClauses.{Held, Counts, IsDone, IsGivenUp, ReadFailed, WriteFailed}
+use Rattle.mk_show.specs.Shown.{IsSilent}
+use Rattle.mk_transfer.specs.Said.{shown, Said}
+use Rattle.mk_show.specs.Unpacking.{IsTarget, AllThere, Unpacks, AreLeaves}
+
+-- what the devices tell to which unpacking writes: the bytes that the output and the errors hold, and the files of the folder
+pub record Written : Type 0 where
+  pub output : Option (List ℕ)
+  pub errors : Option (List ℕ)
+  pub files : Option Files
+
+-- the same as a record
+abbrev pub written : Option (List ℕ) → Option (List ℕ) → Option Files → Written
+written output errors files = record { output = output; errors = errors; files = files }
+
+-- the failures that these devices count
+pub record Failures : Type 0 where
+  pub output : ℕ
+  pub errors : ℕ
+  pub folder : ℕ
+
+-- the same as a record
+abbrev pub failures : ℕ → ℕ → ℕ → Failures
+failures output errors folder = record { output = output; errors = errors; folder = folder }
+
+-- none of them failed
+pub record NoneFailed (before after : Failures) : Type 0 where
+  pub output : after.output ≡ before.output
+  pub errors : after.errors ≡ before.errors
+  pub folder : after.folder ≡ before.folder
+
+-- one of them failed
+abbrev pub SomeFailed : Failures → Failures → Type 0
+SomeFailed before after = Rose before.output after.output ⊎ Rose before.errors after.errors ⊎ Rose before.folder after.folder
+
+-- a text was put under a name, or under the first free one where files may not be written over
+pub record PutsText (over : Bool) (old new : Option Files) (name text target : List ℕ) : Type 0 where
+  pub target_is : IsTarget over old name target
+  pub gets : Gets old new target text
+
+-- no name was free, and nothing was put
+pub record PutsNone (over : Bool) (old new : Option Files) (name : List ℕ) : Type 0 where
+  pub kept : over ≡ false
+  pub there : AllThere old name
+  pub same : new ≡ old
+
+-- a front of a text was put so
+pub record PutsFront (over : Bool) (old new : Option Files) (name text : List ℕ) : Type 0 where
+  pub target : List ℕ
+  pub target_is : IsTarget over old name target
+  pub front : List ℕ
+  pub rest : List ℕ
+  pub text_is : text ≡ front ++ rest
+  pub gets : Gets old new target front
+
+-- a front of the content of a leaf was put under its name
+pub record GetsSome (over : Bool) (t : Document) (leaf : Named) (old new : Option Files) : Type 0 where
+  pub bytes : List ℕ
+  pub content : IsExtract (section_at leaf.0 t) bytes
+  pub put : PutsFront over old new leaf.1 bytes
+
+-- of the first of some leaves at most a front of its content was put, and of the others nothing
+abbrev pub GetsNext : Bool → Document → List Named → Option Files → Option Files → Type 0
+GetsNext over t [] old new = new ≡ old
+GetsNext over t (leaf ∷ leaves) old new = (new ≡ old) ⊎ GetsSome over t leaf old new
+
+-- leaves were unpacked, and all that is said of them went out
+pub record UnpackedAll (manner : Manner) (t : Document) (leaves : List Named) (refused : Bool) (before after : Written) : Type 0 where
+  pub said : Said
+  pub unpacks : Unpacks manner t leaves said before.files after.files
+  pub output : Appends before.output after.output said.output
+  pub errors : Appends before.errors after.errors said.errors
+  pub refused_is : refused ≡ not (is_nil said.errors)
+
+-- a front of the leaves was unpacked, a front of what is said of them went out, and of the next leaf at most a front was put
+pub record UnpackedSome (manner : Manner) (t : Document) (leaves : List Named) (before after : Written) : Type 0 where
+  pub done : List Named
+  pub rest : List Named
+  pub leaves_are : leaves ≡ done ++ rest
+  pub said : Said
+  pub between : Option Files
+  pub unpacks : Unpacks manner t done said before.files between
+  pub next : GetsNext manner.over t rest between after.files
+  pub output : AppendsFront before.output after.output said.output
+  pub errors : AppendsFront before.errors after.errors said.errors
+
+-- the manner of these two choices
+abbrev pub manner_of : Bool → Bool → Manner
+manner_of over silent = record { over = over; silent = silent }
+
+-- the run ended by itself: all leaves that are stored were unpacked
+pub record IsUnpacked (manner : Manner) (texts : Bool) (t : Document) (status : Status) (before after : Held) (old new : Option Files) : Type 0 where
+  pub leaves : List Named
+  pub are_leaves : AreLeaves texts t leaves
+  pub said : Said
+  pub unpacks : Unpacks manner t leaves said old new
+  pub run : IsDone status (shown said.output said.errors) before after
+
+-- the run was given up: a front of the leaves was unpacked, a front of what is said of them went out, and of the next leaf at
+-- most a front was put
+pub record IsBrokenOff (manner : Manner) (texts : Bool) (t : Document) (status : Status) (before after : Held) (old new : Option Files) : Type 0 where
+  pub leaves : List Named
+  pub are_leaves : AreLeaves texts t leaves
+  pub done : List Named
+  pub rest : List Named
+  pub leaves_are : leaves ≡ done ++ rest
+  pub said : Said
+  pub between : Option Files
+  pub unpacks : Unpacks manner t done said old between
+  pub next : GetsNext manner.over t rest between new
+  pub run : IsGivenUp status (shown said.output said.errors) before after
+
+-- the run was given up before any leaf was unpacked
+abbrev pub IsUnbegun : Status → Held → Held → Option Files → Option Files → Type 0
+IsUnbegun status before after old new = IsSilent status before after × (new ≡ old)
+
+-- what a run leaves that unpacks a document, by its status
+abbrev pub Stores : Manner → Bool → Document → Status → Held → Held → Option Files → Option Files → Type 0
+Stores manner texts t Well before after old new = IsUnpacked manner texts t Well before after old new
+Stores manner texts t Refused before after old new = IsUnpacked manner texts t Refused before after old new
+Stores manner texts t Usage before after old new = ⊥
+Stores manner texts t Fault before after old new = IsUnbegun Fault before after old new ⊎ IsBrokenOff manner texts t Fault before after old new
+Stores manner texts t Memory before after old new = IsUnbegun Memory before after old new ⊎ IsBrokenOff manner texts t Memory before after old new
+
+-- the same for the message that the run read
+abbrev pub LeavesUnpacked : Manner → Bool → Status → Held → Held → Option Files → Option Files → Type 0
+LeavesUnpacked manner texts status before after old new =
+    (message : List ℕ) × Consumes before.input after.input message × Stores manner texts (tree message) status before after old new
+
+-- nothing was written before the run was given up
+pub record IsUntouched (before after : Held) (old new : Option Files) : Type 0 where
+  pub output : Keeps before.output after.output
+  pub errors : Keeps before.errors after.errors
+  pub files : new ≡ old
+
+-- the run was given up after a front of the leaves, though not for a fault of reading
+pub record IsHalted (manner : Manner) (texts : Bool) (t : Document) (cause : Cause) (before after : Held) (old new : Option Files) : Type 0 where
+  pub leaves : List Named
+  pub are_leaves : AreLeaves texts t leaves
+  pub some : UnpackedSome manner t leaves (written before.output before.errors old) (written after.output after.errors new)
+  pub writing : cause ≡ Read → ⊥
+
+-- what a run leaves that unpacks a document, where it may be given up
+abbrev pub StoresSoFar : Manner → Bool → Document → Result Status Cause → Held → Held → Option Files → Option Files → Type 0
+StoresSoFar manner texts t (Ok status) before after old new = Stores manner texts t status before after old new
+StoresSoFar manner texts t (Err cause) before after old new = IsUntouched before after old new ⊎ IsHalted manner texts t cause before after old new
+
+-- the same for the message that the run read
+abbrev pub LeavesUnpackedSoFar : Manner → Bool → Result Status Cause → Held → Held → Option Files → Option Files → Type 0
+LeavesUnpackedSoFar manner texts result before after old new =
+    (message : List ℕ) × Consumes before.input after.input message × StoresSoFar manner texts (tree message) result before after old new
+
+-- the device failed that a cause speaks of
+abbrev pub IsBlamedForFolder : Cause → Counts → Counts → ℕ → ℕ → Type 0
+IsBlamedForFolder Read before after kept left = ReadFailed before after
+IsBlamedForFolder Write before after kept left = WriteFailed before after ⊎ Rose kept left
+IsBlamedForFolder NoMemory before after kept left = Unit {0}

@@ -1,0 +1,16 @@
+//! The runs that show, take apart and pack a message, over any devices.
+#![tactic(auto)]
+
+mod answers;
+mod folder;
+pub mod laws;
+mod packing;
+mod parts;
+mod showing;
+mod unpacking;
+
+pub use folder::Folder;
+pub use packing::run_pack;
+pub use parts::Spec;
+pub use showing::{read_doc, run_extract, run_sections};
+pub use unpacking::{try_unpack, unpack};

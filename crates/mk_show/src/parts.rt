@@ -1,0 +1,72 @@
+//! The files that are packed, as the command line names them.
+
+ghost use Rattle.std.specs.Prelude.{◌≡◌};
+ghost use Rattle.mk_line.specs.Ascii.{slash};
+ghost use Rattle.mk_show.specs.Parts.{file_name as name_of_file, is_text as is_of_text};
+
+use mk_build::Attach;
+use mk_script::parted;
+use std::alloc::{AllocError, Global};
+
+const COLON: u8 = b':';
+
+const SLASH: u8 = b'/';
+
+const TEXT: &[u8; 4] = b"text";
+
+/// A file that is packed as a part: TYPE:FILE.
+#[derive(Clone, Copy, Debug)]
+pub struct Spec<'a> {
+    pub media: &'a [u8],
+    pub path: &'a [u8],
+}
+
+impl<'a> Spec<'a> {
+    ghost use Rattle.std.specs.Prelude.{◌≡◌, IfOk};
+    ghost use Rattle.std.specs.Option.{option_map};
+    ghost use Rattle.mk_build.specs.BuildViews.{attached_of};
+    ghost use Rattle.mk_show.specs.Parts.{attached_file, spec_of, spec_view};
+
+    /// What a word names, which is cut at its first colon. `None` where it has none.
+    pub fn of(word: &'a [u8]) -> Option<Spec<'a>>
+        ensures { option_map spec_view result ≡ spec_of word.now }
+    {
+        match parted(word, COLON) {
+            Some((media, path)) => Some(Spec { media, path }),
+            None => None,
+        }
+    }
+
+    /// The part for the file, where it holds these bytes.
+    pub fn attach(&self, alloc: Global, text: Vec<u8>) -> Result<Attach, AllocError>
+        ensures { IfOk result (λ part. attached_of part ≡ attached_file (spec_view self.now) text.items) }
+    {
+        Ok(Attach {
+            media: Vec::from_slice(alloc, self.media)?,
+            name: Some(Vec::from_slice(alloc, file_name(self.path))?),
+            text,
+            base64: !is_text(self.media),
+        })
+    }
+}
+
+// What follows the last slash of a path.
+fn file_name(path: &[u8]) -> &[u8]
+    ensures { result.now ≡ name_of_file path.now }
+{
+    let mut name = path;
+    'each: while let Some((_, behind)) = parted(name, SLASH) {
+        name = behind;
+    }
+    name
+}
+
+// Whether a media type is one of texts, in any case.
+fn is_text(media: &[u8]) -> bool
+    ensures { result ≡ is_of_text media.now }
+{
+    match parted(media, SLASH) {
+        Some((main, _)) => main.eq_ignore_ascii_case(TEXT),
+        None => false,
+    }
+}

@@ -1,0 +1,119 @@
+//! Runs that show what a message is, over any devices.
+
+ghost use Rattle.std.specs.Prelude.{◌≡◌, ◌⊎◌, true, List, ℕ, IfOk, IfErr, OnOk, OnErr};
+ghost use Rattle.std.specs.Io.KnownBytes.{Appends, Consumes, IsAtEnd};
+ghost use Rattle.mk_mailbox.specs.Devices.{AppendsFront, Rose, IsLong};
+ghost use Rattle.mk_transfer.specs.RunClauses.{held, counts, SameFailures, ReadFailed, WriteFailed, ends_itself};
+ghost use Rattle.mk_show.specs.Shown.{IsListed, IsTaken, LeavesShown, Writes, run_of_answer};
+
+use crate::answers::{Answer, content, sections};
+use mk_mailbox::{Fault, Sink, Source};
+use mk_transfer::{Cause, Status, Stop, give_up, read_all, reading, write_all};
+use mk_tree::Doc;
+use std::alloc::Global;
+
+/// Lists the sections of the message that the input gives.
+pub fn run_sections<S: Source, O: Sink, E: Sink>(
+    alloc: Global,
+    input: &mut S,
+    out: &mut O,
+    err: &mut E,
+) -> Status
+    ensures leaves { LeavesShown IsListed result
+        (held (S.remaining input.old) (O.contents out.old) (E.contents err.old))
+        (held (S.remaining input.new) (O.contents out.new) (E.contents err.new)) }
+    ensures blamed { result ≡ Status.Fault →
+        let before = counts (S.failures input.old) (S.read_count input.old) (O.failures out.old) (E.failures err.old) in
+        let after = counts (S.failures input.new) (S.read_count input.new) (O.failures out.new) (E.failures err.new) in
+        ReadFailed before after ⊎ WriteFailed before after }
+    ensures clean { ends_itself result ≡ true → SameFailures
+        (counts (S.failures input.old) (S.read_count input.old) (O.failures out.old) (E.failures err.old))
+        (counts (S.failures input.new) (S.read_count input.new) (O.failures out.new) (E.failures err.new)) }
+{
+    let doc = match read_doc(alloc, input) {
+        Ok(doc) => doc,
+        Err(stop) => return give_up(err, reading(stop)),
+    };
+    match sections(alloc, &doc) {
+        Ok(answer) => finish(out, err, &answer),
+        Err(_) => give_up(err, Cause::Memory),
+    }
+}
+
+/// Gives the content of the section at a path of the message that the input gives, decoded where it is a leaf.
+pub fn run_extract<S: Source, O: Sink, E: Sink>(
+    alloc: Global,
+    input: &mut S,
+    out: &mut O,
+    err: &mut E,
+    path: &[u32],
+) -> Status
+    ensures leaves { LeavesShown (IsTaken path.now) result
+        (held (S.remaining input.old) (O.contents out.old) (E.contents err.old))
+        (held (S.remaining input.new) (O.contents out.new) (E.contents err.new)) }
+    ensures blamed { result ≡ Status.Fault →
+        let before = counts (S.failures input.old) (S.read_count input.old) (O.failures out.old) (E.failures err.old) in
+        let after = counts (S.failures input.new) (S.read_count input.new) (O.failures out.new) (E.failures err.new) in
+        ReadFailed before after ⊎ WriteFailed before after }
+    ensures clean { ends_itself result ≡ true → SameFailures
+        (counts (S.failures input.old) (S.read_count input.old) (O.failures out.old) (E.failures err.old))
+        (counts (S.failures input.new) (S.read_count input.new) (O.failures out.new) (E.failures err.new)) }
+{
+    let doc = match read_doc(alloc, input) {
+        Ok(doc) => doc,
+        Err(stop) => return give_up(err, reading(stop)),
+    };
+    match content(alloc, &doc, path) {
+        Ok(answer) => finish(out, err, &answer),
+        Err(_) => give_up(err, Cause::Memory),
+    }
+}
+
+/// Reads the message that the input gives.
+pub fn read_doc<S: Source>(alloc: Global, input: &mut S) -> Result<Doc, Stop>
+    ensures all { IfOk result (λ doc. Consumes (S.remaining input.old) (S.remaining input.new) doc) }
+    ensures ended { OnOk result (IsAtEnd (S.remaining input.new)) }
+    ensures well { OnOk result (S.failures input.new ≡ S.failures input.old) }
+    ensures front { OnErr result ((bytes : List ℕ) × Consumes (S.remaining input.old) (S.remaining input.new) bytes) }
+    ensures fault { IfErr result (λ stop. stop ≡ Stop.Fault
+        → Rose (S.failures input.old) (S.failures input.new)
+        ⊎ IsLong (S.read_count input.old) (S.read_count input.new)) }
+{
+    let message = read_all(alloc, input)?;
+    match Doc::read(alloc, message) {
+        Ok(doc) => Ok(doc),
+        Err(_) => Err(Stop::Memory),
+    }
+}
+
+/// Writes an answer, and says how the run ends.
+pub fn finish<O: Sink, E: Sink>(out: &mut O, err: &mut E, answer: &Answer) -> Status
+    ensures written { Writes result (run_of_answer answer.now) (O.contents out.old) (O.contents out.new) (E.contents err.old) (E.contents err.new) }
+    ensures blamed { result ≡ Status.Fault → Rose (O.failures out.old) (O.failures out.new) ⊎ Rose (E.failures err.old) (E.failures err.new) }
+    ensures output_clean { ends_itself result ≡ true → O.failures out.new ≡ O.failures out.old }
+    ensures errors_clean { ends_itself result ≡ true → E.failures err.new ≡ E.failures err.old }
+{
+    match write_both(out, err, answer) {
+        Ok(()) => {
+            if answer.errors.is_empty() {
+                Status::Well
+            } else {
+                Status::Refused
+            }
+        }
+        Err(Fault) => give_up(err, Cause::Write),
+    }
+}
+
+fn write_both<O: Sink, E: Sink>(out: &mut O, err: &mut E, answer: &Answer) -> Result<(), Fault>
+    ensures output { OnOk result (Appends (O.contents out.old) (O.contents out.new) answer.now.output.items) }
+    ensures errors { OnOk result (Appends (E.contents err.old) (E.contents err.new) answer.now.errors.items) }
+    ensures output_front { OnErr result (AppendsFront (O.contents out.old) (O.contents out.new) answer.now.output.items) }
+    ensures errors_front { OnErr result (AppendsFront (E.contents err.old) (E.contents err.new) answer.now.errors.items) }
+    ensures output_well { OnOk result (O.failures out.new ≡ O.failures out.old) }
+    ensures errors_well { OnOk result (E.failures err.new ≡ E.failures err.old) }
+    ensures fault { OnErr result (Rose (O.failures out.old) (O.failures out.new) ⊎ Rose (E.failures err.old) (E.failures err.new)) }
+{
+    write_all(out, &answer.output)?;
+    write_all(err, &answer.errors)
+}
