@@ -4,13 +4,16 @@ use Rattle.std.proofs.lemmas.Bool.{ltb-false}
 use Rattle.std.proofs.lemmas.List.{drop-drop, drop-take}
 use Rattle.std.proofs.KnownBytes.{Consumes-trans}
 use Rattle.std.specs.Io.KnownBytes.{Consumes}
-use Rattle.mk_line.specs.Lines.{cut}
+use Rattle.mk_line.specs.Lines.{cut, has_line_feed}
 use Rattle.mk_mailbox.specs.Gathered.{IsLastSplit, IsSplit, later_of}
 use Rattle.mk_line.specs.Meters.{ticked}
 use Rattle.mk_mailbox.specs.Devices.{IsFull}
 use Rattle.mk_mailbox.specs.Held.{Held, unread}
-use Rattle.mk_mailbox.specs.Mailboxes.{FitsReads, IsNextPiece, IsOpenInFront, chunk_bytes}
+use Rattle.mk_mailbox.specs.declared.intake.Intake.{Intake}
+use Rattle.mk_mailbox.specs.Intakes.{IsIntake, kept_by}
+use Rattle.mk_mailbox.specs.Mailboxes.{FitsReads, IsKnownWhole, IsNextPiece, IsOpenInFront, chunk_bytes}
 use Rattle.mk_mailbox.specs.Pieces.{mailbox_pieces}
+use Rattle.mk_mailbox.proofs.LinesGathered.{gathered_unknown}
 use Rattle.mk_mailbox.proofs.MessageLines.{pieces_of}
 
 longer : (piece new old : List ℕ) → old ≡ piece ++ new → 0 < length piece → 0 < length old
@@ -70,6 +73,14 @@ unread_none chunk at filled e = ap (λ n. drop n (take filled chunk)) e ∙ none
     none_left zero (x ∷ xs) = refl
     none_left (suc n) [] = refl
     none_left (suc n) (x ∷ xs) = none_left n xs
+
+-- where all of the chunk was taken, what was gathered is all that is kept
+pub kept_gathered : (i : Intake) → i.at ≡ i.filled → kept_by i ≡ i.gathered.bytes.items
+kept_gathered i e = ap (λ rest. i.gathered.bytes.items ++ rest) (unread_none i.chunk.items i.at i.filled e) ∙ append-nil i.gathered.bytes.items
+
+-- and while its last line is open, no message of it is known to be whole
+pub kept_unknown : (i : Intake) → IsIntake i → i.at ≡ i.filled → has_line_feed (drop i.gathered.line i.gathered.bytes.items) ≡ false → IsKnownWhole (kept_by i) → ⊥
+kept_unknown i w e h k = gathered_unknown i.gathered.bytes.items i.gathered.line i.gathered.behind_empty w.gathered h (subst IsKnownWhole (kept_gathered i e) k)
 
 -- bytes that came from one read more, or from none
 ticked_by : (t : Bool) (n old new : ℕ) → nat_lt old (2 ^ 64 - 1) ≡ t → n ≤ chunk_bytes → new ≡ (if t then old + 1 else old) → (n + chunk_bytes * old ≤ chunk_bytes * new) ⊎ IsFull new

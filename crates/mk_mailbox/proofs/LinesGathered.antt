@@ -1,17 +1,17 @@
 -- Lines that are gathered, and what is given of them.
-use Rattle.std.proofs.Common.{◌≡◌, ◌==◌, ◌<◌, ◌&&◌, if◌then◌else◌, suc, ◌++◌, ℕ, Bool, true, false, List, [], ◌∷◌, refl, ap, sym, ◌∙◌, inl, map, length, take, drop, subst, length-append, append-nil, append_assoc, take-append-drop, length-drop, arith}
+use Rattle.std.proofs.Common.{◌≡◌, ◌==◌, ◌<◌, ◌&&◌, if◌then◌else◌, suc, ◌++◌, ℕ, Bool, true, false, List, [], ◌∷◌, refl, ap, sym, ◌∙◌, inl, inr, map, length, take, drop, subst, length-append, append-nil, append_assoc, take-append-drop, length-drop, arith}
 use Rattle.std.proofs.Math.Seq.{take-length, drop-length}
-use Rattle.std.proofs.lemmas.Bool.{ne_eqb}
+use Rattle.std.proofs.lemmas.Bool.{cases_Bool, ne_eqb}
 use Rattle.std.proofs.lemmas.List.{drop-append-le, length-take-le, take-append-le}
 use Rattle.mk_line.specs.declared.cutting.Ending.TheVariants.{Missing}
 use Rattle.mk_line.specs.Kinds.{is_from_line}
 use Rattle.mk_line.specs.Lines.{cut, has_line_feed, is_nil, text_line, text_of}
 use Rattle.mk_line.proofs.Cuts.{cut_whole}
 use Rattle.mk_mailbox.specs.Gathered.{IsGathered, IsLastSplit, IsOneLine, IsOnePiece, IsSplit, IsWholeLine, front_of, later_of}
-use Rattle.mk_mailbox.specs.Mailboxes.{IsOpenInFront}
+use Rattle.mk_mailbox.specs.Mailboxes.{IsKnownWhole, IsOpenInFront, KnowsFirst}
 use Rattle.mk_mailbox.specs.Pieces.{is_first, front, later, parted, mailbox_pieces}
 use Rattle.mk_mailbox.proofs.LineBytes.{one_line_on}
-use Rattle.mk_mailbox.proofs.MessageLines.{front_first, front_line, later_first, later_line, whole_closed, whole_some}
+use Rattle.mk_mailbox.proofs.MessageLines.{front_first, front_line, later_first, later_line, pieces_of, whole_closed, whole_some}
 
 -- more of the last line
 pub grown : (bytes more : List ℕ) (line : ℕ) (e : Bool) → IsGathered bytes line e → has_line_feed (drop line bytes) ≡ false → IsOneLine more → IsGathered (bytes ++ more) line e
@@ -137,3 +137,23 @@ last_whole bytes line e g h t o = record {
       ∙ ((g.before (drop line bytes)).0 ∙ (ap (λ x. take line bytes ++ x) (front_open e (drop line bytes) h t) ∙ take-append-drop line bytes));
   later = ap (later_of false) (sym (take-append-drop line bytes)) ∙ ((g.before (drop line bytes)).1 ∙ later_open e (drop line bytes) h t);
 }
+
+-- nothing after a message, or an open line, tells whether it is whole
+open_unknown : (p line : List ℕ) → has_line_feed line ≡ false → KnowsFirst (p ∷ mailbox_pieces line) → ⊥
+open_unknown p [] h k = k
+open_unknown p (byte ∷ bytes) h k =
+    let fed : has_line_feed (front_of false (byte ∷ bytes)) ≡ true = subst (λ ps. KnowsFirst (p ∷ ps)) (pieces_of (byte ∷ bytes) (omega arith)) k in
+    let same : has_line_feed (front_of false (byte ∷ bytes)) ≡ has_line_feed (byte ∷ bytes) = ap has_line_feed (front_open false (byte ∷ bytes) h refl) in
+    cc
+
+-- as long as its last line is open, no message of what is gathered is known to be whole
+pub gathered_unknown : (bytes : List ℕ) (line : ℕ) (e : Bool) → IsGathered bytes line e → has_line_feed (drop line bytes) ≡ false → IsKnownWhole bytes → ⊥
+gathered_unknown [] line e g h k = k
+gathered_unknown (byte ∷ bytes) line e g h k =
+    let all = byte ∷ bytes in
+    let later : later_of false all ≡ later_of e (drop line all) = ap (later_of false) (sym (take-append-drop line all)) ∙ (g.before (drop line all)).1 in
+    let known : KnowsFirst (front_of false all ∷ later_of e (drop line all)) = subst (λ ps. KnowsFirst (front_of false all ∷ ps)) later (subst KnowsFirst (pieces_of all (omega arith)) k) in
+    elim (cases_Bool (is_first e (drop line all))) [
+      | inl t ↦ open_unknown (front_of false all) (drop line all) h (subst (λ ps. KnowsFirst (front_of false all ∷ ps)) (later_open_first e (drop line all) h t) known)
+      | inr f ↦ subst (λ ps. KnowsFirst (front_of false all ∷ ps)) (later_open e (drop line all) h f) known
+    ]

@@ -1,6 +1,6 @@
 -- What the calls of a mailbox answer (own).
 use Rattle.std.specs.Prelude.{◌≡◌, ◌<◌, ◌≤◌, ◌+◌, ◌*◌, ◌++◌, ◌⊎◌, ℕ, true, List, [], ◌∷◌, Option, None, Some, length, slice_get}
-use Rattle.mk_line.specs.Lines.{TextLine, cut, is_open}
+use Rattle.mk_line.specs.Lines.{TextLine, cut, has_line_feed, is_open}
 use Rattle.mk_mailbox.specs.Devices.{IsFull}
 use Rattle.mk_mailbox.specs.Held.{Held}
 use Rattle.mk_mailbox.specs.Pieces.{mailbox_pieces}
@@ -19,6 +19,16 @@ pub record IsNextPiece (piece : List ℕ) (old : Held) (read : List ℕ) (new : 
   pub some : 0 < length piece
   pub all : new.kept ≡ [] → new.ended ≡ true
   pub closed : IsOpenInFront (cut new.kept) → new.ended ≡ true
+
+-- the first of some messages is known to be whole: the line that begins the next one is whole
+abbrev pub KnowsFirst : List (List ℕ) → Type 0
+KnowsFirst [] = ⊥
+KnowsFirst (p ∷ []) = ⊥
+KnowsFirst (p ∷ q ∷ ps) = has_line_feed q ≡ true
+
+-- the first message of a text is known to be whole, whatever follows
+abbrev pub IsKnownWhole : List ℕ → Type 0
+IsKnownWhole text = KnowsFirst (mailbox_pieces text)
 
 -- nothing was kept or read, and the input has ended
 pub record IsOver (old : Held) (read : List ℕ) (new : Held) : Type 0 where

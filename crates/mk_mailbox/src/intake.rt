@@ -9,7 +9,7 @@ ghost use Rattle.mk_mailbox.specs.Devices.{IsLong, Rose};
 ghost use Rattle.mk_mailbox.specs.Gathered.{IsChunk, IsGathered, IsLastSplit, IsOneLine, IsSplit};
 ghost use Rattle.mk_mailbox.specs.Held.{unread};
 ghost use Rattle.mk_mailbox.specs.Intakes.{IsIntake, held_of, kept_by};
-ghost use Rattle.mk_mailbox.specs.Mailboxes.{Answers, FitsReads, chunk_bytes};
+ghost use Rattle.mk_mailbox.specs.Mailboxes.{Answers, FitsReads, IsKnownWhole, chunk_bytes};
 
 use crate::device::{CHUNK_BYTES, Fault, MOST_READS, Source};
 use crate::gathering::Gathered;
@@ -55,6 +55,10 @@ impl Intake {
             × MatchResult result (λ o. Answers (option_map (λ v. v.items) o) (held_of self.old) read (held_of self.new)) (λ _. kept_by self.new ≡ kept_by self.old ++ read) }
         ensures ended { self.new.ended ≡ true → (self.old.ended ≡ true) ⊎ IsAtEnd (S.remaining r.new) }
         ensures stays { self.old.ended ≡ true → (self.new.ended ≡ true) × (S.remaining r.new ≡ S.remaining r.old) }
+        ensures known { IsKnownWhole (kept_by self.old)
+            → (S.remaining r.new ≡ S.remaining r.old) × (S.read_count r.new ≡ S.read_count r.old) }
+        ensures unknown { IfErr result (λ e. e ≡ MailFault.ReadFault
+            → (IsKnownWhole (kept_by self.new) → ⊥) ⊎ IsLong (S.read_count r.old) (S.read_count r.new)) }
         ensures fault { IfErr result (λ e. e ≡ MailFault.ReadFault
             → Rose (S.failures r.old) (S.failures r.new) ⊎ IsLong (S.read_count r.old) (S.read_count r.new)) }
         ensures held { IfErr result (λ e. e ≡ MailFault.ReadFault
@@ -127,6 +131,7 @@ impl Intake {
         ensures bytes { (read : List ℕ) × Consumes (S.remaining r.old) (S.remaining r.new) read
             × (kept_by self.new ≡ kept_by self.old ++ read)
             × FitsReads read (S.read_count r.old) (S.read_count r.new) }
+        ensures still { OnErr result (kept_by self.new ≡ kept_by self.old) }
         ensures ended { self.new.ended ≡ true → IsAtEnd (S.remaining r.new) }
         ensures grew { OnOk result (self.new.ended ≡ false → length (kept_by self.old) < length (kept_by self.new)) }
         ensures counted { OnOk result (S.read_count r.new ≡ ticked (S.read_count r.old)) }

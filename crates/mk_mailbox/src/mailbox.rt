@@ -3,7 +3,7 @@ ghost use Rattle.std.specs.Prelude.{◌≡◌, ◌≤◌, ◌++◌, ◌⊎◌, [
 ghost use Rattle.std.specs.Io.KnownBytes.{Consumes, IsAtEnd};
 ghost use Rattle.std.specs.Option.{option_map};
 ghost use Rattle.mk_mailbox.specs.Devices.{IsLong, Rose};
-ghost use Rattle.mk_mailbox.specs.Mailboxes.{Answers, FitsReads};
+ghost use Rattle.mk_mailbox.specs.Mailboxes.{Answers, FitsReads, IsKnownWhole};
 
 use crate::device::Source;
 use crate::intake::Intake;
@@ -61,6 +61,12 @@ impl Mailbox {
             × MatchResult result (λ o. Answers (option_map (λ v. v.items) o) self.old read self.new) (λ _. self.new.kept ≡ self.old.kept ++ read) }
         ensures ended { self.new.ended ≡ true → (self.old.ended ≡ true) ⊎ IsAtEnd (S.remaining r.new) }
         ensures stays { self.old.ended ≡ true → (self.new.ended ≡ true) × (S.remaining r.new ≡ S.remaining r.old) }
+
+        // Nothing is read while a message is known to be whole, and where the source fails none of what is kept is.
+        ensures known { IsKnownWhole self.old.kept
+            → (S.remaining r.new ≡ S.remaining r.old) × (S.read_count r.new ≡ S.read_count r.old) }
+        ensures unknown { IfErr result (λ e. e ≡ MailFault.ReadFault
+            → (IsKnownWhole self.new.kept → ⊥) ⊎ IsLong (S.read_count r.old) (S.read_count r.new)) }
         ensures fault { IfErr result (λ e. e ≡ MailFault.ReadFault
             → Rose (S.failures r.old) (S.failures r.new) ⊎ IsLong (S.read_count r.old) (S.read_count r.new)) }
 

@@ -1,5 +1,5 @@
 -- Messages filtered in turn: what went out so far, and what is left to be said.
-use Rattle.std.proofs.Common.{◌≡◌, ◌≤◌, ◌+◌, ◌*◌, ◌⊎◌, ◌++◌, ◌||◌, ℕ, suc, Bool, true, false, not, if◌then◌else◌, Option, None, Some, IfSome, Result, Ok, Err, OnErr, List, [], ◌∷◌, refl, ap, sym, ◌∙◌, subst, inl, inr, filter, length, length-append, append_assoc, append-nil, arith}
+use Rattle.std.proofs.Common.{◌≡◌, ◌≤◌, ◌+◌, ◌-◌, ◌*◌, nat_le, ◌⊎◌, ◌++◌, ◌||◌, ℕ, suc, Bool, true, false, not, if◌then◌else◌, Option, None, Some, IfSome, Result, Ok, Err, OnErr, List, [], ◌∷◌, refl, ap, sym, ◌∙◌, subst, inl, inr, filter, length, length-append, append_assoc, append-nil, arith}
 use Rattle.std.proofs.KnownBytes.{Appends-kept, Appends-nil, Appends-trans}
 use Rattle.std.specs.Io.KnownBytes.{Appends, Keeps}
 use Rattle.std.specs.List.{flat_map}
@@ -20,18 +20,20 @@ use Rattle.mk_mailbox.specs.Devices.{AppendsFront, IsFull, IsLong, Rose}
 use Rattle.mk_mail.specs.Filtered.{outcome, text_left}
 use Rattle.mk_mailbox.specs.Held.{Held as Kept}
 use Rattle.mk_mail.specs.Letters.{PlainLetters, edits_of}
-use Rattle.mk_mailbox.specs.Mailboxes.{FitsReads, IsNextPiece, IsOver, chunk_bytes}
+use Rattle.mk_mailbox.specs.Mailboxes.{FitsReads, IsKnownWhole, IsNextPiece, IsOver, chunk_bytes}
 use Rattle.mk_mailbox.specs.Pieces.{mailbox_pieces}
 use Rattle.mk_mail.proofs.FieldNames.{root_fields}
-use Rattle.mk_transfer.specs.declared.status.Status.TheVariants.{Well, Refused}
+use Rattle.mk_transfer.specs.declared.status.Status.{Status}
+use Rattle.mk_transfer.specs.declared.status.Status.TheVariants.{Well, Refused, Usage, Fault, Memory as NoRoom}
 use Rattle.mk_transfer.specs.declared.status.Cause.{Cause}
 use Rattle.mk_transfer.specs.declared.status.Cause.TheVariants.{Read, Write, Memory}
 use Rattle.mk_transfer.specs.declared.transfer.Stop.{Stop}
 use Rattle.mk_transfer.specs.declared.transfer.Stop.TheVariants.{Fault as Stopped, Memory as Wanting}
-use Rattle.mk_run.specs.FilterClauses.{Filters, IsBroken, IsEdited, IsFiltered, IsReason, SaysAll, SaysSome}
+use Rattle.mk_run.specs.FilterClauses.{EndsFiltered, Filters, GivesKnown, IsBroken, IsEdited, IsFiltered, IsReason, SaysAll, SaysSome}
 use Rattle.mk_run.specs.Filtering.{given_by, message_line, report_of, said_from, said_of, said_of_edits, said_or}
-use Rattle.mk_transfer.specs.RunClauses.{Held, IsSent, IsStopped, cause_line, cause_of_writing, held, status_of}
-use Rattle.mk_transfer.specs.Said.{shown, Said, said_behind, silence}
+use Rattle.mk_transfer.specs.RunClauses.{Held, IsSent, IsStopped, Reason, cause_of_writing, held, status_of}
+use Rattle.mk_transfer.specs.Said.{Run, shown, Said, said_behind, silence}
+use Rattle.mk_transfer.proofs.GivenUp.{not_reading}
 use Rattle.mk_transfer.proofs.Fronts.{AppendsFront-behind, not-is_nil-append, AppendsFront-none, AppendsFront-whole}
 
 -- ---- what is said of messages, one after another
@@ -328,29 +330,61 @@ IsFiltered-kept said refused before input out left err f k = record {
 }
 
 -- a run that stops once all messages were filtered
-pub IsBroken-last : (each : Bool) (stop : Stop) (cause : Cause) (said : Said) (refused : Bool) (before : Held) (input out left err : Option (List ℕ))
-    → cause ≡ cause_of_writing stop → IsFiltered said refused before (held input out err) → Keeps out left → IsBroken each cause said before (held input left err)
-IsBroken-last each stop cause said refused before input out left err e f k = record {
+pub IsBroken-last : (IsKnown : Cause → Type 0) (each : Bool) (stop : Stop) (cause : Cause) (said : Said) (refused : Bool) (before : Held) (input out left err : Option (List ℕ))
+    → cause ≡ cause_of_writing stop → IsFiltered said refused before (held input out err) → Keeps out left → ((cause ≡ Read → ⊥) → IsKnown cause)
+    → IsBroken IsKnown each cause said before (held input left err)
+IsBroken-last IsKnown each stop cause said refused before input out left err e f k known = record {
   says = record {
     output = AppendsFront-whole before.output left said.output (Appends-kept before.output out left said.output f.says.output k);
     errors = AppendsFront-whole before.errors err said.errors f.says.errors;
   };
   silent = λ _ r. not_reading stop cause e r;
+  known = known (λ r. not_reading stop cause e r);
 }
 
-pub Filters-refused : (each : Bool) (said : Said) (before after : Held) → IsFiltered said true before after → Filters each Refused (shown said.output said.errors) before after
-Filters-refused each said before after f =
+pub EndsFiltered-refused : (said : Said) (before after : Held) → IsFiltered said true before after → EndsFiltered Refused (shown said.output said.errors) before after
+EndsFiltered-refused said before after f =
     record { status_is = some_line (is_nil said.errors) f.says.refused_is; written = record { output = f.says.output; errors = f.says.errors }; read = f.ended }
 
-pub Filters-well : (each : Bool) (said : Said) (before after : Held) → IsFiltered said false before after → Filters each Well (shown said.output said.errors) before after
-Filters-well each said before after f =
+pub EndsFiltered-well : (said : Said) (before after : Held) → IsFiltered said false before after → EndsFiltered Well (shown said.output said.errors) before after
+EndsFiltered-well said before after f =
     record { status_is = no_line (is_nil said.errors) f.says.refused_is; written = record { output = f.says.output; errors = f.says.errors }; read = f.ended }
 
-pub Filters-given_up : (each : Bool) (cause : Cause) (said : Said) (before : Held) (input output between errors : Option (List ℕ)) → IsBroken each cause said before (held input output between)
-    → AppendsFront between errors (cause_line cause) → Filters each (status_of cause) (shown said.output said.errors) before (held input output errors)
-Filters-given_up each Read said before input output between errors b line =
-    record { output = b.says.output; cause = Read; status_is = refl; between = between; errors = b.says.errors; line = line; silent = b.silent }
-Filters-given_up each Write said before input output between errors b line =
-    record { output = b.says.output; cause = Write; status_is = refl; between = between; errors = b.says.errors; line = line; silent = b.silent }
-Filters-given_up each Memory said before input output between errors b line =
-    record { output = b.says.output; cause = Memory; status_is = refl; between = between; errors = b.says.errors; line = line; silent = b.silent }
+-- a run that ended by itself
+pub Filters-ended : (why : Reason) (IsKnown : Cause → Type 0) (each : Bool) (status : Status) (run : Run) (before after : Held) → EndsFiltered status run before after → Filters why IsKnown each status run before after
+Filters-ended why IsKnown each Well run before after e = e
+Filters-ended why IsKnown each Refused run before after e = e
+Filters-ended why IsKnown each Usage run before after e = e
+Filters-ended why IsKnown each Fault run before after e = absurd e
+Filters-ended why IsKnown each NoRoom run before after e = absurd e
+
+pub Filters-given_up : (why : Reason) (IsKnown : Cause → Type 0) (each : Bool) (cause : Cause) (said : Said) (before : Held) (input output between errors : Option (List ℕ))
+    → IsBroken IsKnown each cause said before (held input output between)
+    → why cause between errors → Filters why IsKnown each (status_of cause) (shown said.output said.errors) before (held input output errors)
+Filters-given_up why IsKnown each Read said before input output between errors b line =
+    record { output = b.says.output; cause = Read; status_is = refl; between = between; errors = b.says.errors; line = line; silent = b.silent; known = b.known }
+Filters-given_up why IsKnown each Write said before input output between errors b line =
+    record { output = b.says.output; cause = Write; status_is = refl; between = between; errors = b.says.errors; line = line; silent = b.silent; known = b.known }
+Filters-given_up why IsKnown each Memory said before input output between errors b line =
+    record { output = b.says.output; cause = Memory; status_is = refl; between = between; errors = b.says.errors; line = line; silent = b.silent; known = b.known }
+
+-- ---- messages that are known to be whole
+
+-- reading failed between two messages, and of what is kept none is known to be whole
+pub known_between : (l : PlainLetters) (turn : ℕ) (refused : Bool) (text read : List ℕ) (done : List (List ℕ)) (old new : Kept) (out out_after err err_after : Option (List ℕ))
+    → AreOut l turn refused text done old out out_after err err_after → (old.ended ≡ true → read ≡ []) → new.kept ≡ old.kept ++ read → (IsKnownWhole new.kept → ⊥)
+    → GivesKnown l (text ++ read) out out_after
+known_between l turn refused text read done old new out out_after err err_after a r k u = record {
+  given = done;
+  rest = new.kept;
+  parts = read_all l turn refused text read done old out out_after err err_after a r ∙ ap (λ x. done ++ mailbox_pieces x) (sym k);
+  unknown = u;
+  output = a.says.output;
+}
+
+-- so many reads were made that reading is given up
+pub too_many : (t : Bool) (before now : ℕ) → t ≡ nat_le 2147483647 (now - before) → t ≡ true → IsLong before now
+too_many t before now e h = inl (enough (nat_le 2147483647 (now - before)) refl (sym e ∙ h))
+  where
+    enough : (u : Bool) → nat_le 2147483647 (now - before) ≡ u → u ≡ true → before + 2147483647 ≤ now
+    enough u k g = let m : 2147483647 ≤ now - before = leb-true _ _ (k ∙ g) in omega (arith, m)

@@ -18,10 +18,10 @@ use Rattle.mk_transfer.specs.declared.transfer.Stop.{Stop}
 use Rattle.mk_transfer.specs.declared.transfer.Stop.TheVariants.{Fault as Stopped, Memory as Wanting}
 use Rattle.mk_script.specs.ScriptSteps.{ScriptStep}
 use Rattle.mk_run.specs.Journaling.{Journaling, begun, named_by}
-use Rattle.mk_run.specs.JournalRuns.{IsBlamedFor, LeavesJournal, LeavesJournalSoFar, Prints}
+use Rattle.mk_run.specs.JournalRuns.{LeavesJournal, LeavesJournalSoFar, Prints}
 use Rattle.mk_transfer.specs.Said.{Run}
 use Rattle.mk_run.specs.Runs.{ScriptRun, run_from, errors_of}
-use Rattle.mk_transfer.specs.RunClauses.{Held, Counts, Leaves, LeavesSoFar, cause_line, cause_of_writing, ends_itself, status_of}
+use Rattle.mk_transfer.specs.RunClauses.{Held, Counts, IsBlamedWith, LeavesSoFar, ends_itself, status_of}
 use Rattle.mk_run.specs.inner.Keeping.{says_memory}
 use Rattle.mk_run.specs.inner.Sessions.{LeavesSession, Sunk, sunk}
 
@@ -62,21 +62,26 @@ session_ended (Ok status) pieces steps journaling h before after finished w = el
 ]
 session_ended (Err cause) pieces steps journaling h before after finished w = tt
 
--- steps on a session don't read, so a sink is to blame where a device is
+-- steps on a session don't read, so a sink is to blame where a device is, and none where memory ran out
 pub session_blamed : (result : Result Status Cause) (script : ScriptRun) (before after : Sunk) (finished : Bool) (old new : Counts) (kept left : ℕ)
-    → LeavesSession result script before after finished
+    → LeavesSession result script before after finished → new.input ≡ old.input
     → IfErr result (λ cause. cause ≡ Write → Rose old.output new.output ⊎ (Rose old.errors new.errors ⊎ Rose kept left))
-    → IfErr result (λ cause. IsBlamedFor cause old new kept left)
-session_blamed (Ok status) script before after finished old new kept left w blamed = tt
-session_blamed (Err Read) script before after finished old new kept left w blamed = absurd (w.unread refl)
-session_blamed (Err Write) script before after finished old new kept left w blamed = elim (blamed refl) [
-  | inl a ↦ inl (inl a)
-  | inr b ↦ elim b [
-    | inl e ↦ inl (inr e)
-    | inr j ↦ inr j
-  ]
-]
-session_blamed (Err Memory) script before after finished old new kept left w blamed = tt
+    → IfErr result (λ cause. cause ≡ Memory → (new.output ≡ old.output) × ((new.errors ≡ old.errors) × (left ≡ kept)))
+    → IfErr result (λ cause. IsBlamedWith cause old new kept left)
+session_blamed (Ok status) script before after finished old new kept left w well blamed steady = tt
+session_blamed (Err Read) script before after finished old new kept left w well blamed steady = absurd (w.unread refl)
+session_blamed (Err Write) script before after finished old new kept left w well blamed steady = (sinks_failed (blamed refl), well)
+  where
+    sinks_failed : Rose old.output new.output ⊎ (Rose old.errors new.errors ⊎ Rose kept left) → (Rose old.output new.output ⊎ Rose old.errors new.errors) ⊎ Rose kept left
+    sinks_failed h = elim h [
+      | inl a ↦ inl (inl a)
+      | inr b ↦ elim b [
+        | inl e ↦ inl (inr e)
+        | inr j ↦ inr j
+      ]
+    ]
+session_blamed (Err Memory) script before after finished old new kept left w well blamed steady =
+    let same = steady refl in (record { input = well; output = same.0; errors = same.1.0 }, same.1.1)
 
 -- an error that doesn't speak of memory names a reason
 pub named_reason : (error : LoadError) → says_memory error ≡ false → (reason : JournalRefusal) × (named_by error ≡ Some reason)

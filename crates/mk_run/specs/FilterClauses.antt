@@ -1,11 +1,13 @@
 -- What a run of letters leaves in its devices.
-use Rattle.std.specs.Prelude.{◌≡◌, ℕ, Bool, false, not, List, Option, None, Some, Result, Ok, Err}
+use Rattle.std.specs.Prelude.{◌≡◌, ◌⊎◌, ◌++◌, ℕ, Bool, true, false, not, List, Option, None, Some, Result, Ok, Err}
 use Rattle.std.specs.Io.KnownBytes.{Appends, Consumes, IsAtEnd, Keeps}
 use Rattle.mk_line.specs.Lines.{is_nil}
 use Rattle.mk_decide.specs.declared.errors.EditError.{EditError}
 use Rattle.mk_decide.specs.Answers.{refusal_of}
 use Rattle.mk_edit.specs.Groups.{Together}
 use Rattle.mk_mailbox.specs.Devices.{AppendsFront}
+use Rattle.mk_mailbox.specs.Mailboxes.{IsKnownWhole}
+use Rattle.mk_mailbox.specs.Pieces.{mailbox_pieces}
 use Rattle.mk_mail.specs.Filtered.{filtered, outcome}
 use Rattle.mk_mail.specs.Letters.{PlainLetters}
 use Rattle.mk_transfer.specs.declared.status.Status.{Status}
@@ -13,31 +15,55 @@ use Rattle.mk_transfer.specs.declared.status.Status.TheVariants.{Well, Refused, 
 use Rattle.mk_transfer.specs.declared.status.Cause.{Cause}
 use Rattle.mk_transfer.specs.declared.status.Cause.TheVariants.{Read}
 use Rattle.mk_run.specs.Filtering.{field_run, messages_of, said_from}
-use Rattle.mk_transfer.specs.RunClauses.{Held, IsDone, cause_line, status_of}
+use Rattle.mk_transfer.specs.RunClauses.{Held, IsDone, Reason, status_of}
 use Rattle.mk_transfer.specs.Said.{Run, Said}
 
--- the run was given up: a front of the output and of the errors went out, and then a front of the line that says why; where
--- reading failed nothing went to the output, unless the messages go out one by one
-pub record IsCutShort (each : Bool) (status : Status) (run : Run) (before after : Held) : Type 0 where
+-- all messages that are known to be whole went out: of the rest of what was read none is
+pub record GivesKnown (l : PlainLetters) (text : List ℕ) (out out_after : Option (List ℕ)) : Type 0 where
+  pub given : List (List ℕ)
+  pub rest : List ℕ
+  pub parts : mailbox_pieces text ≡ given ++ mailbox_pieces rest
+  pub unknown : IsKnownWhole rest → ⊥
+  pub output : Appends out out_after (said_from l 1 given).output
+
+-- where messages go out one by one and reading fails, all that are known to be whole went out, unless so much was read that reading
+-- was given up
+abbrev pub known_by : PlainLetters → Bool → Type 0 → List ℕ → Option (List ℕ) → Option (List ℕ) → Cause → Type 0
+known_by l each spent text out out_after cause = cause ≡ Read → each ≡ true → GivesKnown l text out out_after ⊎ spent
+
+-- the run was given up: a front of the output and of the errors went out, and then the line that says why; where reading failed
+-- nothing went to the output, unless the messages go out one by one
+pub record IsCutShort (why : Reason) (IsKnown : Cause → Type 0) (each : Bool) (status : Status) (run : Run) (before after : Held) : Type 0 where
   pub output : AppendsFront before.output after.output run.output
   pub cause : Cause
   pub status_is : status_of cause ≡ status
   pub between : Option (List ℕ)
   pub errors : AppendsFront before.errors between run.errors
-  pub line : AppendsFront between after.errors (cause_line cause)
+  pub line : why cause between after.errors
   pub silent : each ≡ false → cause ≡ Read → Keeps before.output after.output
+  pub known : IsKnown cause
+
+-- what a run leaves that ended by itself
+abbrev pub EndsFiltered : Status → Run → Held → Held → Type 0
+EndsFiltered Well run before after = IsDone Well run before after
+EndsFiltered Refused run before after = IsDone Refused run before after
+EndsFiltered Usage run before after = ⊥
+EndsFiltered Fault run before after = ⊥
+EndsFiltered Memory run before after = ⊥
 
 -- what a run leaves, by its status
-abbrev pub Filters : Bool → Status → Run → Held → Held → Type 0
-Filters each Well run before after = IsDone Well run before after
-Filters each Refused run before after = IsDone Refused run before after
-Filters each Usage run before after = ⊥
-Filters each Fault run before after = IsCutShort each Fault run before after
-Filters each Memory run before after = IsCutShort each Memory run before after
+abbrev pub Filters : Reason → (Cause → Type 0) → Bool → Status → Run → Held → Held → Type 0
+Filters why IsKnown each Well run before after = IsDone Well run before after
+Filters why IsKnown each Refused run before after = IsDone Refused run before after
+Filters why IsKnown each Usage run before after = ⊥
+Filters why IsKnown each Fault run before after = IsCutShort why IsKnown each Fault run before after
+Filters why IsKnown each Memory run before after = IsCutShort why IsKnown each Memory run before after
 
 -- what a run of letters leaves is what is defined for the bytes that it read
-abbrev pub LeavesFiltered : PlainLetters → Bool → Status → Held → Held → Type 0
-LeavesFiltered l each status before after = (text : List ℕ) × Consumes before.input after.input text × Filters each status (field_run l each text) before after
+abbrev pub LeavesFiltered : Reason → Type 0 → PlainLetters → Bool → Status → Held → Held → Type 0
+LeavesFiltered why spent l each status before after =
+    (text : List ℕ) × Consumes before.input after.input text
+    × Filters why (known_by l each spent text before.output after.output) each status (field_run l each text) before after
 
 -- what is said went out whole, and whether something is reported
 pub record SaysAll (said : Said) (refused : Bool) (out out_after err err_after : Option (List ℕ)) : Type 0 where
@@ -68,20 +94,23 @@ pub record IsFiltered (said : Said) (refused : Bool) (before after : Held) : Typ
   pub ended : IsAtEnd after.input
 
 -- the messages were filtered up to a cause to give up
-pub record IsBroken (each : Bool) (cause : Cause) (said : Said) (before after : Held) : Type 0 where
+pub record IsBroken (IsKnown : Cause → Type 0) (each : Bool) (cause : Cause) (said : Said) (before after : Held) : Type 0 where
   pub says : SaysSome said before.output after.output before.errors after.errors
   pub silent : each ≡ false → cause ≡ Read → Keeps before.output after.output
+  pub known : IsKnown cause
 
 -- what filtering leaves, up to a cause to give up
-abbrev pub FiltersSoFar : Bool → Result Bool Cause → Said → Held → Held → Type 0
-FiltersSoFar each (Ok refused) said before after = IsFiltered said refused before after
-FiltersSoFar each (Err cause) said before after = IsBroken each cause said before after
+abbrev pub FiltersSoFar : (Cause → Type 0) → Bool → Result Bool Cause → Said → Held → Held → Type 0
+FiltersSoFar IsKnown each (Ok refused) said before after = IsFiltered said refused before after
+FiltersSoFar IsKnown each (Err cause) said before after = IsBroken IsKnown each cause said before after
 
 -- the same for the bytes that were read
-abbrev pub LeavesSaid : PlainLetters → Bool → Result Bool Cause → Held → Held → Type 0
-LeavesSaid l each result before after = (text : List ℕ) × Consumes before.input after.input text × FiltersSoFar each result (said_from l 1 (messages_of each text)) before after
+abbrev pub LeavesSaid : Type 0 → PlainLetters → Bool → Result Bool Cause → Held → Held → Type 0
+LeavesSaid spent l each result before after =
+    (text : List ℕ) × Consumes before.input after.input text
+    × FiltersSoFar (known_by l each spent text before.output after.output) each result (said_from l 1 (messages_of each text)) before after
 
 -- what a run of letters leaves, where it may be given up
-abbrev pub LeavesFilteredSoFar : PlainLetters → Bool → Result Status Cause → Held → Held → Type 0
-LeavesFilteredSoFar l each (Ok status) before after = LeavesFiltered l each status before after
-LeavesFilteredSoFar l each (Err cause) before after = LeavesSaid l each (Err cause) before after
+abbrev pub LeavesFilteredSoFar : Type 0 → PlainLetters → Bool → Result Status Cause → Held → Held → Type 0
+LeavesFilteredSoFar spent l each (Ok status) before after = (text : List ℕ) × Consumes before.input after.input text × EndsFiltered status (field_run l each text) before after
+LeavesFilteredSoFar spent l each (Err cause) before after = LeavesSaid spent l each (Err cause) before after

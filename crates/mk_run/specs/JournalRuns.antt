@@ -5,12 +5,11 @@ use Rattle.mk_mailbox.specs.Devices.{AppendsFront, Rose}
 use Rattle.mk_transfer.specs.declared.status.Status.{Status}
 use Rattle.mk_transfer.specs.declared.status.Status.TheVariants.{Well, Refused, Usage, Fault, Memory}
 use Rattle.mk_transfer.specs.declared.status.Cause.{Cause}
-use Rattle.mk_transfer.specs.declared.status.Cause.TheVariants.{Read, Write, Memory as NoMemory}
 use Rattle.mk_edit.specs.History.{History}
 use Rattle.mk_edit.specs.Saving.{JournalRefusal}
 use Rattle.mk_run.specs.Journaling.{Journaling, begun}
 use Rattle.mk_run.specs.Runs.{ScriptRun, run_of, run_steps}
-use Rattle.mk_transfer.specs.RunClauses.{Held, Counts, Leaves, LeavesSoFar, ReadFailed, WriteFailed}
+use Rattle.mk_transfer.specs.RunClauses.{Held, Counts, Leaves, LeavesSoFar, Reason, WriteFailed}
 use Rattle.mk_script.specs.ScriptSteps.{ScriptStep}
 
 -- a front of the journal went out, and a byte of it only once the whole output had gone out
@@ -44,21 +43,15 @@ LeavesSteps result pieces journaling steps before after kept left finished =
     × LeavesJournalSoFar result (run_steps pieces journaling message steps) before after kept left finished
 
 -- what a run of a script leaves is what is defined for the bytes that it read
-abbrev pub LeavesRun : Status → List (List ℕ) → Journaling → List ℕ → Held → Held → Option (List ℕ) → Option (List ℕ) → Bool → Type 0
-LeavesRun status pieces journaling script before after kept left finished =
+abbrev pub LeavesRun : Reason → Status → List (List ℕ) → Journaling → List ℕ → Held → Held → Option (List ℕ) → Option (List ℕ) → Bool → Type 0
+LeavesRun why status pieces journaling script before after kept left finished =
     (message : List ℕ) × Consumes before.input after.input message
-    × Leaves status (run_of pieces journaling message script).run before after
+    × Leaves why status (run_of pieces journaling message script).run before after
     × LeavesJournal status (run_of pieces journaling message script) before after kept left finished
 
 -- the output, the errors or the journal's device failed
 abbrev pub SinkFailed : Counts → Counts → ℕ → ℕ → Type 0
 SinkFailed before after kept left = WriteFailed before after ⊎ Rose kept left
-
--- the device failed that a cause speaks of
-abbrev pub IsBlamedFor : Cause → Counts → Counts → ℕ → ℕ → Type 0
-IsBlamedFor Read before after kept left = ReadFailed before after
-IsBlamedFor Write before after kept left = SinkFailed before after kept left
-IsBlamedFor NoMemory before after kept left = Unit {0}
 
 -- the output is finished, where the run has a history to begin with
 abbrev pub FinishesWith : Result History JournalRefusal → Bool → Bool → Type 0

@@ -6,9 +6,9 @@ ghost use Rattle.mk_mailbox.specs.Devices.{AppendsFront, Rose};
 ghost use Rattle.mk_script.specs.ScriptSteps.{script_of};
 ghost use Rattle.mk_script.specs.ScriptViews.{step_by, texts_of};
 ghost use Rattle.mk_run.specs.Journaling.{journaling_of};
-ghost use Rattle.mk_run.specs.JournalRuns.{IsBlamedFor, LeavesRun, LeavesSteps, Prints, SinkFailed};
+ghost use Rattle.mk_run.specs.JournalRuns.{LeavesRun, LeavesSteps, Prints, SinkFailed};
 ghost use Rattle.mk_run.specs.Runs.{run_from};
-ghost use Rattle.mk_transfer.specs.RunClauses.{held, counts, SameFailures, ReadFailed, ends_itself};
+ghost use Rattle.mk_transfer.specs.RunClauses.{held, counts, reason_with, IsBlamedWith, SameFailures, ReadFailed, ends_itself};
 ghost use Rattle.mk_run.specs.inner.Keeping.{bytes_kept};
 ghost use Rattle.mk_run.specs.inner.Sessions.{LeavesSession, sunk};
 
@@ -34,7 +34,9 @@ pub fn run_edit<S: Source, O: Sink, E: Sink, J: Sink>(
     journal: Journal<'_>,
     jout: &mut J,
 ) -> Status
-    ensures leaves { LeavesRun result (texts_of pieces.now) (journaling_of journal.entry) script.now
+    ensures leaves { let before = counts (S.failures input.old) (S.read_count input.old) (O.failures out.old) (E.failures err.old) in
+        let after = counts (S.failures input.new) (S.read_count input.new) (O.failures out.new) (E.failures err.new) in
+        LeavesRun (reason_with before after (J.failures jout.old) (J.failures jout.new)) result (texts_of pieces.now) (journaling_of journal.entry) script.now
         (held (S.remaining input.old) (O.contents out.old) (E.contents err.old))
         (held (S.remaining input.new) (O.contents out.new) (E.contents err.new))
         (J.contents jout.old) (J.contents jout.new) (J.finished jout.new) }
@@ -80,7 +82,7 @@ pub fn try_edit<S: Source, O: Sink, E: Sink, J: Sink>(
         (held (S.remaining input.new) (O.contents out.new) (E.contents err.new))
         (J.contents jout.old) (J.contents jout.new) (J.finished jout.new) }
     ensures ended { IfOk result (λ status. ends_itself status ≡ true) }
-    ensures blamed { IfErr result (λ cause. IsBlamedFor cause
+    ensures blamed { IfErr result (λ cause. IsBlamedWith cause
         (counts (S.failures input.old) (S.read_count input.old) (O.failures out.old) (E.failures err.old))
         (counts (S.failures input.new) (S.read_count input.new) (O.failures out.new) (E.failures err.new))
         (J.failures jout.old) (J.failures jout.new)) }
@@ -119,7 +121,7 @@ fn run_steps<S: Source, O: Sink, E: Sink, J: Sink>(
         (held (S.remaining input.new) (O.contents out.new) (E.contents err.new))
         (J.contents jout.old) (J.contents jout.new) (J.finished jout.new) }
     ensures ended { IfOk result (λ status. ends_itself status ≡ true) }
-    ensures blamed { IfErr result (λ cause. IsBlamedFor cause
+    ensures blamed { IfErr result (λ cause. IsBlamedWith cause
         (counts (S.failures input.old) (S.read_count input.old) (O.failures out.old) (E.failures err.old))
         (counts (S.failures input.new) (S.read_count input.new) (O.failures out.new) (E.failures err.new))
         (J.failures jout.old) (J.failures jout.new)) }
@@ -166,6 +168,8 @@ fn run_session<O: Sink, E: Sink, J: Sink>(
         (sunk (O.contents out.new) (E.contents err.new) (J.contents jout.new)) (J.finished jout.new) }
     ensures blamed { IfErr result (λ cause. cause ≡ Cause.Write →
         Rose (O.failures out.old) (O.failures out.new) ⊎ Rose (E.failures err.old) (E.failures err.new) ⊎ Rose (J.failures jout.old) (J.failures jout.new)) }
+    ensures memory { IfErr result (λ cause. cause ≡ Cause.Memory →
+        (O.failures out.new ≡ O.failures out.old) × (E.failures err.new ≡ E.failures err.old) × (J.failures jout.new ≡ J.failures jout.old)) }
     ensures printed { OnOk result (O.failures out.new ≡ O.failures out.old) }
     ensures told { OnOk result (E.failures err.new ≡ E.failures err.old) }
     ensures kept { OnOk result (J.failures jout.new ≡ J.failures jout.old) }
@@ -204,6 +208,7 @@ fn print<O: Sink, J: Sink>(
     ensures journal_front { OnErr result (AppendsFront (J.contents jout.old) (J.contents jout.new) (bytes_kept kept)) }
     ensures later { OnErr result (Keeps (J.contents jout.old) (J.contents jout.new) ⊎ Appends (O.contents out.old) (O.contents out.new) text.now) }
     ensures blamed { IfErr result (λ stop. stop ≡ Stop.Fault → Rose (O.failures out.old) (O.failures out.new) ⊎ Rose (J.failures jout.old) (J.failures jout.new)) }
+    ensures only { IfErr result (λ stop. stop ≡ Stop.Fault) }
     ensures printed { OnOk result (O.failures out.new ≡ O.failures out.old) }
     ensures saved { OnOk result (J.failures jout.new ≡ J.failures jout.old) }
     ensures finishes { OnOk result (O.finished out.new ≡ true) }

@@ -38,6 +38,8 @@ pub fn filter_message<O: Sink, E: Sink>(
         (O.contents out.old) (O.contents out.new) (E.contents err.old) (E.contents err.new)) }
     ensures failed { IfErr result (λ stop. stop ≡ Stop.Fault
         → Rose (O.failures out.old) (O.failures out.new) ⊎ Rose (E.failures err.old) (E.failures err.new)) }
+    ensures memory { IfErr result (λ stop. stop ≡ Stop.Memory
+        → (O.failures out.new ≡ O.failures out.old) × (E.failures err.new ≡ E.failures err.old)) }
     ensures output_well { OnOk result (O.failures out.new ≡ O.failures out.old) }
     ensures errors_well { OnOk result (E.failures err.new ≡ E.failures err.old) }
     ensures unfinished { O.finished out.new ≡ O.finished out.old }
@@ -72,6 +74,8 @@ fn edit_message<O: Sink, E: Sink>(
         (O.contents out.old) (O.contents out.new) (E.contents err.old) (E.contents err.new)) }
     ensures failed { IfErr result (λ stop. stop ≡ Stop.Fault
         → Rose (O.failures out.old) (O.failures out.new) ⊎ Rose (E.failures err.old) (E.failures err.new)) }
+    ensures memory { IfErr result (λ stop. stop ≡ Stop.Memory
+        → (O.failures out.new ≡ O.failures out.old) × (E.failures err.new ≡ E.failures err.old)) }
     ensures output_well { OnOk result (O.failures out.new ≡ O.failures out.old) }
     ensures errors_well { OnOk result (E.failures err.new ≡ E.failures err.old) }
     ensures unfinished { O.finished out.new ≡ O.finished out.old }

@@ -1,10 +1,11 @@
 //! Messages of which the fields are filtered by letters, or given, over any devices.
 
 ghost use Rattle.std.specs.Prelude.{◌≡◌, ◌⊎◌, ◌-◌, true, false, nat_le, IfOk, IfErr, OnErr, OnOk};
+ghost use Rattle.mk_mailbox.specs.Devices.{IsLong};
 ghost use Rattle.mk_mail.specs.LetterViews.{letters_of};
 ghost use Rattle.mk_mail.specs.Letters.{are_allowed};
 ghost use Rattle.mk_run.specs.FilterClauses.{LeavesFiltered, LeavesFilteredSoFar, LeavesSaid};
-ghost use Rattle.mk_transfer.specs.RunClauses.{held, counts, SameFailures, ReadFailed, WriteFailed, IsBlamed, ends_itself};
+ghost use Rattle.mk_transfer.specs.RunClauses.{held, counts, reason, SameFailures, ReadFailed, WriteFailed, IsBlamed, ends_itself};
 
 use crate::fields::filter_message;
 use mk_mail::{Letters, MailFault, Mailbox, Sink, Source};
@@ -27,7 +28,9 @@ pub fn run_field<S: Source, O: Sink, E: Sink>(
     each: bool,
 ) -> Status
     requires { are_allowed (letters_of letters.now) ≡ true }
-    ensures leaves { LeavesFiltered (letters_of letters.now) each result
+    ensures leaves { let before = counts (S.failures input.old) (S.read_count input.old) (O.failures out.old) (E.failures err.old) in
+        let after = counts (S.failures input.new) (S.read_count input.new) (O.failures out.new) (E.failures err.new) in
+        LeavesFiltered (reason before after) (IsLong (S.read_count input.old) (S.read_count input.new)) (letters_of letters.now) each result
         (held (S.remaining input.old) (O.contents out.old) (E.contents err.old))
         (held (S.remaining input.new) (O.contents out.new) (E.contents err.new)) }
     ensures blamed { result ≡ Status.Fault →
@@ -56,7 +59,7 @@ pub fn try_field<S: Source, O: Sink, E: Sink>(
     each: bool,
 ) -> Result<Status, Cause>
     requires { are_allowed (letters_of letters.now) ≡ true }
-    ensures leaves { LeavesFilteredSoFar (letters_of letters.now) each result
+    ensures leaves { LeavesFilteredSoFar (IsLong (S.read_count input.old) (S.read_count input.new)) (letters_of letters.now) each result
         (held (S.remaining input.old) (O.contents out.old) (E.contents err.old))
         (held (S.remaining input.new) (O.contents out.new) (E.contents err.new)) }
     ensures ended { IfOk result (λ status. ends_itself status ≡ true) }
@@ -93,7 +96,7 @@ fn filter<S: Source, O: Sink, E: Sink>(
     each: bool,
 ) -> Result<bool, Cause>
     requires { are_allowed (letters_of letters.now) ≡ true }
-    ensures leaves { LeavesSaid (letters_of letters.now) each result
+    ensures leaves { LeavesSaid (IsLong (S.read_count input.old) (S.read_count input.new)) (letters_of letters.now) each result
         (held (S.remaining input.old) (O.contents out.old) (E.contents err.old))
         (held (S.remaining input.new) (O.contents out.new) (E.contents err.new)) }
     ensures blamed { IfErr result (λ cause. IsBlamed cause
@@ -120,7 +123,7 @@ fn filter_whole<S: Source, O: Sink, E: Sink>(
     letters: &Letters,
 ) -> Result<bool, Cause>
     requires { are_allowed (letters_of letters.now) ≡ true }
-    ensures leaves { LeavesSaid (letters_of letters.now) false result
+    ensures leaves { LeavesSaid (IsLong (S.read_count input.old) (S.read_count input.new)) (letters_of letters.now) false result
         (held (S.remaining input.old) (O.contents out.old) (E.contents err.old))
         (held (S.remaining input.new) (O.contents out.new) (E.contents err.new)) }
     ensures blamed { IfErr result (λ cause. IsBlamed cause
@@ -150,7 +153,7 @@ fn filter_each<S: Source, O: Sink, E: Sink>(
     letters: &Letters,
 ) -> Result<bool, Cause>
     requires { are_allowed (letters_of letters.now) ≡ true }
-    ensures leaves { LeavesSaid (letters_of letters.now) true result
+    ensures leaves { LeavesSaid (IsLong (S.read_count input.old) (S.read_count input.new)) (letters_of letters.now) true result
         (held (S.remaining input.old) (O.contents out.old) (E.contents err.old))
         (held (S.remaining input.new) (O.contents out.new) (E.contents err.new)) }
     ensures blamed { IfErr result (λ cause. IsBlamed cause

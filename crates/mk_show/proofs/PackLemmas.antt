@@ -1,14 +1,14 @@
 -- The last piece of a text, and the body after a head.
-use Rattle.std.proofs.Common.{◌≡◌, ◌≢◌, ◌++◌, ℕ, suc, Bool, true, false, Option, None, Some, List, [], ◌∷◌, length, nat_lt, sym, ap, ◌∙◌, refl, subst, inl, inr}
-use Rattle.std.proofs.lemmas.Bool.{cases_Bool}
+use Rattle.std.proofs.Common.{◌≡◌, ◌≢◌, ◌++◌, ℕ, suc, Bool, true, false, Option, None, Some, List, [], ◌∷◌, ◌<◌, length, length-append, length-drop, drop, nat_lt, arith, sym, ap, ◌∙◌, refl, subst, inl, inr}
+use Rattle.std.proofs.lemmas.Bool.{cases_Bool, le-ltb, lt-ltb}
 use Rattle.std.specs.Option.{option_map, unwrap_or}
 use Rattle.mk_line.specs.declared.cutting.Ending.{Ending}
-use Rattle.mk_line.specs.Lines.{AreLines, cut, eol_of}
-use Rattle.mk_line.proofs.Cuts.{lines_behind, lines_cut}
+use Rattle.mk_line.specs.Lines.{TextLine, cut, eol_of, text_of}
+use Rattle.mk_line.proofs.Cuts.{cut_rest, text_apart}
 use Rattle.mk_head.specs.Split.{behind_head, head_lines, head_of}
 use Rattle.mk_head.specs.Fields.{HeaderView, header_view}
+use Rattle.mk_head.specs.Splits.{has_line}
 use Rattle.mk_head.proofs.Splits.{head_body}
-use Rattle.mk_decide.proofs.OpenPlaces.{more_lines}
 use Rattle.mk_script.specs.Paths.{parted, pieces_of}
 use Rattle.mk_show.specs.Parts.{last_of}
 use Rattle.mk_build.specs.declared.building.BuildError.TheVariants as refused
@@ -29,12 +29,23 @@ pub last_whole : {A : Type 0} (f : A → List ℕ × List ℕ) (separator : ℕ)
 last_whole f separator text None e n = ap last_of (pieces_of-whole separator text (sym e))
 last_whole f separator text (Some p) e n = absurd (n p refl)
 
+some_left : (rest : List ℕ) (y : TextLine) (ys : List TextLine) → cut rest ≡ y ∷ ys → 0 < length rest
+some_left [] y ys e = cc
+some_left (byte ∷ bytes) y ys e = omega arith
+
+-- a text goes on after its first lines exactly where there are more
+goes_on : (text : List ℕ) (xs ys : List TextLine) → cut text ≡ xs ++ ys → nat_lt (length (text_of xs)) (length text) ≡ has_line ys
+goes_on text xs [] e =
+    le-ltb (length (text_of xs)) (length text) (omega (arith, ap length (text_apart text xs [] e), length-append (text_of xs) []))
+goes_on text xs (y ∷ ys) e =
+    lt-ltb (length (text_of xs)) (length text) (omega (arith, some_left (drop (length (text_of xs)) text) y ys (cut_rest text xs (y ∷ ys) e), length-drop (length (text_of xs)) text))
+
 -- the text goes on after its head exactly where there is a body
 pub body_told : (text : List ℕ) (h : HeaderView) (body : ℕ) → h ≡ header_view (head_of (cut text)) → body ≡ h.body → nat_lt body (length text) ≡ has_body (cut text)
 body_told text h body e b =
     let apart = head_body (cut text) in
     ap (λ n. nat_lt n (length text)) (b ∙ ap (λ v. v.body) e)
-    ∙ more_lines text (head_lines (head_of (cut text))) (behind_head (cut text)) (sym apart) (lines_behind (head_lines (head_of (cut text))) (behind_head (cut text)) (subst AreLines (sym apart) (lines_cut text)))
+    ∙ goes_on text (head_lines (head_of (cut text))) (behind_head (cut text)) (sym apart)
 
 -- what goes out where there is no reason against it
 pub packed_well : (boundary : List ℕ) (parts : List Attached) (text : List ℕ) (fields : List (List ℕ)) (output errors : List ℕ) (eol : Ending)

@@ -1,5 +1,5 @@
 -- What is left of leaves that are unpacked in turn.
-use Rattle.std.proofs.Common.{◌≡◌, ◌⊎◌, ◌||◌, if◌then◌else◌, ℕ, Bool, true, false, not, List, [], ◌∷◌, ◌++◌, Option, Err, refl, sym, ap, ◌∙◌, subst, append_assoc, inl, inr}
+use Rattle.std.proofs.Common.{◌≡◌, ◌⊎◌, ◌||◌, if◌then◌else◌, ℕ, Bool, true, false, not, List, [], ◌∷◌, ◌++◌, Option, Ok, Err, refl, sym, ap, ◌∙◌, subst, append_assoc, inl, inr}
 use Rattle.std.proofs.lemmas.List.{append-nil}
 use Rattle.std.specs.Io.KnownBytes.{Appends, IsAtEnd, Keeps}
 use Rattle.std.proofs.KnownBytes.{Appends-trans}
@@ -13,17 +13,15 @@ use Rattle.mk_view.specs.FileNames.{Named}
 use Rattle.mk_transfer.specs.declared.status.Cause.{Cause}
 use Rattle.mk_transfer.specs.declared.status.Cause.TheVariants.{Read, Write, Memory as NoMemory}
 use Rattle.mk_transfer.specs.declared.status.Status.{Status}
-use Rattle.mk_transfer.specs.declared.status.Status.TheVariants.{Well, Refused, Fault, Memory}
-use Rattle.mk_transfer.specs.declared.transfer.Stop.{Stop}
-use Rattle.mk_transfer.specs.declared.transfer.Stop.TheVariants.{Fault as Stopped, Memory as Wanting}
+use Rattle.mk_transfer.specs.declared.status.Status.TheVariants.{Well, Refused, Usage, Fault, Memory}
 use Rattle.mk_show.specs.declared.unpacking.Manner.{Manner}
 use Rattle.mk_show.specs.Folders.{Files}
-use Rattle.mk_transfer.specs.RunClauses.{held, cause_line, cause_of_writing, status_of}
+use Rattle.mk_transfer.specs.RunClauses.{Held, held, Reason, status_of}
 use Rattle.mk_show.specs.Unpacking.{AreLeaves, Unpacks, UnpacksLeaf, stored_line, exists_line}
 use Rattle.mk_transfer.specs.Said.{Said, silence, said_behind, shown}
 use Rattle.mk_show.specs.Shown.{extract_line, is_wanting}
 use Rattle.mk_show.specs.UnpackClauses.{Written, written, GetsNext, PutsText, PutsNone, PutsFront, UnpackedAll, UnpackedSome, IsUnpacked, IsBrokenOff, Stores, StoresSoFar}
-use Rattle.mk_transfer.proofs.Fronts.{AppendsFront-behind, not-is_nil-append, AppendsFront-none, AppendsFront-kept}
+use Rattle.mk_transfer.proofs.Fronts.{AppendsFront-behind, not-is_nil-append, AppendsFront-none}
 
 behind-silence : (s : Said) → s ≡ said_behind s silence
 behind-silence s = rw (append-nil s.output, append-nil s.errors) refl
@@ -188,11 +186,20 @@ IsUnpacked-all manner texts t leaves refused status input left out sent err told
   run = record { status_is = shown_status u.said refused status u.refused_is e; written = record { output = u.output; errors = u.errors }; read = end };
 }
 
+-- a run that ended by itself
+pub Stores-ended : (why : Reason) (manner : Manner) (texts : Bool) (t : Document) (status : Status) (before after : Held) (old new : Option Files)
+    → StoresSoFar manner texts t (Ok status) before after old new → Stores why manner texts t status before after old new
+Stores-ended why manner texts t Well before after old new s = s
+Stores-ended why manner texts t Refused before after old new s = s
+Stores-ended why manner texts t Usage before after old new s = s
+Stores-ended why manner texts t Fault before after old new s = absurd s
+Stores-ended why manner texts t Memory before after old new s = absurd s
+
 -- some leaves were unpacked, and the run was given up
-IsBrokenOff-some : (manner : Manner) (texts : Bool) (t : Document) (leaves : List Named) (cause : Cause) (status : Status) (input left out sent err between told : Option (List ℕ)) (old new : Option Files)
-    → AreLeaves texts t leaves → UnpackedSome manner t leaves (written out err old) (written sent between new) → status_of cause ≡ status → (cause ≡ Read → Keeps out sent) → AppendsFront between told (cause_line cause)
-    → IsBrokenOff manner texts t status (held input out err) (held left sent told) old new
-IsBrokenOff-some manner texts t leaves cause status input left out sent err between told old new are u e silent line = record {
+IsBrokenOff-some : (why : Reason) (manner : Manner) (texts : Bool) (t : Document) (leaves : List Named) (cause : Cause) (status : Status) (input left out sent err between told : Option (List ℕ)) (old new : Option Files)
+    → AreLeaves texts t leaves → UnpackedSome manner t leaves (written out err old) (written sent between new) → status_of cause ≡ status → (cause ≡ Read → Keeps out sent) → why cause between told
+    → IsBrokenOff why manner texts t status (held input out err) (held left sent told) old new
+IsBrokenOff-some why manner texts t leaves cause status input left out sent err between told old new are u e silent line = record {
   leaves = leaves;
   are_leaves = are;
   done = u.done;
@@ -211,20 +218,19 @@ not_read e = absurd cc
 not_read_either : {A : Type 0} → NoMemory ≡ Read → A
 not_read_either e = absurd cc
 
--- writing was stopped
 -- what was left when a run stopped, and the line that says why
-pub Stores-given_up : (manner : Manner) (texts : Bool) (t : Document) (cause : Cause) (input left out sent err between told : Option (List ℕ)) (old new : Option Files)
-    → StoresSoFar manner texts t (Err cause) (held input out err) (held left sent between) old new → AppendsFront between told (cause_line cause)
-    → Stores manner texts t (status_of cause) (held input out err) (held left sent told) old new
-Stores-given_up manner texts t Read input left out sent err between told old new w line = elim w [
-  | inl u ↦ inl (record { cause = Read; status_is = refl; output = u.output; line = AppendsFront-kept err between told (cause_line Read) u.errors line }, u.files)
+pub Stores-given_up : (why : Reason) (manner : Manner) (texts : Bool) (t : Document) (cause : Cause) (input left out sent err between told : Option (List ℕ)) (old new : Option Files)
+    → StoresSoFar manner texts t (Err cause) (held input out err) (held left sent between) old new → why cause between told
+    → Stores why manner texts t (status_of cause) (held input out err) (held left sent told) old new
+Stores-given_up why manner texts t Read input left out sent err between told old new w line = elim w [
+  | inl u ↦ inl (record { cause = Read; status_is = refl; output = u.output; between = between; errors = u.errors; line = line }, u.files)
   | inr h ↦ absurd (h.writing refl)
 ]
-Stores-given_up manner texts t Write input left out sent err between told old new w line = elim w [
-  | inl u ↦ inl (record { cause = Write; status_is = refl; output = u.output; line = AppendsFront-kept err between told (cause_line Write) u.errors line }, u.files)
-  | inr h ↦ inr (IsBrokenOff-some manner texts t h.leaves Write Fault input left out sent err between told old new h.are_leaves h.some refl (λ r. not_read r) line)
+Stores-given_up why manner texts t Write input left out sent err between told old new w line = elim w [
+  | inl u ↦ inl (record { cause = Write; status_is = refl; output = u.output; between = between; errors = u.errors; line = line }, u.files)
+  | inr h ↦ inr (IsBrokenOff-some why manner texts t h.leaves Write Fault input left out sent err between told old new h.are_leaves h.some refl (λ r. not_read r) line)
 ]
-Stores-given_up manner texts t NoMemory input left out sent err between told old new w line = elim w [
-  | inl u ↦ inl (record { cause = NoMemory; status_is = refl; output = u.output; line = AppendsFront-kept err between told (cause_line NoMemory) u.errors line }, u.files)
-  | inr h ↦ inr (IsBrokenOff-some manner texts t h.leaves NoMemory Memory input left out sent err between told old new h.are_leaves h.some refl (λ r. not_read_either r) line)
+Stores-given_up why manner texts t NoMemory input left out sent err between told old new w line = elim w [
+  | inl u ↦ inl (record { cause = NoMemory; status_is = refl; output = u.output; between = between; errors = u.errors; line = line }, u.files)
+  | inr h ↦ inr (IsBrokenOff-some why manner texts t h.leaves NoMemory Memory input left out sent err between told old new h.are_leaves h.some refl (λ r. not_read_either r) line)
 ]

@@ -1,8 +1,7 @@
 -- Runs that show what a message is: its sections, and the content of one of them (own).
-use Rattle.std.specs.Prelude.{◌≡◌, ◌⊎◌, ◌++◌, if◌then◌else◌, ℕ, Bool, true, false, Option, List, [], ◌∷◌, codes}
+use Rattle.std.specs.Prelude.{◌≡◌, ◌⊎◌, ◌++◌, ℕ, Bool, true, false, Option, List, [], ◌∷◌, Result, Ok, Err, codes}
 use Rattle.std.specs.Io.KnownBytes.{Appends, Consumes, Keeps}
 use Rattle.mk_line.specs.Ascii.{line_feed}
-use Rattle.mk_line.specs.Lines.{is_nil}
 use Rattle.mk_tree.specs.Documents.{tree}
 use Rattle.mk_tree.specs.Sections.{Placed, section_at}
 use Rattle.mk_view.specs.declared.extracting.ExtractError.{ExtractError}
@@ -14,9 +13,8 @@ use Rattle.mk_show.specs.declared.answers.Answer.{Answer}
 use Rattle.mk_transfer.specs.declared.status.Status.{Status}
 use Rattle.mk_transfer.specs.declared.status.Status.TheVariants.{Well, Refused, Usage, Fault, Memory}
 use Rattle.mk_transfer.specs.declared.status.Cause.{Cause}
-use Rattle.mk_transfer.specs.declared.status.Cause.TheVariants.{Write}
 use Rattle.mk_transfer.specs.Said.{Run, shown}
-use Rattle.mk_transfer.specs.RunClauses.{Held, IsDone, IsGivenUp, cause_line, status_of}
+use Rattle.mk_transfer.specs.RunClauses.{Held, IsDone, IsGivenUp, Reason, WritesFronts, status_of}
 
 -- an answer in memory as a run
 abbrev pub run_of_answer : Answer → Run
@@ -62,35 +60,61 @@ abbrev pub IsTaken : List ℕ → List ℕ → Run → Type 0
 IsTaken path message run = IsGiven (section_at path (tree message)) run ⊎ IsReported path (section_at path (tree message)) run
 
 -- the run was given up, and of what is shown nothing went out
-pub record IsSilent (status : Status) (before after : Held) : Type 0 where
+pub record IsSilent (why : Reason) (status : Status) (before after : Held) : Type 0 where
   pub cause : Cause
   pub status_is : status_of cause ≡ status
   pub output : Keeps before.output after.output
-  pub line : AppendsFront before.errors after.errors (cause_line cause)
+  pub between : Option (List ℕ)
+  pub errors : Keeps before.errors between
+  pub line : why cause between after.errors
+
+-- what a run leaves that ended by itself and shows what is defined
+abbrev pub EndsShown : (Run → Type 0) → Status → Held → Held → Type 0
+EndsShown R Well before after = (run : Run) × R run × IsDone Well run before after
+EndsShown R Refused before after = (run : Run) × R run × IsDone Refused run before after
+EndsShown R Usage before after = ⊥
+EndsShown R Fault before after = ⊥
+EndsShown R Memory before after = ⊥
 
 -- what a run leaves that shows what is defined; one that was given up left nothing, or fronts of that
-abbrev pub Shows : (Run → Type 0) → Status → Held → Held → Type 0
-Shows R Well before after = (run : Run) × R run × IsDone Well run before after
-Shows R Refused before after = (run : Run) × R run × IsDone Refused run before after
-Shows R Usage before after = ⊥
-Shows R Fault before after = IsSilent Fault before after ⊎ ((run : Run) × R run × IsGivenUp Fault run before after)
-Shows R Memory before after = IsSilent Memory before after ⊎ ((run : Run) × R run × IsGivenUp Memory run before after)
+abbrev pub Shows : Reason → (Run → Type 0) → Status → Held → Held → Type 0
+Shows why R Well before after = EndsShown R Well before after
+Shows why R Refused before after = EndsShown R Refused before after
+Shows why R Usage before after = ⊥
+Shows why R Fault before after = IsSilent why Fault before after ⊎ ((run : Run) × R run × IsGivenUp why Fault run before after)
+Shows why R Memory before after = IsSilent why Memory before after ⊎ ((run : Run) × R run × IsGivenUp why Memory run before after)
 
 -- the same for the bytes that the run read
-abbrev pub LeavesShown : (List ℕ → Run → Type 0) → Status → Held → Held → Type 0
-LeavesShown R status before after = (message : List ℕ) × Consumes before.input after.input message × Shows (R message) status before after
+abbrev pub LeavesShown : Reason → (List ℕ → Run → Type 0) → Status → Held → Held → Type 0
+LeavesShown why R status before after = (message : List ℕ) × Consumes before.input after.input message × Shows why (R message) status before after
 
--- fronts of the output and of the errors went out, and a front of the line that says that writing failed
-pub record WritesSome (run : Run) (out out_after err err_after : Option (List ℕ)) : Type 0 where
-  pub output : AppendsFront out out_after run.output
-  pub between : Option (List ℕ)
-  pub errors : AppendsFront err between run.errors
-  pub line : AppendsFront between err_after (cause_line Write)
+-- nothing went out
+pub record WritesNothing (before after : Held) : Type 0 where
+  pub output : Keeps before.output after.output
+  pub errors : Keeps before.errors after.errors
 
--- what writing a run leaves, by the status that it ends with
-abbrev pub Writes : Status → Run → Option (List ℕ) → Option (List ℕ) → Option (List ℕ) → Option (List ℕ) → Type 0
-Writes Well run out out_after err err_after = (run.status ≡ Well) × Appends out out_after run.output × Appends err err_after run.errors
-Writes Refused run out out_after err err_after = (run.status ≡ Refused) × Appends out out_after run.output × Appends err err_after run.errors
-Writes Usage run out out_after err err_after = ⊥
-Writes Fault run out out_after err err_after = WritesSome run out out_after err err_after
-Writes Memory run out out_after err err_after = ⊥
+-- what a run leaves that shows what is defined, where it may be given up
+abbrev pub ShowsSoFar : (Run → Type 0) → Result Status Cause → Held → Held → Type 0
+ShowsSoFar R (Ok status) before after = EndsShown R status before after
+ShowsSoFar R (Err cause) before after = WritesNothing before after ⊎ ((run : Run) × R run × WritesFronts cause run before after)
+
+-- the same for the bytes that the run read
+abbrev pub LeavesShownSoFar : (List ℕ → Run → Type 0) → Result Status Cause → Held → Held → Type 0
+LeavesShownSoFar R result before after = (message : List ℕ) × Consumes before.input after.input message × ShowsSoFar (R message) result before after
+
+-- a run went out whole
+abbrev pub WritesRun : Status → Run → Option (List ℕ) → Option (List ℕ) → Option (List ℕ) → Option (List ℕ) → Type 0
+WritesRun status run out out_after err err_after = (run.status ≡ status) × Appends out out_after run.output × Appends err err_after run.errors
+
+-- what writing a run leaves that ends with this status
+abbrev pub EndsWritten : Status → Run → Option (List ℕ) → Option (List ℕ) → Option (List ℕ) → Option (List ℕ) → Type 0
+EndsWritten Well = WritesRun Well
+EndsWritten Refused = WritesRun Refused
+EndsWritten Usage = λ _ _ _ _ _. ⊥
+EndsWritten Fault = λ _ _ _ _ _. ⊥
+EndsWritten Memory = λ _ _ _ _ _. ⊥
+
+-- what writing a run leaves: all of it, or fronts of the output and of the errors
+abbrev pub Writes : Result Status Cause → Run → Option (List ℕ) → Option (List ℕ) → Option (List ℕ) → Option (List ℕ) → Type 0
+Writes (Ok status) = EndsWritten status
+Writes (Err cause) = λ run out out_after err err_after. AppendsFront out out_after run.output × AppendsFront err err_after run.errors

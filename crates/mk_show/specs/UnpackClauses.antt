@@ -10,10 +10,10 @@ use Rattle.mk_view.specs.FileNames.{Named}
 use Rattle.mk_transfer.specs.declared.status.Status.{Status}
 use Rattle.mk_transfer.specs.declared.status.Status.TheVariants.{Well, Refused, Usage, Fault, Memory}
 use Rattle.mk_transfer.specs.declared.status.Cause.{Cause}
-use Rattle.mk_transfer.specs.declared.status.Cause.TheVariants.{Read, Write, Memory as NoMemory}
+use Rattle.mk_transfer.specs.declared.status.Cause.TheVariants.{Read}
 use Rattle.mk_show.specs.declared.unpacking.Manner.{Manner}
 use Rattle.mk_show.specs.Folders.{Files, Gets}
-use Rattle.mk_transfer.specs.RunClauses.{Held, Counts, IsDone, IsGivenUp, ReadFailed, WriteFailed}
+use Rattle.mk_transfer.specs.RunClauses.{Held, IsDone, IsGivenUp, Reason}
 use Rattle.mk_show.specs.Shown.{IsSilent}
 use Rattle.mk_transfer.specs.Said.{shown, Said}
 use Rattle.mk_show.specs.Unpacking.{IsTarget, AllThere, Unpacks, AreLeaves}
@@ -113,7 +113,7 @@ pub record IsUnpacked (manner : Manner) (texts : Bool) (t : Document) (status : 
 
 -- the run was given up: a front of the leaves was unpacked, a front of what is said of them went out, and of the next leaf at
 -- most a front was put
-pub record IsBrokenOff (manner : Manner) (texts : Bool) (t : Document) (status : Status) (before after : Held) (old new : Option Files) : Type 0 where
+pub record IsBrokenOff (why : Reason) (manner : Manner) (texts : Bool) (t : Document) (status : Status) (before after : Held) (old new : Option Files) : Type 0 where
   pub leaves : List Named
   pub are_leaves : AreLeaves texts t leaves
   pub done : List Named
@@ -123,24 +123,32 @@ pub record IsBrokenOff (manner : Manner) (texts : Bool) (t : Document) (status :
   pub between : Option Files
   pub unpacks : Unpacks manner t done said old between
   pub next : GetsNext manner.over t rest between new
-  pub run : IsGivenUp status (shown said.output said.errors) before after
+  pub run : IsGivenUp why status (shown said.output said.errors) before after
 
 -- the run was given up before any leaf was unpacked
-abbrev pub IsUnbegun : Status → Held → Held → Option Files → Option Files → Type 0
-IsUnbegun status before after old new = IsSilent status before after × (new ≡ old)
+abbrev pub IsUnbegun : Reason → Status → Held → Held → Option Files → Option Files → Type 0
+IsUnbegun why status before after old new = IsSilent why status before after × (new ≡ old)
+
+-- what a run leaves that ended by itself
+abbrev pub EndsStored : Manner → Bool → Document → Status → Held → Held → Option Files → Option Files → Type 0
+EndsStored manner texts t Well before after old new = IsUnpacked manner texts t Well before after old new
+EndsStored manner texts t Refused before after old new = IsUnpacked manner texts t Refused before after old new
+EndsStored manner texts t Usage before after old new = ⊥
+EndsStored manner texts t Fault before after old new = ⊥
+EndsStored manner texts t Memory before after old new = ⊥
 
 -- what a run leaves that unpacks a document, by its status
-abbrev pub Stores : Manner → Bool → Document → Status → Held → Held → Option Files → Option Files → Type 0
-Stores manner texts t Well before after old new = IsUnpacked manner texts t Well before after old new
-Stores manner texts t Refused before after old new = IsUnpacked manner texts t Refused before after old new
-Stores manner texts t Usage before after old new = ⊥
-Stores manner texts t Fault before after old new = IsUnbegun Fault before after old new ⊎ IsBrokenOff manner texts t Fault before after old new
-Stores manner texts t Memory before after old new = IsUnbegun Memory before after old new ⊎ IsBrokenOff manner texts t Memory before after old new
+abbrev pub Stores : Reason → Manner → Bool → Document → Status → Held → Held → Option Files → Option Files → Type 0
+Stores why manner texts t Well before after old new = IsUnpacked manner texts t Well before after old new
+Stores why manner texts t Refused before after old new = IsUnpacked manner texts t Refused before after old new
+Stores why manner texts t Usage before after old new = ⊥
+Stores why manner texts t Fault before after old new = IsUnbegun why Fault before after old new ⊎ IsBrokenOff why manner texts t Fault before after old new
+Stores why manner texts t Memory before after old new = IsUnbegun why Memory before after old new ⊎ IsBrokenOff why manner texts t Memory before after old new
 
 -- the same for the message that the run read
-abbrev pub LeavesUnpacked : Manner → Bool → Status → Held → Held → Option Files → Option Files → Type 0
-LeavesUnpacked manner texts status before after old new =
-    (message : List ℕ) × Consumes before.input after.input message × Stores manner texts (tree message) status before after old new
+abbrev pub LeavesUnpacked : Reason → Manner → Bool → Status → Held → Held → Option Files → Option Files → Type 0
+LeavesUnpacked why manner texts status before after old new =
+    (message : List ℕ) × Consumes before.input after.input message × Stores why manner texts (tree message) status before after old new
 
 -- nothing was written before the run was given up
 pub record IsUntouched (before after : Held) (old new : Option Files) : Type 0 where
@@ -157,16 +165,10 @@ pub record IsHalted (manner : Manner) (texts : Bool) (t : Document) (cause : Cau
 
 -- what a run leaves that unpacks a document, where it may be given up
 abbrev pub StoresSoFar : Manner → Bool → Document → Result Status Cause → Held → Held → Option Files → Option Files → Type 0
-StoresSoFar manner texts t (Ok status) before after old new = Stores manner texts t status before after old new
+StoresSoFar manner texts t (Ok status) before after old new = EndsStored manner texts t status before after old new
 StoresSoFar manner texts t (Err cause) before after old new = IsUntouched before after old new ⊎ IsHalted manner texts t cause before after old new
 
 -- the same for the message that the run read
 abbrev pub LeavesUnpackedSoFar : Manner → Bool → Result Status Cause → Held → Held → Option Files → Option Files → Type 0
 LeavesUnpackedSoFar manner texts result before after old new =
     (message : List ℕ) × Consumes before.input after.input message × StoresSoFar manner texts (tree message) result before after old new
-
--- the device failed that a cause speaks of
-abbrev pub IsBlamedForFolder : Cause → Counts → Counts → ℕ → ℕ → Type 0
-IsBlamedForFolder Read before after kept left = ReadFailed before after
-IsBlamedForFolder Write before after kept left = WriteFailed before after ⊎ Rose kept left
-IsBlamedForFolder NoMemory before after kept left = Unit {0}

@@ -1,14 +1,14 @@
 //! A message packed from fields and files, over any devices.
 
-ghost use Rattle.std.specs.Prelude.{◌≡◌, ◌⊎◌, true, map, IfOk};
+ghost use Rattle.std.specs.Prelude.{◌≡◌, ◌⊎◌, true, map, IfOk, IfErr, OnOk};
 ghost use Rattle.mk_build.specs.BuildViews.{attached_of};
-ghost use Rattle.mk_transfer.specs.RunClauses.{held, counts, SameFailures, ReadFailed, WriteFailed, ends_itself};
-ghost use Rattle.mk_show.specs.Shown.{LeavesShown, run_of_answer};
+ghost use Rattle.mk_transfer.specs.RunClauses.{held, counts, reason, IsBlamed, SameFailures, ReadFailed, WriteFailed, ends_itself};
+ghost use Rattle.mk_show.specs.Shown.{LeavesShown, LeavesShownSoFar, run_of_answer};
 ghost use Rattle.mk_line.specs.Lines.{cut as lines_of};
 ghost use Rattle.mk_show.specs.Packing.{IsPacked, build_name, fields_given, fields_in_front as fields_of_front, has_body as has_a_body, index_of as index_named, pack_line};
 
 use crate::answers::Answer;
-use crate::showing::finish;
+use crate::showing::print;
 use mk_build::{Attach, BuildError, build};
 use mk_head::{each_field, header};
 use mk_line::eol_of;
@@ -26,7 +26,9 @@ pub fn run_pack<S: Source, O: Sink, E: Sink>(
     boundary: &[u8],
     parts: &[Attach],
 ) -> Status
-    ensures leaves { LeavesShown (IsPacked boundary.now (map attached_of parts.now)) result
+    ensures leaves { let before = counts (S.failures input.old) (S.read_count input.old) (O.failures out.old) (E.failures err.old) in
+        let after = counts (S.failures input.new) (S.read_count input.new) (O.failures out.new) (E.failures err.new) in
+        LeavesShown (reason before after) (IsPacked boundary.now (map attached_of parts.now)) result
         (held (S.remaining input.old) (O.contents out.old) (E.contents err.old))
         (held (S.remaining input.new) (O.contents out.new) (E.contents err.new)) }
     ensures blamed { result ≡ Status.Fault →
@@ -37,13 +39,39 @@ pub fn run_pack<S: Source, O: Sink, E: Sink>(
         (counts (S.failures input.old) (S.read_count input.old) (O.failures out.old) (E.failures err.old))
         (counts (S.failures input.new) (S.read_count input.new) (O.failures out.new) (E.failures err.new)) }
 {
+    match try_pack(alloc, input, out, err, boundary, parts) {
+        Ok(status) => status,
+        Err(cause) => give_up(err, cause),
+    }
+}
+
+/// Does the same, and leaves it to the caller to say why the run is given up.
+pub fn try_pack<S: Source, O: Sink, E: Sink>(
+    alloc: Global,
+    input: &mut S,
+    out: &mut O,
+    err: &mut E,
+    boundary: &[u8],
+    parts: &[Attach],
+) -> Result<Status, Cause>
+    ensures leaves { LeavesShownSoFar (IsPacked boundary.now (map attached_of parts.now)) result
+        (held (S.remaining input.old) (O.contents out.old) (E.contents err.old))
+        (held (S.remaining input.new) (O.contents out.new) (E.contents err.new)) }
+    ensures ended { IfOk result (λ status. ends_itself status ≡ true) }
+    ensures blamed { IfErr result (λ cause. IsBlamed cause
+        (counts (S.failures input.old) (S.read_count input.old) (O.failures out.old) (E.failures err.old))
+        (counts (S.failures input.new) (S.read_count input.new) (O.failures out.new) (E.failures err.new))) }
+    ensures clean { OnOk result (SameFailures
+        (counts (S.failures input.old) (S.read_count input.old) (O.failures out.old) (E.failures err.old))
+        (counts (S.failures input.new) (S.read_count input.new) (O.failures out.new) (E.failures err.new))) }
+{
     let text = match read_all(alloc, input) {
         Ok(text) => text,
-        Err(stop) => return give_up(err, reading(stop)),
+        Err(stop) => return Err(reading(stop)),
     };
     match message(alloc, &text, boundary, parts) {
-        Ok(answer) => finish(out, err, &answer),
-        Err(_) => give_up(err, Cause::Memory),
+        Ok(answer) => print(out, err, &answer),
+        Err(_) => Err(Cause::Memory),
     }
 }
 

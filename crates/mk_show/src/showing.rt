@@ -3,8 +3,8 @@
 ghost use Rattle.std.specs.Prelude.{◌≡◌, ◌⊎◌, true, List, ℕ, IfOk, IfErr, OnOk, OnErr};
 ghost use Rattle.std.specs.Io.KnownBytes.{Appends, Consumes, IsAtEnd};
 ghost use Rattle.mk_mailbox.specs.Devices.{AppendsFront, Rose, IsLong};
-ghost use Rattle.mk_transfer.specs.RunClauses.{held, counts, SameFailures, ReadFailed, WriteFailed, ends_itself};
-ghost use Rattle.mk_show.specs.Shown.{IsListed, IsTaken, LeavesShown, Writes, run_of_answer};
+ghost use Rattle.mk_transfer.specs.RunClauses.{held, counts, reason, IsBlamed, SameFailures, ReadFailed, WriteFailed, ends_itself};
+ghost use Rattle.mk_show.specs.Shown.{IsListed, IsTaken, LeavesShown, LeavesShownSoFar, Writes, run_of_answer};
 
 use crate::answers::{Answer, content, sections};
 use mk_mailbox::{Fault, Sink, Source};
@@ -19,7 +19,9 @@ pub fn run_sections<S: Source, O: Sink, E: Sink>(
     out: &mut O,
     err: &mut E,
 ) -> Status
-    ensures leaves { LeavesShown IsListed result
+    ensures leaves { let before = counts (S.failures input.old) (S.read_count input.old) (O.failures out.old) (E.failures err.old) in
+        let after = counts (S.failures input.new) (S.read_count input.new) (O.failures out.new) (E.failures err.new) in
+        LeavesShown (reason before after) IsListed result
         (held (S.remaining input.old) (O.contents out.old) (E.contents err.old))
         (held (S.remaining input.new) (O.contents out.new) (E.contents err.new)) }
     ensures blamed { result ≡ Status.Fault →
@@ -30,13 +32,37 @@ pub fn run_sections<S: Source, O: Sink, E: Sink>(
         (counts (S.failures input.old) (S.read_count input.old) (O.failures out.old) (E.failures err.old))
         (counts (S.failures input.new) (S.read_count input.new) (O.failures out.new) (E.failures err.new)) }
 {
+    match try_sections(alloc, input, out, err) {
+        Ok(status) => status,
+        Err(cause) => give_up(err, cause),
+    }
+}
+
+/// Does the same, and leaves it to the caller to say why the run is given up.
+pub fn try_sections<S: Source, O: Sink, E: Sink>(
+    alloc: Global,
+    input: &mut S,
+    out: &mut O,
+    err: &mut E,
+) -> Result<Status, Cause>
+    ensures leaves { LeavesShownSoFar IsListed result
+        (held (S.remaining input.old) (O.contents out.old) (E.contents err.old))
+        (held (S.remaining input.new) (O.contents out.new) (E.contents err.new)) }
+    ensures ended { IfOk result (λ status. ends_itself status ≡ true) }
+    ensures blamed { IfErr result (λ cause. IsBlamed cause
+        (counts (S.failures input.old) (S.read_count input.old) (O.failures out.old) (E.failures err.old))
+        (counts (S.failures input.new) (S.read_count input.new) (O.failures out.new) (E.failures err.new))) }
+    ensures clean { OnOk result (SameFailures
+        (counts (S.failures input.old) (S.read_count input.old) (O.failures out.old) (E.failures err.old))
+        (counts (S.failures input.new) (S.read_count input.new) (O.failures out.new) (E.failures err.new))) }
+{
     let doc = match read_doc(alloc, input) {
         Ok(doc) => doc,
-        Err(stop) => return give_up(err, reading(stop)),
+        Err(stop) => return Err(reading(stop)),
     };
     match sections(alloc, &doc) {
-        Ok(answer) => finish(out, err, &answer),
-        Err(_) => give_up(err, Cause::Memory),
+        Ok(answer) => print(out, err, &answer),
+        Err(_) => Err(Cause::Memory),
     }
 }
 
@@ -48,7 +74,9 @@ pub fn run_extract<S: Source, O: Sink, E: Sink>(
     err: &mut E,
     path: &[u32],
 ) -> Status
-    ensures leaves { LeavesShown (IsTaken path.now) result
+    ensures leaves { let before = counts (S.failures input.old) (S.read_count input.old) (O.failures out.old) (E.failures err.old) in
+        let after = counts (S.failures input.new) (S.read_count input.new) (O.failures out.new) (E.failures err.new) in
+        LeavesShown (reason before after) (IsTaken path.now) result
         (held (S.remaining input.old) (O.contents out.old) (E.contents err.old))
         (held (S.remaining input.new) (O.contents out.new) (E.contents err.new)) }
     ensures blamed { result ≡ Status.Fault →
@@ -59,13 +87,38 @@ pub fn run_extract<S: Source, O: Sink, E: Sink>(
         (counts (S.failures input.old) (S.read_count input.old) (O.failures out.old) (E.failures err.old))
         (counts (S.failures input.new) (S.read_count input.new) (O.failures out.new) (E.failures err.new)) }
 {
+    match try_extract(alloc, input, out, err, path) {
+        Ok(status) => status,
+        Err(cause) => give_up(err, cause),
+    }
+}
+
+/// Does the same, and leaves it to the caller to say why the run is given up.
+pub fn try_extract<S: Source, O: Sink, E: Sink>(
+    alloc: Global,
+    input: &mut S,
+    out: &mut O,
+    err: &mut E,
+    path: &[u32],
+) -> Result<Status, Cause>
+    ensures leaves { LeavesShownSoFar (IsTaken path.now) result
+        (held (S.remaining input.old) (O.contents out.old) (E.contents err.old))
+        (held (S.remaining input.new) (O.contents out.new) (E.contents err.new)) }
+    ensures ended { IfOk result (λ status. ends_itself status ≡ true) }
+    ensures blamed { IfErr result (λ cause. IsBlamed cause
+        (counts (S.failures input.old) (S.read_count input.old) (O.failures out.old) (E.failures err.old))
+        (counts (S.failures input.new) (S.read_count input.new) (O.failures out.new) (E.failures err.new))) }
+    ensures clean { OnOk result (SameFailures
+        (counts (S.failures input.old) (S.read_count input.old) (O.failures out.old) (E.failures err.old))
+        (counts (S.failures input.new) (S.read_count input.new) (O.failures out.new) (E.failures err.new))) }
+{
     let doc = match read_doc(alloc, input) {
         Ok(doc) => doc,
-        Err(stop) => return give_up(err, reading(stop)),
+        Err(stop) => return Err(reading(stop)),
     };
     match content(alloc, &doc, path) {
-        Ok(answer) => finish(out, err, &answer),
-        Err(_) => give_up(err, Cause::Memory),
+        Ok(answer) => print(out, err, &answer),
+        Err(_) => Err(Cause::Memory),
     }
 }
 
@@ -78,6 +131,7 @@ pub fn read_doc<S: Source>(alloc: Global, input: &mut S) -> Result<Doc, Stop>
     ensures fault { IfErr result (λ stop. stop ≡ Stop.Fault
         → Rose (S.failures input.old) (S.failures input.new)
         ⊎ IsLong (S.read_count input.old) (S.read_count input.new)) }
+    ensures memory { IfErr result (λ stop. stop ≡ Stop.Memory → S.failures input.new ≡ S.failures input.old) }
 {
     let message = read_all(alloc, input)?;
     match Doc::read(alloc, message) {
@@ -87,21 +141,20 @@ pub fn read_doc<S: Source>(alloc: Global, input: &mut S) -> Result<Doc, Stop>
 }
 
 /// Writes an answer, and says how the run ends.
-pub fn finish<O: Sink, E: Sink>(out: &mut O, err: &mut E, answer: &Answer) -> Status
+pub fn print<O: Sink, E: Sink>(out: &mut O, err: &mut E, answer: &Answer) -> Result<Status, Cause>
     ensures written { Writes result (run_of_answer answer.now) (O.contents out.old) (O.contents out.new) (E.contents err.old) (E.contents err.new) }
-    ensures blamed { result ≡ Status.Fault → Rose (O.failures out.old) (O.failures out.new) ⊎ Rose (E.failures err.old) (E.failures err.new) }
-    ensures output_clean { ends_itself result ≡ true → O.failures out.new ≡ O.failures out.old }
-    ensures errors_clean { ends_itself result ≡ true → E.failures err.new ≡ E.failures err.old }
+    ensures only { IfErr result (λ cause. cause ≡ Cause.Write) }
+    ensures failed { OnErr result (Rose (O.failures out.old) (O.failures out.new) ⊎ Rose (E.failures err.old) (E.failures err.new)) }
+    ensures output_well { OnOk result (O.failures out.new ≡ O.failures out.old) }
+    ensures errors_well { OnOk result (E.failures err.new ≡ E.failures err.old) }
 {
     match write_both(out, err, answer) {
-        Ok(()) => {
-            if answer.errors.is_empty() {
-                Status::Well
-            } else {
-                Status::Refused
-            }
-        }
-        Err(Fault) => give_up(err, Cause::Write),
+        Ok(()) => Ok(if answer.errors.is_empty() {
+            Status::Well
+        } else {
+            Status::Refused
+        }),
+        Err(Fault) => Err(Cause::Write),
     }
 }
 

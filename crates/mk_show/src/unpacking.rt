@@ -5,10 +5,10 @@ ghost use Rattle.mk_tree.specs.Documents.{Document};
 ghost use Rattle.mk_mailbox.specs.Devices.{Rose};
 ghost use Rattle.mk_view.specs.GivenNames.{AreSafe, is_safe};
 ghost use Rattle.mk_view.specs.LeafViews.{AreAt, IsAt, leaf_view};
-ghost use Rattle.mk_transfer.specs.RunClauses.{held, counts, Sends, SameFailures, ReadFailed, WriteFailed, ends_itself};
+ghost use Rattle.mk_transfer.specs.RunClauses.{held, counts, reason_with, IsBlamedWith, Sends, SameFailures, ReadFailed, WriteFailed, ends_itself};
 ghost use Rattle.mk_show.specs.Shown.{extract_line};
 ghost use Rattle.mk_show.specs.Unpacking.{exists_line as line_of_exists, stored_line as line_of_stored, tried as name_tried};
-ghost use Rattle.mk_show.specs.UnpackClauses.{IsBlamedForFolder, LeavesUnpacked, LeavesUnpackedSoFar, NoneFailed, PutsFront, PutsNone, PutsText, SomeFailed, UnpackedAll, UnpackedSome, failures, manner_of, written};
+ghost use Rattle.mk_show.specs.UnpackClauses.{LeavesUnpacked, LeavesUnpackedSoFar, NoneFailed, PutsFront, PutsNone, PutsText, SomeFailed, UnpackedAll, UnpackedSome, failures, manner_of, written};
 
 use crate::answers::refusal;
 use crate::folder::Folder;
@@ -45,7 +45,9 @@ pub fn unpack<S: Source, O: Sink, E: Sink, F: Folder>(
     over: bool,
     silent: bool,
 ) -> Status
-    ensures leaves { LeavesUnpacked (manner_of over silent) texts result
+    ensures leaves { let before = counts (S.failures input.old) (S.read_count input.old) (O.failures out.old) (E.failures err.old) in
+        let after = counts (S.failures input.new) (S.read_count input.new) (O.failures out.new) (E.failures err.new) in
+        LeavesUnpacked (reason_with before after (F.failures dir.old) (F.failures dir.new)) (manner_of over silent) texts result
         (held (S.remaining input.old) (O.contents out.old) (E.contents err.old))
         (held (S.remaining input.new) (O.contents out.new) (E.contents err.new))
         (F.files dir.old) (F.files dir.new) }
@@ -80,7 +82,7 @@ pub fn try_unpack<S: Source, O: Sink, E: Sink, F: Folder>(
         (held (S.remaining input.new) (O.contents out.new) (E.contents err.new))
         (F.files dir.old) (F.files dir.new) }
     ensures ended { IfOk result (λ status. ends_itself status ≡ true) }
-    ensures blamed { IfErr result (λ cause. IsBlamedForFolder cause
+    ensures blamed { IfErr result (λ cause. IsBlamedWith cause
         (counts (S.failures input.old) (S.read_count input.old) (O.failures out.old) (E.failures err.old))
         (counts (S.failures input.new) (S.read_count input.new) (O.failures out.new) (E.failures err.new))
         (F.failures dir.old) (F.failures dir.new)) }
@@ -123,6 +125,9 @@ fn unpack_all<O: Sink, E: Sink, F: Folder>(
     ensures failed { IfErr result (λ stop. stop ≡ Stop.Fault → SomeFailed
         (failures (O.failures out.old) (E.failures err.old) (F.failures dir.old))
         (failures (O.failures out.new) (E.failures err.new) (F.failures dir.new))) }
+    ensures memory { IfErr result (λ stop. stop ≡ Stop.Memory → NoneFailed
+        (failures (O.failures out.old) (E.failures err.old) (F.failures dir.old))
+        (failures (O.failures out.new) (E.failures err.new) (F.failures dir.new))) }
     ensures well { OnOk result (NoneFailed
         (failures (O.failures out.old) (E.failures err.old) (F.failures dir.old))
         (failures (O.failures out.new) (E.failures err.new) (F.failures dir.new))) }
@@ -151,6 +156,9 @@ fn unpack_leaf<O: Sink, E: Sink, F: Folder>(
         (written (O.contents out.old) (E.contents err.old) (F.files dir.old))
         (written (O.contents out.new) (E.contents err.new) (F.files dir.new))) }
     ensures failed { IfErr result (λ stop. stop ≡ Stop.Fault → SomeFailed
+        (failures (O.failures out.old) (E.failures err.old) (F.failures dir.old))
+        (failures (O.failures out.new) (E.failures err.new) (F.failures dir.new))) }
+    ensures memory { IfErr result (λ stop. stop ≡ Stop.Memory → NoneFailed
         (failures (O.failures out.old) (E.failures err.old) (F.failures dir.old))
         (failures (O.failures out.new) (E.failures err.new) (F.failures dir.new))) }
     ensures well { OnOk result (NoneFailed
@@ -191,6 +199,7 @@ fn put_free<F: Folder>(
     ensures full { result ≡ Ok None → PutsNone over (F.files dir.old) (F.files dir.new) name.now }
     ensures stopped { OnErr result ((F.files dir.new ≡ F.files dir.old) ⊎ PutsFront over (F.files dir.old) (F.files dir.new) name.now text.now) }
     ensures failed { IfErr result (λ stop. stop ≡ Stop.Fault → Rose (F.failures dir.old) (F.failures dir.new)) }
+    ensures memory { IfErr result (λ stop. stop ≡ Stop.Memory → F.failures dir.new ≡ F.failures dir.old) }
     ensures well { OnOk result (F.failures dir.new ≡ F.failures dir.old) }
 {
     for number in 0..MOST_TRIES {

@@ -1,3 +1,4 @@
+pub mod Blames
 pub mod Fronts
 pub mod GivenUp
 pub mod Slices

@@ -1,4 +1,4 @@
--- What a run leaves in its devices.
+-- What a run leaves in its devices, and why one is given up.
 use Rattle.std.specs.Prelude.{◌≡◌, ◌≤◌, ◌⊎◌, ℕ, Bool, true, false, List, ◌++◌, ◌∷◌, [], Option, Result, Ok, Err, codes}
 use Rattle.std.specs.Io.KnownBytes.{Appends, Consumes, IsAtEnd, Keeps}
 use Rattle.mk_line.specs.Ascii.{line_feed}
@@ -46,6 +46,17 @@ ReadFailed before after = Rose before.input after.input ⊎ IsLong before.reads 
 abbrev pub WriteFailed : Counts → Counts → Type 0
 WriteFailed before after = Rose before.output after.output ⊎ Rose before.errors after.errors
 
+-- the input failed, and no sink did
+pub record InputFailed (before after : Counts) : Type 0 where
+  pub failed : ReadFailed before after
+  pub output : after.output ≡ before.output
+  pub errors : after.errors ≡ before.errors
+
+-- the output or the errors failed, and the input didn't
+pub record OutputFailed (before after : Counts) : Type 0 where
+  pub failed : WriteFailed before after
+  pub input : after.input ≡ before.input
+
 -- the bytes of the output and of the errors went out whole
 pub record WritesAll (run : Run) (before after : Held) : Type 0 where
   pub output : Appends before.output after.output run.output
@@ -66,6 +77,7 @@ pub record IsSent (bytes : List ℕ) (old new : Option (List ℕ)) (before after
 pub record IsStopped (stop : Stop) (bytes : List ℕ) (old new : Option (List ℕ)) (before after : ℕ) : Type 0 where
   pub front : AppendsFront old new bytes
   pub fault : stop ≡ Stopped → Rose before after
+  pub steady : stop ≡ Wanting → after ≡ before
   pub counted : before ≤ after
 
 -- bytes were sent to a sink, or a front of them, with the failures that it counts
@@ -95,15 +107,47 @@ status_of Read = Fault
 status_of Write = Fault
 status_of NoMemory = Memory
 
--- a front of the output and of the errors went out, and then a front of the line that says why the run was given up;
--- where reading failed nothing went to the output
-pub record IsGivenUp (status : Status) (run : Run) (before after : Held) : Type 0 where
+-- the devices bear a cause out: the input alone failed, or a sink and not the input, or no device
+abbrev pub IsBlamed : Cause → Counts → Counts → Type 0
+IsBlamed Read = InputFailed
+IsBlamed Write = OutputFailed
+IsBlamed NoMemory = SameFailures
+
+-- the same for a run that writes to one device more, with the failures that this one counts
+abbrev pub IsBlamedWith : Cause → Counts → Counts → ℕ → ℕ → Type 0
+IsBlamedWith Read before after more left = InputFailed before after × (left ≡ more)
+IsBlamedWith Write before after more left = (WriteFailed before after ⊎ Rose more left) × (after.input ≡ before.input)
+IsBlamedWith NoMemory before after more left = SameFailures before after × (left ≡ more)
+
+-- a cause to give up, and what the errors hold before and after the line that says so
+abbrev pub Reason : Type 1
+Reason = Cause → Option (List ℕ) → Option (List ℕ) → Type 0
+
+-- the devices bear the cause out, by the failures that the errors had counted before the line; and the line goes out whole, unless
+-- the errors fail then
+pub record GivesUp (IsBorne : Cause → ℕ → Type 0) (failed : ℕ) (cause : Cause) (between left : Option (List ℕ)) : Type 0 where
+  pub told : ℕ
+  pub borne : IsBorne cause told
+  pub front : AppendsFront between left (cause_line cause)
+  pub whole : Appends between left (cause_line cause) ⊎ Rose told failed
+
+-- the reason of a run, by the counts of its devices
+abbrev pub reason : Counts → Counts → Reason
+reason before after = GivesUp (λ cause told. IsBlamed cause before (record after { errors = told })) after.errors
+
+-- the same with one device more
+abbrev pub reason_with : Counts → Counts → ℕ → ℕ → Reason
+reason_with before after more left = GivesUp (λ cause told. IsBlamedWith cause before (record after { errors = told }) more left) after.errors
+
+-- a front of the output and of the errors went out, and then the line that says why the run was given up; where reading failed
+-- nothing went to the output
+pub record IsGivenUp (why : Reason) (status : Status) (run : Run) (before after : Held) : Type 0 where
   pub output : AppendsFront before.output after.output run.output
   pub cause : Cause
   pub status_is : status_of cause ≡ status
   pub between : Option (List ℕ)
   pub errors : AppendsFront before.errors between run.errors
-  pub line : AppendsFront between after.errors (cause_line cause)
+  pub line : why cause between after.errors
   pub silent : cause ≡ Read → Keeps before.output after.output
 
 -- the run ended by itself as defined, and the whole input was read
@@ -118,24 +162,26 @@ pub record IsUnread (status : Status) (run : Run) (before after : Held) : Type 0
   pub written : WritesAll run before after
   pub read : Keeps before.input after.input
 
+-- what a run leaves that ended by itself, by its status
+abbrev pub Ends : Status → Run → Held → Held → Type 0
+Ends Well run before after = IsDone Well run before after
+Ends Refused run before after = IsDone Refused run before after
+Ends Usage run before after = IsUnread Usage run before after
+Ends Fault run before after = ⊥
+Ends Memory run before after = ⊥
+
 -- what a run leaves in its devices, by its status
-abbrev pub Leaves : Status → Run → Held → Held → Type 0
-Leaves Well = IsDone Well
-Leaves Refused = IsDone Refused
-Leaves Usage = IsUnread Usage
-Leaves Fault = IsGivenUp Fault
-Leaves Memory = IsGivenUp Memory
+abbrev pub Leaves : Reason → Status → Run → Held → Held → Type 0
+Leaves why Well = IsDone Well
+Leaves why Refused = IsDone Refused
+Leaves why Usage = IsUnread Usage
+Leaves why Fault = IsGivenUp why Fault
+Leaves why Memory = IsGivenUp why Memory
 
 -- a run that is given up left fronts; one that ended left what its status says
 abbrev pub LeavesSoFar : Result Status Cause → Run → Held → Held → Type 0
-LeavesSoFar (Ok status) = Leaves status
+LeavesSoFar (Ok status) = Ends status
 LeavesSoFar (Err cause) = WritesFronts cause
-
--- the device failed that a cause speaks of
-abbrev pub IsBlamed : Cause → Counts → Counts → Type 0
-IsBlamed Read = ReadFailed
-IsBlamed Write = WriteFailed
-IsBlamed NoMemory = λ _ _. Unit {0}
 
 -- a run ended by itself, and was not given up
 abbrev pub ends_itself : Status → Bool

@@ -1,7 +1,8 @@
 //! How a run is given up.
 
-ghost use Rattle.std.specs.Prelude.{◌≡◌, ◌≤◌};
-ghost use Rattle.mk_mailbox.specs.Devices.{AppendsFront};
+ghost use Rattle.std.specs.Prelude.{◌≡◌, ◌≤◌, ◌⊎◌};
+ghost use Rattle.std.specs.Io.KnownBytes.{Appends};
+ghost use Rattle.mk_mailbox.specs.Devices.{AppendsFront, Rose};
 ghost use Rattle.mk_transfer.specs.RunClauses.{cause_line as line_of, cause_of_reading, cause_of_writing, status_of as status_for};
 
 use crate::status::{Cause, Status};
@@ -12,6 +13,7 @@ use mk_mailbox::Sink;
 pub fn give_up<E: Sink>(err: &mut E, cause: Cause) -> Status
     ensures status { result ≡ status_for cause }
     ensures line { AppendsFront (E.contents err.old) (E.contents err.new) (line_of cause) }
+    ensures whole { Appends (E.contents err.old) (E.contents err.new) (line_of cause) ⊎ Rose (E.failures err.old) (E.failures err.new) }
     ensures counted { E.failures err.old ≤ E.failures err.new }
 {
     let _ = write_all(err, cause_line(cause));

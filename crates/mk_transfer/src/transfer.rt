@@ -44,6 +44,7 @@ pub fn read_all<S: Source>(alloc: Global, input: &mut S) -> Result<Vec<u8>, Stop
     ensures fault { IfErr result (λ stop. stop ≡ Stop.Fault
         → Rose (S.failures input.old) (S.failures input.new)
         ⊎ IsLong (S.read_count input.old) (S.read_count input.new)) }
+    ensures memory { IfErr result (λ stop. stop ≡ Stop.Memory → S.failures input.new ≡ S.failures input.old) }
 {
     let mut text = Vec::new(alloc);
     let mut piece = [0u8; CHUNK_BYTES];
@@ -81,6 +82,7 @@ pub fn write_all<O: Sink>(out: &mut O, bytes: &[u8]) -> Result<(), Fault>
 pub fn send<O: Sink>(out: &mut O, bytes: &[u8]) -> Result<(), Stop>
     ensures sends { Sends result bytes.now
         (O.contents out.old) (O.contents out.new) (O.failures out.old) (O.failures out.new) }
+    ensures only { IfErr result (λ stop. stop ≡ Stop.Fault) }
     ensures unfinished { O.finished out.new ≡ O.finished out.old }
 {
     match write_all(out, bytes) {
@@ -95,6 +97,7 @@ pub fn finish<O: Sink>(out: &mut O) -> Result<(), Stop>
     ensures stands { OnOk result (O.finished out.new ≡ true) }
     ensures well { OnOk result (O.failures out.new ≡ O.failures out.old) }
     ensures fault { OnErr result (Rose (O.failures out.old) (O.failures out.new)) }
+    ensures only { IfErr result (λ stop. stop ≡ Stop.Fault) }
     ensures unfinished { OnErr result (O.finished out.new ≡ O.finished out.old) }
 {
     match out.finish() {

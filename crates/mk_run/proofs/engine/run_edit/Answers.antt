@@ -1,14 +1,26 @@
-use Rattle.std.proofs.Common.{Err, sym, subst}
+use Rattle.std.proofs.Common.{Ok, Err, sym, subst}
 use Rattle.mk_run.specs.Journaling.{journaling_of}
 use Rattle.mk_run.specs.JournalRuns.{LeavesSteps}
 use Rattle.mk_transfer.specs.RunClauses.{held}
 use Rattle.mk_run.specs.Runs.{run_of}
 use Rattle.mk_script.specs.ScriptSteps.{script_of}
 use Rattle.mk_script.specs.ScriptViews.{texts_of}
-use Rattle.mk_transfer.proofs.GivenUp.{Leaves-given_up}
+use Rattle.mk_transfer.proofs.GivenUp.{Leaves-ended, Leaves-given_up}
 use Rattle.mk_run.proofs.RunLemmas.{LeavesJournal-given_up, Prints-given_up}
 use Rattle.mk_script.proofs.ScriptTurns.{texts_length}
 use Rattle.mk_run.proofs.engine.run_edit.Goals as goal
+
+pub returns-in-Ok-clause-leaves : goal.returns-in-Ok-clause-leaves
+returns-in-Ok-clause-leaves g c =
+    let before = held (g.S.Source.remaining c.args.input.now) (g.O.Sink.contents c.args.out.now) (g.E.Sink.contents c.args.err.now) in
+    let after = held (g.S.Source.remaining c.try_edit.new.input) (g.O.Sink.contents c.try_edit.new.out) (g.E.Sink.contents c.try_edit.new.err) in
+    let kept = g.J.Sink.contents c.args.jout.now in
+    let last = g.J.Sink.contents c.try_edit.new.jout in
+    let finished = g.J.Sink.finished c.try_edit.new.jout in
+    let journaling = journaling_of c.args.journal in
+    let left = subst (λ n. LeavesSteps (Ok c.in-Ok.status) (texts_of c.args.pieces.now) journaling (script_of n c.args.script.now) before after kept last finished) (sym (texts_length c.args.pieces.now)) c.in-Ok.ensures.leaves in
+    let script = run_of (texts_of c.args.pieces.now) journaling left.0 c.args.script.now in
+    (left.0, left.1, Leaves-ended _ c.in-Ok.status script.run before after left.2, left.3)
 
 pub returns-in-Err-clause-leaves : goal.returns-in-Err-clause-leaves
 returns-in-Err-clause-leaves g c =
@@ -24,7 +36,8 @@ returns-in-Err-clause-leaves g c =
     rw c.give_up.ensures.status (
       left.0,
       left.1,
-      Leaves-given_up c.in-Err.cause script.run before after (g.E.Sink.contents c.try_edit.new.err) left.2.output left.2.errors c.give_up.ensures.line left.2.silent,
+      Leaves-given_up _ c.in-Err.cause script.run before after (g.E.Sink.contents c.try_edit.new.err) left.2.output left.2.errors
+          (record { told = _; borne = c.in-Err.ensures.blamed; front = c.give_up.ensures.line; whole = c.give_up.ensures.whole }) left.2.silent,
       LeavesJournal-given_up c.in-Err.cause script before after kept last finished left.3.front left.3.later,
     )
 

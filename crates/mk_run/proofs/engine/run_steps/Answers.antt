@@ -38,7 +38,7 @@ returns-in-Ok-begin-clause-blamed g c =
     session_blamed c.run_session.result _ _ _ _
     (counts (g.S.Source.failures c.args.input.now) (g.S.Source.read_count c.args.input.now) (g.O.Sink.failures c.args.out.now) (g.E.Sink.failures c.args.err.now))
     (counts (g.S.Source.failures c.read_all.new.input) (g.S.Source.read_count c.read_all.new.input) (g.O.Sink.failures c.run_session.new.out) (g.E.Sink.failures c.run_session.new.err))
-    (g.J.Sink.failures c.args.jout.now) (g.J.Sink.failures c.run_session.new.jout) c.run_session.ensures.leaves c.run_session.ensures.blamed
+    (g.J.Sink.failures c.args.jout.now) (g.J.Sink.failures c.run_session.new.jout) c.run_session.ensures.leaves c.in-Ok.ensures.well c.run_session.ensures.blamed c.run_session.ensures.memory
 
 pub returns-in-Ok-report_journal-clause-leaves : goal.returns-in-Ok-report_journal-clause-leaves
 returns-in-Ok-report_journal-clause-leaves g c =

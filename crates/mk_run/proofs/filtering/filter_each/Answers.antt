@@ -2,7 +2,8 @@ use Rattle.std.proofs.Common.{◌∙◌, ◌++◌, ◌∷◌, [], refl, sym, sub
 use Rattle.std.proofs.KnownBytes.{Consumes-nil, Consumes-trans}
 use Rattle.std.specs.Io.KnownBytes.{IsAtEnd}
 use Rattle.mk_mail.specs.LetterViews.{letters_of}
-use Rattle.mk_run.proofs.FilterLemmas.{all_out, counted_on, no_silence, none_out, one_out, stopped_between, stopped_here, stopped_within}
+use Rattle.mk_transfer.proofs.GivenUp.{not_reading}
+use Rattle.mk_run.proofs.FilterLemmas.{all_out, counted_on, known_between, long_on, no_silence, none_out, one_out, stopped_between, stopped_here, stopped_within}
 use Rattle.mk_run.proofs.filtering.filter_each.Goals as goal
 
 pub loop-turn-init : goal.loop-turn-init
@@ -16,21 +17,43 @@ loop-turn-init g c = record {
 
 pub returns-then-are_too_many-clause-leaves : goal.returns-then-are_too_many-clause-leaves
 returns-then-are_too_many-clause-leaves g c =
-    let t = c.loop-turn.invariant.told in
-    (t.0, t.2, record { says = stopped_here (letters_of c.args.letters.now) _ _ t.0 t.1 c.loop-turn.mailbox _ _ _ _ t.3; silent = no_silence })
+    let t = c.loop-turn.invariant.told in (
+      t.0,
+      t.2,
+      record {
+        says = stopped_here (letters_of c.args.letters.now) _ _ t.0 t.1 c.loop-turn.mailbox _ _ _ _ t.3;
+        silent = no_silence;
+        known = λ _ _. inr (?);
+      },
+    )
 
 pub returns-clause-leaves : goal.returns-clause-leaves
 returns-clause-leaves g c =
-    let t = c.loop-turn.invariant.told in
-    (t.0, t.2, record { says = stopped_here (letters_of c.args.letters.now) _ _ t.0 t.1 c.loop-turn.mailbox _ _ _ _ t.3; silent = no_silence })
+    let t = c.loop-turn.invariant.told in (
+      t.0,
+      t.2,
+      record {
+        says = stopped_here (letters_of c.args.letters.now) _ _ t.0 t.1 c.loop-turn.mailbox _ _ _ _ t.3;
+        silent = no_silence;
+        known = λ _ _. inr (?);
+      },
+    )
 
 pub returns-in-Err-ReadFault-clause-leaves : goal.returns-in-Err-ReadFault-clause-leaves
 returns-in-Err-ReadFault-clause-leaves g c =
+    let l = letters_of c.args.letters.now in
     let t = c.loop-turn.invariant.told in
-    let e = c.next.ensures.exact in (
+    let e = rw c.in-Err-ReadFault.field-0-is at c.in-Err-ReadFault.ensures.exact in (
       t.0 ++ e.0,
       Consumes-trans _ _ _ t.0 e.0 t.2 e.1,
-      record { says = stopped_between (letters_of c.args.letters.now) _ _ t.0 e.0 t.1 c.loop-turn.mailbox _ _ _ _ t.3 e.2; silent = no_silence },
+      record {
+        says = stopped_between l _ _ t.0 e.0 t.1 c.loop-turn.mailbox _ _ _ _ t.3 e.2;
+        silent = no_silence;
+        known = λ _ _. elim ((rw c.in-Err-ReadFault.field-0-is at c.in-Err-ReadFault.ensures.unknown) refl) [
+          | inl unknown ↦ inl (known_between l _ _ t.0 e.0 t.1 c.loop-turn.mailbox c.next.new.self _ _ _ _ t.3 e.2 e.4 unknown)
+          | inr long ↦ inr (long_on _ _ _ _ _ c.loop-turn.invariant.count long)
+        ];
+      },
     )
 
 pub returns-in-Err-Memory-clause-leaves : goal.returns-in-Err-Memory-clause-leaves
@@ -39,7 +62,11 @@ returns-in-Err-Memory-clause-leaves g c =
     let e = c.next.ensures.exact in (
       t.0 ++ e.0,
       Consumes-trans _ _ _ t.0 e.0 t.2 e.1,
-      record { says = stopped_between (letters_of c.args.letters.now) _ _ t.0 e.0 t.1 c.loop-turn.mailbox _ _ _ _ t.3 e.2; silent = no_silence },
+      record {
+        says = stopped_between (letters_of c.args.letters.now) _ _ t.0 e.0 t.1 c.loop-turn.mailbox _ _ _ _ t.3 e.2;
+        silent = no_silence;
+        known = λ r. cc;
+      },
     )
 
 pub returns-in-Ok-None-clause-leaves : goal.returns-in-Ok-None-clause-leaves
@@ -64,6 +91,7 @@ returns-in-Err-clause-leaves g c =
       record {
         says = stopped_within (letters_of c.args.letters.now) _ c.loop-turn.refused t.0 e.0 c.in-Ok-Some.message.items t.1 c.loop-turn.mailbox c.next.new.self _ _ _ _ _ _ t.3 e.2 e.4 c.in-Err.ensures.some;
         silent = no_silence;
+        known = λ r. not_reading c.in-Err.stop c.writing.result c.writing.ensures r;
       },
     )
 

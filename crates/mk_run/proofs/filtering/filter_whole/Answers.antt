@@ -10,7 +10,7 @@ use Rattle.mk_run.proofs.filtering.filter_whole.Goals as goal
 pub returns-in-Err-clause-leaves : goal.returns-in-Err-clause-leaves
 returns-in-Err-clause-leaves g c =
     let read = c.in-Err.ensures.front in
-    (read.0, read.1, record { says = record { output = AppendsFront-none _ _; errors = AppendsFront-none _ _ }; silent = λ _ _. Keeps-refl _ })
+    (read.0, read.1, record { says = record { output = AppendsFront-none _ _; errors = AppendsFront-none _ _ }; silent = λ _ _. Keeps-refl _; known = λ _ e. cc })
 
 pub returns-in-Err-filter_message-clause-leaves : goal.returns-in-Err-filter_message-clause-leaves
 returns-in-Err-filter_message-clause-leaves g c =
@@ -20,5 +20,6 @@ returns-in-Err-filter_message-clause-leaves g c =
       record {
         says = subst (λ said. SaysSome said (g.O.Sink.contents c.args.out.now) (g.O.Sink.contents c.filter_message.new.out) (g.E.Sink.contents c.args.err.now) (g.E.Sink.contents c.filter_message.new.err)) (sym one) c.in-Err-filter_message.ensures.some;
         silent = λ _ r. not_reading c.in-Err-filter_message.stop c.writing.result c.writing.ensures r;
+        known = λ _ e. cc;
       },
     )

@@ -12,7 +12,7 @@ use Rattle.mk_run.proofs.steps.do_step.Goals as goal
 pub returns-in_err-task-clause-sends : goal.returns-in_err-task-clause-sends
 returns-in_err-task-clause-sends g c =
     let stopped = err_from_is_err_and c.from_residual.result c.from_residual.ensures.1 in
-    rw (stopped.1, stopped.2) (record { front = AppendsFront-none _ _; fault = λ e. absurd (cc); counted = omega arith })
+    rw (stopped.1, stopped.2) (record { front = AppendsFront-none _ _; fault = λ e. absurd (cc); steady = λ _. refl; counted = omega arith })
 
 pub returns-in-Ok-clause-sends : goal.returns-in-Ok-clause-sends
 returns-in-Ok-clause-sends g c =

@@ -15,6 +15,7 @@ returns-in_err-refused-clause-sends g c =
     rw (stopped.1, stopped.2) (record {
       front = AppendsFront-behind _ _ _ sent.0 _ _ _ sent.2 part.front (sent.1 ∙ rest);
       fault = λ h. rw c.loop-step.invariant.well at (part.fault h);
+      steady = λ h. rw c.loop-step.invariant.well at (part.steady h);
       counted = rw c.loop-step.invariant.well at part.counted;
     })
 

@@ -1,16 +1,32 @@
-use Rattle.std.proofs.Common.{map, subst}
+use Rattle.std.proofs.Common.{◌∙◌, map, sym}
 use Rattle.mk_build.specs.BuildViews.{attached_of}
 use Rattle.mk_show.specs.Packing.{IsPacked}
-use Rattle.mk_show.specs.Shown.{run_of_answer}
-use Rattle.mk_show.proofs.ShownLemmas.{Shows-written}
+use Rattle.mk_transfer.specs.RunClauses.{counts}
+use Rattle.mk_transfer.proofs.Blames.{blame_stays}
+use Rattle.mk_show.proofs.ShownLemmas.{Shows-ended, Shows-given_up}
 use Rattle.mk_show.proofs.packing.run_pack.Goals as goal
 
-pub returns-in-Ok-message-clause-leaves : goal.returns-in-Ok-message-clause-leaves
-returns-in-Ok-message-clause-leaves g c =
-    let parts = map attached_of c.args.parts.now in
-    let run = run_of_answer c.in-Ok-message.answer in
-    let is = subst (λ text. IsPacked c.args.boundary.now parts text run) c.deref.ensures.value c.in-Ok-message.ensures in (
-      c.in-Ok.text.items,
-      c.in-Ok.ensures.all,
-      Shows-written (IsPacked c.args.boundary.now parts c.in-Ok.text.items) run c.finish.result _ _ _ _ _ _ is c.in-Ok.ensures.ended c.finish.ensures.written,
+pub returns-in-Ok-clause-leaves : goal.returns-in-Ok-clause-leaves
+returns-in-Ok-clause-leaves g c =
+    let left = c.in-Ok.ensures.leaves in
+    (left.0, left.1, Shows-ended _ (IsPacked c.args.boundary.now (map attached_of c.args.parts.now) left.0) c.in-Ok.status _ _ _ _ _ _ left.2)
+
+pub returns-in-Err-clause-leaves : goal.returns-in-Err-clause-leaves
+returns-in-Err-clause-leaves g c =
+    let left = c.in-Err.ensures.leaves in (
+      left.0,
+      left.1,
+      rw c.give_up.ensures.status (Shows-given_up _ (IsPacked c.args.boundary.now (map attached_of c.args.parts.now) left.0) c.in-Err.cause _ _ _ _ _ _ _ left.2 (record {
+        told = _;
+        borne = c.in-Err.ensures.blamed;
+        front = c.give_up.ensures.line;
+        whole = c.give_up.ensures.whole;
+      })),
     )
+
+pub returns-in-Err-clause-blamed : goal.returns-in-Err-clause-blamed
+returns-in-Err-clause-blamed g c = λ fault.
+    blame_stays c.in-Err.cause
+    (counts (g.S.Source.failures c.args.input.now) (g.S.Source.read_count c.args.input.now) (g.O.Sink.failures c.args.out.now) (g.E.Sink.failures c.args.err.now))
+    (counts (g.S.Source.failures c.try_pack.new.input) (g.S.Source.read_count c.try_pack.new.input) (g.O.Sink.failures c.try_pack.new.out) (g.E.Sink.failures c.give_up.new.err))
+    (g.E.Sink.failures c.try_pack.new.err) c.in-Err.ensures.blamed c.give_up.ensures.counted (sym c.give_up.ensures.status ∙ fault)

@@ -17,6 +17,7 @@ returns-in-Err g c =
       all = λ t here. UnpackedAll-one c.args.manner t leaf _ true _ _ (undecoded-leaf c.args.manner t leaf c.in-Err.reason _ (rw here reason) known) (Appends-nil _) sent.whole (line_told _ _ _);
       some = tt;
       failed = tt;
+      memory = tt;
       well = record { output = refl {a = g.O.Sink.failures c.args.out.now}; errors = sent.well; folder = refl {a = g.F.Folder.failures c.args.dir.now} };
     }
 
@@ -31,6 +32,7 @@ returns-in_err-report_undecoded-in-Err g c =
       all = tt;
       some = λ t here. UnpackedSome-one c.args.manner t leaf _ _ _ (undecoded-leaf c.args.manner t leaf c.in-Err.reason _ (rw here reason) known) (AppendsFront-none _ _) stopped.front;
       failed = λ e. inr (inl (stopped.fault e));
+      memory = λ e. record { output = refl {a = g.O.Sink.failures c.args.out.now}; errors = stopped.steady e; folder = refl {a = g.F.Folder.failures c.args.dir.now} };
       well = tt;
     })
 

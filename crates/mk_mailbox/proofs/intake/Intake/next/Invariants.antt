@@ -2,7 +2,7 @@ use Rattle.std.proofs.Common.{◌≡◌, ◌≤◌, ◌+◌, ◌++◌, ◌⊎◌
 use Rattle.std.specs.Io.KnownBytes.{Consumes, IsAtEnd}
 use Rattle.mk_mailbox.specs.Devices.{IsFull}
 use Rattle.mk_mailbox.specs.Intakes.{IsIntake, kept_by}
-use Rattle.mk_mailbox.specs.Mailboxes.{FitsReads}
+use Rattle.mk_mailbox.specs.Mailboxes.{FitsReads, IsKnownWhole}
 use Rattle.mk_mailbox.proofs.intake.Intake.next.Given as goal
 
 abbrev pub invariant-loop-read : goal.invariant-loop-read
@@ -14,6 +14,8 @@ invariant-loop-read g l = record {
       × (kept_by l.self ≡ kept_by l.fn.self ++ read);
   ended : l.self.ended ≡ true → (l.fn.self.ended ≡ true) ⊎ IsAtEnd (g.S.Source.remaining l.r);
   stays : l.fn.self.ended ≡ true → (l.self.ended ≡ true) × (g.S.Source.remaining l.r ≡ g.S.Source.remaining l.fn.r);
+  known : IsKnownWhole (kept_by l.fn.self) → (g.S.Source.remaining l.r ≡ g.S.Source.remaining l.fn.r) × (g.S.Source.read_count l.r ≡ g.S.Source.read_count l.fn.r)
+      × (kept_by l.self ≡ kept_by l.fn.self);
   well : g.S.Source.failures l.r ≡ g.S.Source.failures l.fn.r;
   grown : length (kept_by l.fn.self) + l._read ≤ length (kept_by l.self) + (if l.self.ended then 1 else 0);
   count : (g.S.Source.read_count l.fn.r + l._read ≤ g.S.Source.read_count l.r) ⊎ IsFull (g.S.Source.read_count l.r);

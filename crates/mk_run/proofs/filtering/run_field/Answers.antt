@@ -1,0 +1,23 @@
+use Rattle.mk_mail.specs.LetterViews.{letters_of}
+use Rattle.mk_run.specs.Filtering.{field_run, messages_of, said_from}
+use Rattle.mk_run.proofs.FilterLemmas.{Filters-ended, Filters-given_up}
+use Rattle.mk_run.proofs.filtering.run_field.Goals as goal
+
+pub returns-in-Ok-clause-leaves : goal.returns-in-Ok-clause-leaves
+returns-in-Ok-clause-leaves g c =
+    let left = c.in-Ok.ensures.leaves in
+    (left.0, left.1, Filters-ended _ _ c.args.each c.in-Ok.status (field_run (letters_of c.args.letters.now) c.args.each left.0) _ _ left.2)
+
+pub returns-in-Err-clause-leaves : goal.returns-in-Err-clause-leaves
+returns-in-Err-clause-leaves g c =
+    let left = c.in-Err.ensures.leaves in
+    let said = said_from (letters_of c.args.letters.now) 1 (messages_of c.args.each left.0) in (
+      left.0,
+      left.1,
+      rw c.give_up.ensures.status (Filters-given_up _ _ c.args.each c.in-Err.cause said _ _ _ _ _ left.2 (record {
+        told = _;
+        borne = c.in-Err.ensures.blamed;
+        front = c.give_up.ensures.line;
+        whole = c.give_up.ensures.whole;
+      })),
+    )
