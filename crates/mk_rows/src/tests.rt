@@ -1,5 +1,7 @@
 //! A table that is read.
-use super::rows;
+use super::{Row, rows};
+use std::alloc::Global;
+use std::process::Abort;
 use std::test::Fail;
 
 const TABLE: &str = r#"
@@ -15,22 +17,31 @@ path: 1.20.3
 text:  x: y
 "#;
 
+fn check_values(rt: &impl Abort, row: &Row) {
+    assert_eq!(rt; row.bytes("text"), b"a\r\n\tb\\\x80\"q\"".as_slice());
+    assert_eq!(rt; row.text("empty"), "");
+    assert!(rt; row.get("empty").is_some());
+    assert!(rt; row.get("none").is_none());
+}
+
+fn check_numbers(rt: &impl Abort, alloc: Global, row: &Row) -> Result<(), Fail> {
+    assert_eq!(rt; row.number("number"), 12);
+    let path = row.path(alloc, "path")?;
+    assert_eq!(rt; path.as_slice(), [1, 20, 3].as_slice());
+    Ok(())
+}
+
 #[test]
 fn rows_have_their_cells(rt: HostRuntime) -> Result<(), Fail> {
     let table = rows(rt.alloc(), TABLE)?;
-    assert_eq!(&rt; table.len(), 2);
+    assert_eq!(rt; table.len(), 2);
     for row in &table {
         if row.shows == "first" {
-            assert_eq!(&rt; row.bytes("text"), b"a\r\n\tb\\\x80\"q\"".as_slice());
-            assert_eq!(&rt; row.text("empty"), "");
-            assert!(&rt; row.get("empty").is_some());
-            assert!(&rt; row.get("none").is_none());
-            assert_eq!(&rt; row.number("number"), 12);
-            let path = row.path(rt.alloc(), "path")?;
-            assert_eq!(&rt; path.as_slice(), [1, 20, 3].as_slice());
+            check_values(&rt, row);
+            check_numbers(&rt, rt.alloc(), row)?;
         } else {
-            assert_eq!(&rt; row.shows, "second");
-            assert_eq!(&rt; row.bytes("text"), b" x: y".as_slice());
+            assert_eq!(rt; row.shows, "second");
+            assert_eq!(rt; row.bytes("text"), b" x: y".as_slice());
         }
     }
     Ok(())

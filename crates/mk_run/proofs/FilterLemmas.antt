@@ -1,5 +1,5 @@
 -- Messages filtered in turn: what went out so far, and what is left to be said.
-use Rattle.std.proofs.Common.{◌≡◌, ◌≤◌, ◌+◌, ◌-◌, ◌*◌, nat_le, ◌⊎◌, ◌++◌, ◌||◌, ℕ, suc, Bool, true, false, not, if◌then◌else◌, Option, None, Some, IfSome, Result, Ok, Err, OnErr, List, [], ◌∷◌, refl, ap, sym, ◌∙◌, subst, inl, inr, filter, length, length-append, append_assoc, append-nil, arith}
+use Rattle.std.proofs.Common.{◌≡◌, ◌≤◌, ◌+◌, ◌-◌, ◌*◌, leb-true, nat_le, ◌⊎◌, ◌++◌, ◌||◌, ℕ, suc, Bool, true, false, not, if◌then◌else◌, Option, None, Some, IfSome, Result, Ok, Err, OnErr, List, [], ◌∷◌, refl, ap, sym, ◌∙◌, subst, inl, inr, filter, length, length-append, append_assoc, append-nil, arith}
 use Rattle.std.proofs.KnownBytes.{Appends-kept, Appends-nil, Appends-trans}
 use Rattle.std.specs.Io.KnownBytes.{Appends, Keeps}
 use Rattle.std.specs.List.{flat_map}
@@ -31,7 +31,7 @@ use Rattle.mk_transfer.specs.declared.transfer.Stop.{Stop}
 use Rattle.mk_transfer.specs.declared.transfer.Stop.TheVariants.{Fault as Stopped, Memory as Wanting}
 use Rattle.mk_run.specs.FilterClauses.{EndsFiltered, Filters, GivesKnown, IsBroken, IsEdited, IsFiltered, IsReason, SaysAll, SaysSome}
 use Rattle.mk_run.specs.Filtering.{given_by, message_line, report_of, said_from, said_of, said_of_edits, said_or}
-use Rattle.mk_transfer.specs.RunClauses.{Held, IsSent, IsStopped, Reason, cause_of_writing, held, status_of}
+use Rattle.mk_transfer.specs.RunClauses.{Counts, Held, IsBlamed, IsSent, IsStopped, Reason, WriteFailed, cause_of_writing, held, status_of}
 use Rattle.mk_transfer.specs.Said.{Run, shown, Said, said_behind, silence}
 use Rattle.mk_transfer.proofs.GivenUp.{not_reading}
 use Rattle.mk_transfer.proofs.Fronts.{AppendsFront-behind, not-is_nil-append, AppendsFront-none, AppendsFront-whole}
@@ -388,3 +388,17 @@ too_many t before now e h = inl (enough (nat_le 2147483647 (now - before)) refl 
   where
     enough : (u : Bool) → nat_le 2147483647 (now - before) ≡ u → u ≡ true → before + 2147483647 ≤ now
     enough u k g = let m : 2147483647 ≤ now - before = leb-true _ _ (k ∙ g) in omega (arith, m)
+
+-- sending a message stopped
+pub sending_blamed : (stop : Stop) (cause : Cause) (before after : Counts) → cause ≡ cause_of_writing stop → (stop ≡ Stopped → WriteFailed before after)
+    → (stop ≡ Wanting → (after.output ≡ before.output) × (after.errors ≡ before.errors)) → after.input ≡ before.input → IsBlamed cause before after
+sending_blamed Stopped cause before after e fault memory input = subst (λ c. IsBlamed c before after) (sym e) (record { failed = fault refl; input = input })
+sending_blamed Wanting cause before after e fault memory input =
+    let same = memory refl in subst (λ c. IsBlamed c before after) (sym e) (record { input = input; output = same.0; errors = same.1 })
+
+pub not_both_stops : {A : Type 0} (stop : Stop) → stop ≡ Stopped → stop ≡ Wanting → A
+not_both_stops stop a b = cc
+
+-- so many messages were read that reading is given up
+pub turns_out : (turn kept before reads : ℕ) → 18446744073709551615 ≤ turn → (turn + kept + chunk_bytes * before ≤ chunk_bytes * reads) ⊎ IsFull reads → IsLong before reads
+turns_out turn kept before reads end c = elim c [ inr full ↦ inr full | inl less ↦ inl (omega (arith, end, less)) ]

@@ -66,7 +66,7 @@ session_ended (Err cause) pieces steps journaling h before after finished w = tt
 pub session_blamed : (result : Result Status Cause) (script : ScriptRun) (before after : Sunk) (finished : Bool) (old new : Counts) (kept left : ℕ)
     → LeavesSession result script before after finished → new.input ≡ old.input
     → IfErr result (λ cause. cause ≡ Write → Rose old.output new.output ⊎ (Rose old.errors new.errors ⊎ Rose kept left))
-    → IfErr result (λ cause. cause ≡ Memory → (new.output ≡ old.output) × ((new.errors ≡ old.errors) × (left ≡ kept)))
+    → IfErr result (λ cause. cause ≡ Memory → (new.output ≡ old.output) × (new.errors ≡ old.errors) × (left ≡ kept))
     → IfErr result (λ cause. IsBlamedWith cause old new kept left)
 session_blamed (Ok status) script before after finished old new kept left w well blamed steady = tt
 session_blamed (Err Read) script before after finished old new kept left w well blamed steady = absurd (w.unread refl)
@@ -81,7 +81,7 @@ session_blamed (Err Write) script before after finished old new kept left w well
       ]
     ]
 session_blamed (Err Memory) script before after finished old new kept left w well blamed steady =
-    let same = steady refl in (record { input = well; output = same.0; errors = same.1.0 }, same.1.1)
+    let same = steady refl in (record { input = well; output = same.0; errors = same.1 }, same.2)
 
 -- an error that doesn't speak of memory names a reason
 pub named_reason : (error : LoadError) → says_memory error ≡ false → (reason : JournalRefusal) × (named_by error ≡ Some reason)

@@ -9,6 +9,7 @@ use Rattle.mk_edit.specs.Saving.{JournalRefusal}
 use Rattle.mk_decide.specs.Edits.{Order, Do, Group, Undo, Redo, PlainEdit, AddField, RemoveField, RenameField, SetField, SetBody, SetSection, InsertPart, RemovePart, Wrap, path_of, Refusal, Member}
 use Rattle.mk_transfer.specs.declared.status.Status.{Status}
 use Rattle.mk_transfer.specs.declared.status.Status.TheVariants.{Well, Refused, Usage}
+use Rattle.mk_transfer.specs.Said.{Run}
 use Rattle.mk_run.specs.Journaling.{Journaling, begun, journal_line, left_journal}
 use Rattle.mk_run.specs.Reports.{error_line, syntax_line}
 use Rattle.mk_script.specs.Script.{ScriptWord, Adds, Deletes, Renames, Sets, Bodies, Replaces, Inserts, Removes, Wraps}

@@ -1,7 +1,7 @@
 //! Runs of scripts on messages, over devices in memory. The expected bytes are worked out by hand.
 
 mod devices;
-mod faults;
+mod failing;
 mod fields;
 mod filtered;
 mod groups;

@@ -8,12 +8,33 @@ use std::alloc::{AllocError, Global};
 /// The most bytes that a page takes with no further allocation.
 const ROOM: usize = 1_000;
 
+/// When a device fails, by how many calls were made before.
+#[derive(Clone, Copy, Debug, PartialEq, Eq)]
+pub enum Failing {
+    Never,
+    /// At one call; those after it go well.
+    At(u64),
+    /// At one call and at each after it.
+    From(u64),
+}
+
+impl Failing {
+    /// Whether a call fails before which so many were made.
+    pub fn fails(self, calls: u64) -> bool {
+        match self {
+            Failing::Never => false,
+            Failing::At(call) => calls == call,
+            Failing::From(call) => calls >= call,
+        }
+    }
+}
+
 /// A source that gives a text, so many bytes at once.
 #[derive(Drop)]
 pub struct Text<'a> {
     rest: &'a [u8],
     size: usize,
-    good: u64,
+    failing: Failing,
     reads: u64,
     faults: u64,
     ghost some: { 0 < size },
@@ -22,15 +43,20 @@ pub struct Text<'a> {
 impl<'a> Text<'a> {
     /// A source that never fails and gives at most `size` bytes at once, or one byte where it is 0.
     pub fn new(text: &'a [u8], size: usize) -> Text<'a> {
-        Text::failing(text, size, u64::MAX)
+        Text::over(text, size, Failing::Never)
     }
 
     /// The same, which fails after so many good reads.
     pub fn failing(text: &'a [u8], size: usize, good: u64) -> Text<'a> {
+        Text::over(text, size, Failing::From(good))
+    }
+
+    /// The same, which fails as it is told.
+    pub fn over(text: &'a [u8], size: usize, failing: Failing) -> Text<'a> {
         Text {
             rest: text,
             size: size.max(1),
-            good,
+            failing,
             reads: 0,
             faults: 0,
         }
@@ -47,7 +73,7 @@ impl Source for Text<'_> {
     fn read(&mut self, piece: &mut [u8]) -> Result<usize, Fault> {
         let read = self.reads;
         self.reads = read.saturating_add(1);
-        if read >= self.good {
+        if self.failing.fails(read) {
             self.faults = self.faults.saturating_add(1);
             return Err(Fault);
         }
@@ -71,8 +97,8 @@ impl Source for Text<'_> {
 pub struct Page {
     held: Vec<u8>,
     size: usize,
-    good: u64,
-    writes: u64,
+    failing: Failing,
+    calls: u64,
     faults: u64,
     is_finished: bool,
 }
@@ -80,17 +106,22 @@ pub struct Page {
 impl Page {
     /// A sink that never fails and takes at most `size` bytes at once.
     pub fn new(alloc: Global, size: usize) -> Result<Page, AllocError> {
-        Page::failing(alloc, size, u64::MAX)
+        Page::over(alloc, size, Failing::Never)
     }
 
     /// The same, which fails after so many good calls.
     pub fn failing(alloc: Global, size: usize, good: u64) -> Result<Page, AllocError> {
+        Page::over(alloc, size, Failing::From(good))
+    }
+
+    /// The same, which fails as it is told.
+    pub fn over(alloc: Global, size: usize, failing: Failing) -> Result<Page, AllocError> {
         let held = Vec::with_capacity(alloc, ROOM)?;
         Ok(Page {
             held,
             size,
-            good,
-            writes: 0,
+            failing,
+            calls: 0,
             faults: 0,
             is_finished: false,
         })
@@ -117,7 +148,9 @@ impl Sink for Page {
     fn write(&mut self, piece: &[u8]) -> Result<usize, Fault> {
         let count = self.size.min(piece.len());
         let is_stuck = count == 0 && !piece.is_empty();
-        let fails = self.writes >= self.good
+        let call = self.calls;
+        self.calls = call.saturating_add(1);
+        let fails = self.failing.fails(call)
             || self.held.extend_from_slice(&piece[..count]).is_err();
         if fails || is_stuck {
             self.faults = self.faults.saturating_add(1);
@@ -125,16 +158,16 @@ impl Sink for Page {
         if fails {
             return Err(Fault);
         }
-        self.writes = self.writes.saturating_add(1);
         Ok(count)
     }
 
     fn finish(&mut self) -> Result<(), Fault> {
-        if self.writes >= self.good {
+        let call = self.calls;
+        self.calls = call.saturating_add(1);
+        if self.failing.fails(call) {
             self.faults = self.faults.saturating_add(1);
             return Err(Fault);
         }
-        self.writes = self.writes.saturating_add(1);
         self.is_finished = true;
         Ok(())
     }

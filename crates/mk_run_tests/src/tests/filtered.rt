@@ -366,19 +366,3 @@ fn a_read_fault_prints_nothing(rt: HostRuntime) -> Result<(), Fail> {
     }
     Ok(())
 }
-
-#[test]
-fn the_output_fails_at_each_byte(rt: HostRuntime) -> Result<(), Fail> {
-    let alloc = rt.alloc();
-    let letters = only(alloc, b"A: 9")?;
-    for good in 0..FILTERED.len() {
-        let mut input = Text::new(MAILBOX, 7);
-        let page = Page::failing(alloc, 1, good as u64)?;
-        let left = run(alloc, &letters, &mut input, page, 7, true)?;
-        assert_eq!(rt; left.out.bytes(), &FILTERED[..good]);
-        assert_eq!(rt; left.err.bytes(), b"mimetool: write fault\n".as_slice());
-        assert_eq!(rt; left.status, Status::Fault);
-        assert_eq!(rt; left.out.faults(), 1);
-    }
-    Ok(())
-}

@@ -4,6 +4,7 @@ ghost use Rattle.std.specs.Prelude.{◌≡◌, None, Some, true, false, OnErr, O
 ghost use Rattle.mk_show.specs.Folders.{Gets, IsFree, IsThere};
 ghost use Rattle.mk_run_tests.specs.Kept.{texts_in};
 
+use super::devices::Failing;
 use mk_mail::Fault;
 use mk_run::Folder;
 use std::alloc::{AllocError, Global};
@@ -16,7 +17,7 @@ type Kept = BTreeMap<Vec<u8>, Vec<u8>>;
 pub struct Shelf {
     alloc: Global,
     kept: Kept,
-    good: u64,
+    failing: Failing,
     puts: u64,
     faults: u64,
 }
@@ -24,15 +25,15 @@ pub struct Shelf {
 impl Shelf {
     /// A folder without files that fails only when memory runs out.
     pub fn new(alloc: Global) -> Shelf {
-        Shelf::failing(alloc, u64::MAX)
+        Shelf::over(alloc, Failing::Never)
     }
 
-    /// The same, which fails after so many good calls.
-    pub fn failing(alloc: Global, good: u64) -> Shelf {
+    /// The same, which fails as it is told.
+    pub fn over(alloc: Global, failing: Failing) -> Shelf {
         Shelf {
             alloc,
             kept: Kept::new(alloc),
-            good,
+            failing,
             puts: 0,
             faults: 0,
         }
@@ -77,8 +78,9 @@ impl Folder for Shelf {
     ghost failures = { λ s. s.faults };
 
     fn put(&mut self, name: &[u8], text: &[u8], over: bool) -> Result<bool, Fault> {
-        if self.puts < self.good {
-            self.puts = self.puts.saturating_add(1);
+        let call = self.puts;
+        self.puts = call.saturating_add(1);
+        if !self.failing.fails(call) {
             if !over && has(&self.kept, name) {
                 return Ok(false);
             }

@@ -101,28 +101,6 @@ fn sections_are_listed(rt: HostRuntime) -> Result<(), Fail> {
     Ok(())
 }
 
-#[test]
-fn a_failing_device_ends_a_listing(rt: HostRuntime) -> Result<(), Fail> {
-    let alloc = rt.alloc();
-    for good in 0..19u64 {
-        let mut input = Text::failing(MIXED, 7, good);
-        let mut out = Page::failing(alloc, 7, good)?;
-        let mut err = Page::new(alloc, 7)?;
-        let status = run_sections(alloc, &mut input, &mut out, &mut err);
-        assert!(rt; LISTING.starts_with(out.bytes()));
-        if input.faults() > 0 {
-            assert_eq!(rt; status, Status::Fault);
-            assert_eq!(rt; out.bytes(), b"".as_slice());
-            assert_eq!(rt; err.bytes(), b"mimetool: read fault\n".as_slice());
-        } else {
-            assert_eq!(rt; status, Status::Fault);
-            assert_eq!(rt; out.faults(), 1);
-            assert_eq!(rt; err.bytes(), b"mimetool: write fault\n".as_slice());
-        }
-    }
-    Ok(())
-}
-
 const OTHERS: &str = r"
 == texts that aren't paths
 text:

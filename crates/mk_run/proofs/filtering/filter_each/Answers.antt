@@ -2,8 +2,9 @@ use Rattle.std.proofs.Common.{◌∙◌, ◌++◌, ◌∷◌, [], refl, sym, sub
 use Rattle.std.proofs.KnownBytes.{Consumes-nil, Consumes-trans}
 use Rattle.std.specs.Io.KnownBytes.{IsAtEnd}
 use Rattle.mk_mail.specs.LetterViews.{letters_of}
+use Rattle.mk_transfer.specs.RunClauses.{counts}
 use Rattle.mk_transfer.proofs.GivenUp.{not_reading}
-use Rattle.mk_run.proofs.FilterLemmas.{all_out, counted_on, known_between, long_on, no_silence, none_out, one_out, stopped_between, stopped_here, stopped_within}
+use Rattle.mk_run.proofs.FilterLemmas.{all_out, counted_on, known_between, long_on, no_silence, none_out, one_out, sending_blamed, stopped_between, stopped_here, stopped_within, too_many, turns_out}
 use Rattle.mk_run.proofs.filtering.filter_each.Goals as goal
 
 pub loop-turn-init : goal.loop-turn-init
@@ -23,7 +24,7 @@ returns-then-are_too_many-clause-leaves g c =
       record {
         says = stopped_here (letters_of c.args.letters.now) _ _ t.0 t.1 c.loop-turn.mailbox _ _ _ _ t.3;
         silent = no_silence;
-        known = λ _ _. inr (?);
+        known = λ _ _. inr (rw (c.reads.ensures, c.reads-before.ensures) at (too_many c.are_too_many.result c.reads-before.result c.reads.result c.are_too_many.ensures c.if-are_too_many.true));
       },
     )
 
@@ -35,7 +36,7 @@ returns-clause-leaves g c =
       record {
         says = stopped_here (letters_of c.args.letters.now) _ _ t.0 t.1 c.loop-turn.mailbox _ _ _ _ t.3;
         silent = no_silence;
-        known = λ _ _. inr (?);
+        known = λ _ _. inr (turns_out c.loop-turn.turn _ _ _ (omega (arith, c.loop-turn-test.false)) c.loop-turn.invariant.count);
       },
     )
 
@@ -43,13 +44,13 @@ pub returns-in-Err-ReadFault-clause-leaves : goal.returns-in-Err-ReadFault-claus
 returns-in-Err-ReadFault-clause-leaves g c =
     let l = letters_of c.args.letters.now in
     let t = c.loop-turn.invariant.told in
-    let e = rw c.in-Err-ReadFault.field-0-is at c.in-Err-ReadFault.ensures.exact in (
+    let e = c.in-Err-ReadFault.ensures.exact in (
       t.0 ++ e.0,
       Consumes-trans _ _ _ t.0 e.0 t.2 e.1,
       record {
         says = stopped_between l _ _ t.0 e.0 t.1 c.loop-turn.mailbox _ _ _ _ t.3 e.2;
         silent = no_silence;
-        known = λ _ _. elim ((rw c.in-Err-ReadFault.field-0-is at c.in-Err-ReadFault.ensures.unknown) refl) [
+        known = λ _ _. elim (c.in-Err-ReadFault.ensures.unknown c.in-Err-ReadFault.field-0-is) [
           | inl unknown ↦ inl (known_between l _ _ t.0 e.0 t.1 c.loop-turn.mailbox c.next.new.self _ _ _ _ t.3 e.2 e.4 unknown)
           | inr long ↦ inr (long_on _ _ _ _ _ c.loop-turn.invariant.count long)
         ];
@@ -94,6 +95,15 @@ returns-in-Err-clause-leaves g c =
         known = λ r. not_reading c.in-Err.stop c.writing.result c.writing.ensures r;
       },
     )
+
+pub returns-in-Err-clause-blamed : goal.returns-in-Err-clause-blamed
+returns-in-Err-clause-blamed g c =
+    let well = c.loop-turn.invariant.well in
+    sending_blamed c.in-Err.stop c.writing.result
+    (counts (g.S.Source.failures c.args.input.now) (g.S.Source.read_count c.args.input.now) (g.O.Sink.failures c.args.out.now) (g.E.Sink.failures c.args.err.now))
+    (counts (g.S.Source.failures c.next.new.r) (g.S.Source.read_count c.next.new.r) (g.O.Sink.failures c.filter_message.new.out) (g.E.Sink.failures c.filter_message.new.err))
+    c.writing.ensures (λ e. rw (well.output, well.errors) at (c.in-Err.ensures.failed e))
+    (λ e. let same = c.in-Err.ensures.memory e in (same.0 ∙ well.output, same.1 ∙ well.errors)) (c.in-Ok-Some.ensures.well ∙ well.input)
 
 pub loop-turn-preserved : goal.loop-turn-preserved
 loop-turn-preserved g c =

@@ -1,9 +1,11 @@
-use Rattle.std.proofs.Common.{sym, subst}
+use Rattle.std.proofs.Common.{refl, sym, subst}
 use Rattle.std.proofs.KnownBytes.{Keeps-refl}
 use Rattle.mk_mail.specs.LetterViews.{letters_of}
 use Rattle.mk_run.specs.FilterClauses.{SaysSome}
 use Rattle.mk_transfer.proofs.GivenUp.{not_reading}
-use Rattle.mk_run.proofs.FilterLemmas.{said_one}
+use Rattle.mk_transfer.specs.RunClauses.{counts}
+use Rattle.mk_transfer.proofs.Blames.{reading_blamed}
+use Rattle.mk_run.proofs.FilterLemmas.{said_one, sending_blamed}
 use Rattle.mk_transfer.proofs.Fronts.{AppendsFront-none}
 use Rattle.mk_run.proofs.filtering.filter_whole.Goals as goal
 
@@ -23,3 +25,17 @@ returns-in-Err-filter_message-clause-leaves g c =
         known = λ _ e. cc;
       },
     )
+
+pub returns-in-Err-clause-blamed : goal.returns-in-Err-clause-blamed
+returns-in-Err-clause-blamed g c =
+    reading_blamed c.in-Err.stop c.reading.result
+    (counts (g.S.Source.failures c.args.input.now) (g.S.Source.read_count c.args.input.now) (g.O.Sink.failures c.args.out.now) (g.E.Sink.failures c.args.err.now))
+    (counts (g.S.Source.failures c.read_all.new.input) (g.S.Source.read_count c.read_all.new.input) (g.O.Sink.failures c.args.out.now) (g.E.Sink.failures c.args.err.now))
+    c.reading.ensures c.in-Err.ensures.fault c.in-Err.ensures.memory refl refl
+
+pub returns-in-Err-filter_message-clause-blamed : goal.returns-in-Err-filter_message-clause-blamed
+returns-in-Err-filter_message-clause-blamed g c =
+    sending_blamed c.in-Err-filter_message.stop c.writing.result
+    (counts (g.S.Source.failures c.args.input.now) (g.S.Source.read_count c.args.input.now) (g.O.Sink.failures c.args.out.now) (g.E.Sink.failures c.args.err.now))
+    (counts (g.S.Source.failures c.read_all.new.input) (g.S.Source.read_count c.read_all.new.input) (g.O.Sink.failures c.filter_message.new.out) (g.E.Sink.failures c.filter_message.new.err))
+    c.writing.ensures c.in-Err-filter_message.ensures.failed c.in-Err-filter_message.ensures.memory c.in-Ok.ensures.well

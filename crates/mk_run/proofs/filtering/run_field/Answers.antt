@@ -1,4 +1,7 @@
+use Rattle.std.proofs.Common.{◌∙◌, sym}
 use Rattle.mk_mail.specs.LetterViews.{letters_of}
+use Rattle.mk_transfer.specs.RunClauses.{counts}
+use Rattle.mk_transfer.proofs.Blames.{blame_stays}
 use Rattle.mk_run.specs.Filtering.{field_run, messages_of, said_from}
 use Rattle.mk_run.proofs.FilterLemmas.{Filters-ended, Filters-given_up}
 use Rattle.mk_run.proofs.filtering.run_field.Goals as goal
@@ -21,3 +24,10 @@ returns-in-Err-clause-leaves g c =
         whole = c.give_up.ensures.whole;
       })),
     )
+
+pub returns-in-Err-clause-blamed : goal.returns-in-Err-clause-blamed
+returns-in-Err-clause-blamed g c = λ fault.
+    blame_stays c.in-Err.cause
+    (counts (g.S.Source.failures c.args.input.now) (g.S.Source.read_count c.args.input.now) (g.O.Sink.failures c.args.out.now) (g.E.Sink.failures c.args.err.now))
+    (counts (g.S.Source.failures c.try_field.new.input) (g.S.Source.read_count c.try_field.new.input) (g.O.Sink.failures c.try_field.new.out) (g.E.Sink.failures c.give_up.new.err))
+    (g.E.Sink.failures c.try_field.new.err) c.in-Err.ensures.blamed c.give_up.ensures.counted (sym c.give_up.ensures.status ∙ fault)

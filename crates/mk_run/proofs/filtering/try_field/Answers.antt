@@ -1,6 +1,8 @@
+use Rattle.std.proofs.Common.{inl}
 use Rattle.mk_mail.specs.LetterViews.{letters_of}
+use Rattle.mk_transfer.specs.RunClauses.{counts}
 use Rattle.mk_run.specs.Filtering.{messages_of, said_from}
-use Rattle.mk_run.proofs.FilterLemmas.{EndsFiltered-refused, EndsFiltered-well, IsBroken-last, IsFiltered-kept}
+use Rattle.mk_run.proofs.FilterLemmas.{EndsFiltered-refused, EndsFiltered-well, IsBroken-last, IsFiltered-kept, not_both_stops, sending_blamed}
 use Rattle.mk_run.proofs.filtering.try_field.Goals as goal
 
 pub returns-then-refused-clause-leaves : goal.returns-then-refused-clause-leaves
@@ -20,3 +22,11 @@ returns-in-Err-finish-clause-leaves g c =
     let left = c.in-Ok.ensures.leaves in
     let said = said_from (letters_of c.args.letters.now) 1 (messages_of c.args.each left.0) in
     (left.0, left.1, IsBroken-last _ c.args.each c.in-Err-finish.stop _ said c.in-Ok.refused _ _ _ _ _ c.writing.ensures left.2 c.in-Err-finish.ensures.kept (λ not r. absurd (not r)))
+
+pub returns-in-Err-finish-clause-blamed : goal.returns-in-Err-finish-clause-blamed
+returns-in-Err-finish-clause-blamed g c =
+    let clean = c.in-Ok.ensures.clean in
+    sending_blamed c.in-Err-finish.stop c.writing.result
+    (counts (g.S.Source.failures c.args.input.now) (g.S.Source.read_count c.args.input.now) (g.O.Sink.failures c.args.out.now) (g.E.Sink.failures c.args.err.now))
+    (counts (g.S.Source.failures c.filter.new.input) (g.S.Source.read_count c.filter.new.input) (g.O.Sink.failures c.finish.new.out) (g.E.Sink.failures c.filter.new.err))
+    c.writing.ensures (λ _. inl (rw clean.output at c.in-Err-finish.ensures.fault)) (λ w. not_both_stops c.in-Err-finish.stop c.in-Err-finish.ensures.only w) clean.input
