@@ -230,4 +230,3 @@ fn a_packed_file_is_extracted(rt: HostRuntime) -> Result<(), Fail> {
     assert_eq!(rt; out.bytes(), b"hi".as_slice());
     Ok(())
 }
-
