@@ -2,6 +2,7 @@
 //! are from the rules of the formats, and a plain program that reads the whole edited text again stands beside the
 //! local tests.
 mod agreeing;
+mod checks;
 mod fields;
 mod flat;
 mod groups;
@@ -13,29 +14,119 @@ mod long_groups;
 mod looks;
 mod memory;
 mod meter;
+mod named;
 mod names;
 mod parts;
 mod plain;
 mod removals;
 mod sections;
+mod small;
 mod wrapping;
 mod wraps;
 
-use flat::flattened;
 use mk_edit::{Edit, EditError, Session};
-use mk_line::Meter;
 use mk_rows::{Row, rows};
 use mk_tree::Doc;
-use std::alloc::{AllocError, Global};
-use std::process::Abort;
+use std::alloc::{AllocError, AllocFailed, Global};
 use std::test::Fail;
 
-/// A multipart with two leaves.
-pub const MIXED: &[u8] =
-    b"Subject: t\nContent-Type: multipart/mixed; boundary=\"b\"\n\npre\n--b\n\none\n--b \t\nContent-Type: text/html\n\ntwo\n--b--\nepi\n";
+/// Why a table can't be read.
+#[derive(Clone, Copy, Debug)]
+pub enum TableError {
+    /// There is no memory.
+    Memory,
+    /// A row doesn't have a cell that it needs, or has one that it may not have.
+    Cell {
+        shows: &'static str,
+        key: &'static str,
+    },
+    /// A word means nothing.
+    Word(&'static str),
+    /// A table that is to have one row has none, or this many more.
+    Rows(usize),
+}
 
-/// A part in base64.
-pub const PART: &[u8] = b"Content-Transfer-Encoding: base64\n\naGk=\n";
+impl From<AllocError> for TableError {
+    fn from(_error: AllocError) -> TableError {
+        TableError::Memory
+    }
+}
+
+impl<T: Drop> From<AllocFailed<T>> for TableError {
+    fn from(_error: AllocFailed<T>) -> TableError {
+        TableError::Memory
+    }
+}
+
+/// What was read, or nothing where there was no memory for it. Other errors fail.
+pub fn if_memory<T>(read: Result<T, TableError>) -> Result<Option<T>, Fail> {
+    match read {
+        Ok(value) => Ok(Some(value)),
+        Err(TableError::Memory) => Ok(None),
+        Err(error) => Err(Fail::from(error)),
+    }
+}
+
+/// The only row of a table.
+pub fn only_row(alloc: Global, table: &'static str) -> Result<Row, TableError> {
+    let mut all = rows(alloc, table)?;
+    match all.pop() {
+        Some(row) if all.is_empty() => Ok(row),
+        _ => Err(TableError::Rows(all.len())),
+    }
+}
+
+/// The bytes of a cell that a row needs.
+pub fn bytes_in<'a>(row: &'a Row, key: &'static str) -> Result<&'a [u8], TableError> {
+    match row.get(key) {
+        Some(cell) => Ok(&cell.bytes),
+        None => Err(TableError::Cell {
+            shows: row.shows,
+            key,
+        }),
+    }
+}
+
+/// The number in a cell that a row needs.
+pub fn number_in(row: &Row, key: &'static str) -> Result<u32, TableError> {
+    match row.text(key).parse() {
+        Ok(number) => Ok(number),
+        Err(_) => Err(TableError::Cell {
+            shows: row.shows,
+            key,
+        }),
+    }
+}
+
+/// The path in the cell `at` of a row.
+pub fn path_in(alloc: Global, row: &Row) -> Result<Vec<u32>, TableError> {
+    let numbers = match bytes_in(row, "at")? {
+        [] => 0,
+        _ => row.text("at").split('.').count(),
+    };
+    let path = row.path(alloc, "at")?;
+    if path.len() == numbers {
+        Ok(path)
+    } else {
+        Err(TableError::Cell {
+            shows: row.shows,
+            key: "at",
+        })
+    }
+}
+
+/// A row has no cells but those with these keys.
+pub fn check_keys(row: &Row, keys: &'static str) -> Result<(), TableError> {
+    for cell in &row.cells {
+        if !keys.split(' ').any(|key| key == cell.key) {
+            return Err(TableError::Cell {
+                shows: row.shows,
+                key: cell.key,
+            });
+        }
+    }
+    Ok(())
+}
 
 /// An edit at a section that is named beside it.
 #[derive(Clone, Copy, Debug)]
@@ -76,31 +167,61 @@ pub enum Asked<'a> {
 }
 
 /// The edit that a row asks for.
-pub fn asked_in(row: &Row) -> Result<Asked<'_>, Fail> {
-    let (name, k, text) = (row.bytes("name"), row.number("number"), row.bytes("with"));
-    let asked = match row.text("edit") {
-        "add" => Asked::AddField { top: false, text },
-        "add at the top" => Asked::AddField { top: true, text },
-        "remove" => Asked::RemoveField { name, k },
-        "rename" => {
-            let to = row.bytes("to");
-            Asked::RenameField { name, k, to }
+pub fn asked_in(row: &Row) -> Result<Asked<'_>, TableError> {
+    match row.text("edit") {
+        "add" => added_in(row, false),
+        "add at the top" => added_in(row, true),
+        "body" => {
+            let text = bytes_in(row, "with")?;
+            Ok(Asked::SetBody { text })
         }
-        "set" => Asked::SetField { name, k, text },
-        "body" => Asked::SetBody { text },
-        "section" => Asked::SetSection { text },
+        "section" => {
+            let text = bytes_in(row, "with")?;
+            Ok(Asked::SetSection { text })
+        }
         "insert" => {
-            let place = row.number("place");
-            Asked::InsertPart { place, text }
+            let place = number_in(row, "place")?;
+            let text = bytes_in(row, "with")?;
+            Ok(Asked::InsertPart { place, text })
         }
-        "remove part" => Asked::RemovePart,
+        "remove part" => Ok(Asked::RemovePart),
         "wrap" => {
-            let (subtype, boundary) = (row.bytes("subtype"), row.bytes("boundary"));
-            Asked::Wrap { subtype, boundary }
+            let subtype = bytes_in(row, "subtype")?;
+            let boundary = bytes_in(row, "boundary")?;
+            Ok(Asked::Wrap { subtype, boundary })
         }
-        _ => return Err(Fail::new(row.shows)),
-    };
-    Ok(asked)
+        _ => asked_of_field_in(row),
+    }
+}
+
+fn added_in(row: &Row, top: bool) -> Result<Asked<'_>, TableError> {
+    let text = bytes_in(row, "with")?;
+    Ok(Asked::AddField { top, text })
+}
+
+// The same for a field that is there.
+fn asked_of_field_in(row: &Row) -> Result<Asked<'_>, TableError> {
+    let name = bytes_in(row, "name")?;
+    let k = number_in(row, "number")?;
+    match row.text("edit") {
+        "remove" => Ok(Asked::RemoveField { name, k }),
+        "rename" => {
+            let to = bytes_in(row, "to")?;
+            Ok(Asked::RenameField { name, k, to })
+        }
+        "set" => {
+            let text = bytes_in(row, "with")?;
+            Ok(Asked::SetField { name, k, text })
+        }
+        word => Err(TableError::Word(word)),
+    }
+}
+
+/// The edit that a row asks for, of the section at its path.
+pub fn edit_in(alloc: Global, row: &Row) -> Result<Edit, TableError> {
+    let path = path_in(alloc, row)?;
+    let asked = asked_in(row)?;
+    Ok(edit_at(alloc, &path, asked)?)
 }
 
 /// The edit of a section that is asked for.
@@ -156,6 +277,36 @@ pub fn edit_at(alloc: Global, path: &[u32], asked: Asked<'_>) -> Result<Edit, Al
     Ok(edit)
 }
 
+/// The reason that a table names.
+pub fn reason_of(name: &'static str) -> Result<EditError, TableError> {
+    match name {
+        "NoSuchSection" => Ok(EditError::NoSuchSection),
+        "NotMultipart" => Ok(EditError::NotMultipart),
+        "NotLeaf" => Ok(EditError::NotLeaf),
+        "NotPart" => Ok(EditError::NotPart),
+        "NoSuchField" => Ok(EditError::NoSuchField),
+        "BadPlace" => Ok(EditError::BadPlace),
+        "BadField" => Ok(EditError::BadField),
+        "BadName" => Ok(EditError::BadName),
+        "BadBoundary" => Ok(EditError::BadBoundary),
+        "BadSubtype" => Ok(EditError::BadSubtype),
+        _ => late_reason_of(name),
+    }
+}
+
+// The same for reasons that the edited message gives, and for those against an undo or a redo.
+fn late_reason_of(name: &'static str) -> Result<EditError, TableError> {
+    match name {
+        "OpenLine" => Ok(EditError::OpenLine),
+        "HoldsBoundary { level: 1 }" => Ok(EditError::HoldsBoundary { level: 1 }),
+        "HoldsBoundary { level: 2 }" => Ok(EditError::HoldsBoundary { level: 2 }),
+        "Recut" => Ok(EditError::Recut),
+        "NothingToUndo" => Ok(EditError::NothingToUndo),
+        "NothingToRedo" => Ok(EditError::NothingToRedo),
+        _ => Err(TableError::Word(name)),
+    }
+}
+
 /// A session over a copy of a text.
 pub fn session_over(alloc: Global, text: &[u8]) -> Result<Session, AllocError> {
     let text = Vec::from_slice(alloc, text)?;
@@ -166,65 +317,4 @@ pub fn session_over(alloc: Global, text: &[u8]) -> Result<Session, AllocError> {
 pub fn read(alloc: Global, text: &[u8]) -> Result<Doc, AllocError> {
     let text = Vec::from_slice(alloc, text)?;
     Doc::read(alloc, text).map_err(|(_, error)| error)
-}
-
-/// Makes the edits of a table, takes them back and makes them again. A row has a message, the path of a section in it,
-/// an edit, and the text that the edit gives or the reason for which it is refused.
-pub fn check_rows(rt: &impl Abort, alloc: Global, table: &'static str) -> Result<(), Fail> {
-    for row in &rows(alloc, table)? {
-        let asked = asked_in(row)?;
-        let path = row.path(alloc, "at")?;
-        let edit = edit_at(alloc, &path, asked)?;
-        check_row(rt, alloc, row, &edit)?;
-    }
-    Ok(())
-}
-
-fn check_row(rt: &impl Abort, alloc: Global, row: &Row, edit: &Edit) -> Result<(), Fail> {
-    let text = row.bytes("message");
-    let mut session = session_over(alloc, text)?;
-    let checked = session.check(edit, &mut Meter::new());
-    check_state(rt, alloc, &session, text, row.shows)?;
-    let answer = session.edit(edit, &mut Meter::new());
-    assert_eq!(rt; checked, answer, "{}", row.shows);
-    match answer {
-        Ok(()) => {
-            let after = row.bytes("gives");
-            assert!(rt; row.get("gives").is_some(), "{}", row.shows);
-            check_state(rt, alloc, &session, after, row.shows)?;
-            assert_eq!(rt; (session.done(), session.undone()), (1, 0), "{}", row.shows);
-            assert_eq!(rt; session.undo(), Ok(()), "{}", row.shows);
-            check_state(rt, alloc, &session, text, row.shows)?;
-            assert_eq!(rt; (session.done(), session.undone()), (0, 1), "{}", row.shows);
-            assert_eq!(rt; session.redo(), Ok(()), "{}", row.shows);
-            check_state(rt, alloc, &session, after, row.shows)?;
-        }
-        Err(error) => {
-            let reason = format!(in alloc; "{error:?}")?;
-            assert_eq!(rt; reason.as_str(), row.text("refused"), "{}", row.shows);
-            check_state(rt, alloc, &session, text, row.shows)?;
-            assert_eq!(rt; (session.done(), session.undone()), (0, 0), "{}", row.shows);
-        }
-    }
-    Ok(())
-}
-
-/// A session has a text, and the tree that this is read as.
-pub fn check_state(
-    rt: &impl Abort,
-    alloc: Global,
-    session: &Session,
-    text: &[u8],
-    shows: &str,
-) -> Result<(), Fail> {
-    assert_eq!(rt; session.text(), text, "{shows}");
-    assert_eq!(rt; session.doc().text(), text, "{shows}");
-    let again = read(alloc, text)?;
-    let items = flattened(alloc, session.doc())?;
-    assert_eq!(rt;
-        items.as_slice(),
-        flattened(alloc, &again)?.as_slice(),
-        "{shows}"
-    );
-    Ok(())
 }

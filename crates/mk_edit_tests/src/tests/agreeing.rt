@@ -1,42 +1,14 @@
 //! The session and the plain program give the same answers on many small messages.
 use super::flat::{What, flattened};
 use super::plain::answer;
+use super::small::{COUNT, STRIDE, message, read_pieces};
 use super::{Asked, asked_in, edit_at, read, session_over};
+use mk_edit::EditError;
 use mk_line::Meter;
 use mk_rows::{Row, rows};
-use std::alloc::{AllocError, Global};
+use std::alloc::Global;
 use std::process::Abort;
 use std::test::Fail;
-
-/// What messages begin with.
-const FRONTS: [&[u8]; 8] = [
-    b"",
-    b"From x\n",
-    b"Content-Type: message/rfc822\n",
-    b"Content-Type: multipart/mixed; boundary=b\n\n",
-    b"Content-Type: multipart/digest; boundary=\"a:b\"\n\n",
-    b"Content-Type: multipart/mixed; boundary=\"a:b\"\n\n--a:b\nContent-Type: multipart/mixed; boundary=b\n\n--b\n",
-    b"Content-Type: multipart/digest; boundary=b\n\n--b\nContent-Type: text/plain\n\n--b\nA:b\n",
-    b"A:b\r\nContent-Type: multipart/mixed; boundary=b\r\n\r\npre\r\n--b\r\n",
-];
-
-/// The lines after, without endings.
-const LINES: [&[u8]; 14] = [
-    b"",
-    b"A:b",
-    b" x",
-    b"x",
-    b"--b",
-    b"--b--",
-    b"--a:b",
-    b"--a:b-- ",
-    b"From x",
-    b"a : c",
-    b"Content-Type: message/rfc822",
-    b"Content-Type: multipart/mixed; boundary=b",
-    b"Content-Type: multipart/digest; boundary=a:b",
-    b"Content-Transfer-Encoding: base64",
-];
 
 /// The edits that are tried at each section.
 const ASKED: &str = r#"
@@ -313,30 +285,12 @@ subtype: mixed
 boundary: b\x20
 "#;
 
-/// Of all messages of a front, three lines and an ending every so many.
-const STRIDE: usize = 101;
-
-/// How many there are of them.
-const COUNT: usize = FRONTS.len() * (LINES.len() + 1) * (LINES.len() + 1) * (LINES.len() + 1) * 4;
-
-// The message of a number: a front, at most three lines, their ending, and whether the last line is open.
-fn message(alloc: Global, number: usize) -> Result<Vec<u8>, AllocError> {
-    let eol: &[u8] = if number % 2 == 0 { b"\n" } else { b"\r\n" };
-    let is_open = number / 2 % 2 == 1;
-    let mut left = number / 4;
-    let front = FRONTS.get(left % FRONTS.len()).copied().unwrap_or(b"");
-    left /= FRONTS.len();
-    let mut text = Vec::from_slice(alloc, front)?;
-    for place in 0..3u8 {
-        if let Some(line) = LINES.get(left % (LINES.len() + 1)) {
-            text.extend_from_slice(line)?;
-            if place < 2 || !is_open {
-                text.extend_from_slice(eol)?;
-            }
-        }
-        left /= LINES.len() + 1;
-    }
-    Ok(text)
+// An edit of a section of a text.
+#[derive(Clone, Copy, Debug)]
+struct Case<'a> {
+    text: &'a [u8],
+    path: &'a [u32],
+    asked: Asked<'a>,
 }
 
 // All edits at each section of a text.
@@ -344,51 +298,68 @@ fn agree_on(rt: &impl Abort, alloc: Global, text: &[u8], table: &[Row]) -> Resul
     let doc = read(alloc, text)?;
     for item in &flattened(alloc, &doc)? {
         if matches!(&item.what, What::Entity(_)) {
-            for row in table {
-                let asked = asked_in(row)?;
-                agree(rt, alloc, text, &item.path, asked)?;
-            }
+            agree_at(rt, alloc, text, &item.path, table)?;
         }
     }
     Ok(())
 }
 
-// The session answers as the plain program does, and takes the edit back.
-fn agree(
+// All edits at a section of a text.
+fn agree_at(
     rt: &impl Abort,
     alloc: Global,
     text: &[u8],
     path: &[u32],
-    asked: Asked<'_>,
+    table: &[Row],
 ) -> Result<(), Fail> {
+    for row in table {
+        let asked = asked_in(row)?;
+        agree(rt, alloc, Case { text, path, asked })?;
+    }
+    Ok(())
+}
+
+// The session answers as the plain program does, and takes the edit back.
+fn agree(rt: &impl Abort, alloc: Global, case: Case<'_>) -> Result<(), Fail> {
+    let Case { text, path, asked } = case;
     let mut session = session_over(alloc, text)?;
     let edit = edit_at(alloc, path, asked)?;
-    let plain = answer(alloc, text, path, asked);
     let checked = session.check(&edit, &mut Meter::new());
     let found = session.edit(&edit, &mut Meter::new());
-    assert_eq!(rt; checked, found, "{text:?} {path:?} {asked:?}");
-    match plain {
+    same_answer(rt, checked, found, case);
+    match answer(alloc, text, path, asked) {
         Ok(after) => {
-            assert_eq!(rt; found, Ok(()), "{text:?} {path:?} {asked:?}");
-            assert_eq!(rt;
-                session.text(),
-                after.as_slice(),
-                "{text:?} {path:?} {asked:?}"
-            );
-            assert_eq!(rt; session.undo(), Ok(()), "{text:?} {path:?} {asked:?}");
+            same_answer(rt, found, Ok(()), case);
+            same_text(rt, session.text(), &after, case);
+            same_answer(rt, session.undo(), Ok(()), case);
         }
-        Err(error) => assert_eq!(rt; found, Err(error), "{text:?} {path:?} {asked:?}"),
+        Err(error) => same_answer(rt, found, Err(error), case),
     }
-    assert_eq!(rt; session.text(), text, "{text:?} {path:?} {asked:?}");
+    same_text(rt, session.text(), text, case);
     Ok(())
+}
+
+fn same_answer(
+    rt: &impl Abort,
+    found: Result<(), EditError>,
+    wanted: Result<(), EditError>,
+    case: Case<'_>,
+) {
+    assert_eq!(rt; found, wanted, "{case:?}");
+}
+
+fn same_text(rt: &impl Abort, found: &[u8], wanted: &[u8], case: Case<'_>) {
+    assert_eq!(rt; found, wanted, "{case:?}");
 }
 
 #[test]
 fn the_local_tests_agree_with_reading_again(rt: HostRuntime) -> Result<(), Fail> {
     let alloc = rt.alloc();
     let table = rows(alloc, ASKED)?;
+    assert_eq!(rt; table.len(), 56);
+    let pieces = read_pieces(&rt, alloc)?;
     for number in (0..COUNT).step_by(STRIDE) {
-        let text = message(alloc, number)?;
+        let text = message(alloc, &pieces, number)?;
         agree_on(&rt, alloc, &text, &table)?;
     }
     Ok(())

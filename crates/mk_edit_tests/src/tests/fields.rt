@@ -1,6 +1,6 @@
 //! Fields that are added. What comes of an edit is worked out by hand.
 
-use super::check_rows;
+use super::checks::check_rows;
 use std::test::Fail;
 
 const ROWS: &str = r#"
@@ -259,5 +259,5 @@ refused: Recut
 
 #[test]
 fn fields_are_added(rt: HostRuntime) -> Result<(), Fail> {
-    check_rows(&rt, rt.alloc(), ROWS)
+    check_rows(&rt, rt.alloc(), ROWS, 36)
 }

@@ -1,56 +1,41 @@
 //! Groups of edits: what they leave, and what of them is told where one is refused.
 
-use super::{Asked, check_state, edit_at, session_over};
+use super::checks::{State, check_count, check_round, check_state, same, wanted_in};
+use super::named::{edit_named, edits_in, named_edits};
+use super::{TableError, check_keys, if_memory, number_in, only_row, session_over};
 use mk_edit::{Command, Edit, EditError, GroupError, Reply, Session};
 use mk_line::Meter;
-use std::alloc::{AllocError, Global};
+use mk_rows::{Row, rows};
+use std::alloc::Global;
 use std::process::Abort;
 use std::test::Fail;
 
-const ADD: Asked<'static> = Asked::AddField {
-    top: false,
-    text: b"A: b\n",
-};
-
-const ADD_OTHER: Asked<'static> = Asked::AddField {
-    top: false,
-    text: b"C: d\n",
-};
-
-const REMOVE: Asked<'static> = Asked::RemoveField { name: b"A", k: 1 };
-
-const REMOVE_NONE: Asked<'static> = Asked::RemoveField { name: b"Z", k: 1 };
-
-/// A group of edits of the root of an empty message, and what must come of it: the text after it, or the number of the
+/// Groups of edits of the root of an empty message, and what must come of each: the text after it, or the number of the
 /// refused edit and the reason.
-struct Row {
-    shows: &'static str,
-    asked: &'static [Asked<'static>],
-    after: Result<&'static [u8], (usize, EditError)>,
-}
+const ROWS: &str = r"
+== no edits
+gives:
 
-const ROWS: [Row; 4] = [
-    Row {
-        shows: "no edits",
-        asked: &[],
-        after: Ok(b""),
-    },
-    Row {
-        shows: "edits of what earlier ones gave",
-        asked: &[ADD, ADD_OTHER, REMOVE],
-        after: Ok(b"C: d\n"),
-    },
-    Row {
-        shows: "an edit that the earlier ones took away",
-        asked: &[ADD, REMOVE, REMOVE],
-        after: Err((2, EditError::NoSuchField)),
-    },
-    Row {
-        shows: "a refused edit before another",
-        asked: &[ADD, REMOVE_NONE, ADD_OTHER],
-        after: Err((1, EditError::NoSuchField)),
-    },
-];
+== edits of what earlier ones gave
+do: add A
+do: add C
+do: remove A
+gives: C: d\n
+
+== an edit that the earlier ones took away
+do: add A
+do: remove A
+do: remove A
+index: 2
+refused: NoSuchField
+
+== a refused edit before another
+do: add A
+do: remove Z
+do: add C
+index: 1
+refused: NoSuchField
+";
 
 /// The reason for which an edit of a group is refused.
 pub fn reason(error: GroupError) -> EditError {
@@ -60,95 +45,181 @@ pub fn reason(error: GroupError) -> EditError {
     }
 }
 
-fn edits(alloc: Global, asked: &[Asked<'_>]) -> Result<Vec<Edit>, AllocError> {
-    let mut all = Vec::with_capacity(alloc, asked.len())?;
-    for one in asked {
-        all.push(edit_at(alloc, &[1], *one)?)?;
-    }
-    Ok(all)
+// The group of a row.
+fn group_in(alloc: Global, edits: &[Row], row: &Row) -> Result<Vec<Edit>, TableError> {
+    check_keys(row, "do gives index refused")?;
+    edits_in(alloc, edits, row, "do")
 }
 
-// Makes the group after one step that is done and one that is undone.
-fn check_row(rt: &impl Abort, alloc: Global, row: &Row) -> Result<(), Fail> {
-    let group = Command::Group(edits(alloc, row.asked)?);
+// The group of a row after one step that is done and one that is undone.
+fn commands_in(alloc: Global, edits: &[Row], row: &Row) -> Result<Vec<Command>, TableError> {
     let mut commands = Vec::new(alloc);
     commands.push(Command::Group(Vec::new(alloc)))?;
-    commands.push(Command::Do(edit_at(alloc, &[1], ADD_OTHER)?))?;
+    commands.push(Command::Do(edit_named(alloc, edits, "add C")?))?;
     commands.push(Command::Undo)?;
-    commands.push(group)?;
-    let mut session = session_over(alloc, b"")?;
-    let replies = session.obey_all(alloc, &commands, &mut Meter::new())?;
-    match row.after {
-        Ok(after) => {
-            assert_eq!(rt;
-                replies.last().copied(),
-                Some(Reply::Obeyed),
-                "{}",
-                row.shows
-            );
-            check_state(rt, alloc, &session, after, row.shows)?;
-            assert_eq!(rt; (session.done(), session.undone()), (2, 0), "{}", row.shows);
-            assert_eq!(rt; session.undo(), Ok(()), "{}", row.shows);
-            check_state(rt, alloc, &session, b"", row.shows)?;
-            assert_eq!(rt; session.redo(), Ok(()), "{}", row.shows);
-            check_state(rt, alloc, &session, after, row.shows)?;
-        }
-        Err((index, refusal)) => {
-            let refused = Reply::MemberRefused { index, refusal };
-            assert_eq!(rt; replies.last().copied(), Some(refused), "{}", row.shows);
-            check_state(rt, alloc, &session, b"", row.shows)?;
-            assert_eq!(rt; (session.done(), session.undone()), (1, 1), "{}", row.shows);
+    commands.push(Command::Group(group_in(alloc, edits, row)?))?;
+    Ok(commands)
+}
+
+/// The answer to the group of a row.
+pub fn answer_in(row: &Row) -> Result<Result<(), GroupError>, TableError> {
+    match wanted_in(row)? {
+        Ok(_) => Ok(Ok(())),
+        Err(refusal) => {
+            let index = number_in(row, "index")? as usize;
+            Ok(Err(GroupError::Member { index, refusal }))
         }
     }
-    Ok(())
+}
+
+// What is replied where a group is answered so.
+fn reply_of(answer: Result<(), GroupError>) -> Option<Reply> {
+    match answer {
+        Ok(()) => Some(Reply::Obeyed),
+        Err(GroupError::Member { index, refusal }) => {
+            Some(Reply::MemberRefused { index, refusal })
+        }
+        Err(GroupError::Memory) => None,
+    }
+}
+
+fn check_reply(rt: &impl Abort, reply: Option<Reply>, wanted: Option<Reply>, shows: &str) {
+    assert_eq!(rt; reply, wanted, "{shows}");
+}
+
+// The group of a row was the last command to a session.
+fn check_left(
+    rt: &impl Abort,
+    alloc: Global,
+    session: &mut Session,
+    row: &Row,
+) -> Result<(), Fail> {
+    let before = State::new(b"", 1, 1);
+    match row.get("gives") {
+        Some(after) => {
+            let after = State::new(&after.bytes, 2, 0);
+            check_round(rt, alloc, session, before, after, row.shows)
+        }
+        None => check_state(rt, alloc, session, before, row.shows),
+    }
+}
+
+fn check_row(rt: &impl Abort, alloc: Global, edits: &[Row], row: &Row) -> Result<(), Fail> {
+    let wanted = reply_of(answer_in(row)?);
+    let commands = commands_in(alloc, edits, row)?;
+    let mut session = session_over(alloc, b"")?;
+    let replies = session.obey_all(alloc, &commands, &mut Meter::new())?;
+    check_reply(rt, replies.last().copied(), wanted, row.shows);
+    check_left(rt, alloc, &mut session, row)
 }
 
 #[test]
 fn groups_are_one_step_or_none(rt: HostRuntime) -> Result<(), Fail> {
     let alloc = rt.alloc();
-    for row in &ROWS {
-        check_row(&rt, alloc, row)?;
+    let edits = named_edits(alloc)?;
+    let all = rows(alloc, ROWS)?;
+    assert_eq!(rt; all.len(), 4);
+    for row in &all {
+        check_row(&rt, alloc, &edits, row)?;
     }
     Ok(())
 }
 
-// A group answers by name what is replied to it as a command.
+/// A group that answers by name what is replied to it as a command.
+const REFUSED: &str = r"
+== a refused edit between two
+do: add A
+do: remove Z
+do: add C
+index: 1
+refused: NoSuchField
+";
+
+/// A group is answered as its row says.
+pub fn check_group(
+    rt: &impl Abort,
+    answer: Result<(), GroupError>,
+    wanted: Result<(), GroupError>,
+    shows: &str,
+) {
+    assert_eq!(rt; answer, wanted, "{shows}");
+}
+
+fn check_refused(rt: &impl Abort, alloc: Global, edits: &[Row], row: &Row) -> Result<(), Fail> {
+    let list = group_in(alloc, edits, row)?;
+    let wanted = answer_in(row)?;
+    let mut session = session_over(alloc, b"")?;
+    let answer = session.group(&list, &mut Meter::new());
+    check_group(rt, answer, wanted, row.shows);
+    check_state(rt, alloc, &session, State::new(b"", 0, 0), row.shows)
+}
+
 #[test]
 fn groups_name_the_refused_edit(rt: HostRuntime) -> Result<(), Fail> {
     let alloc = rt.alloc();
-    let mut session = session_over(alloc, b"")?;
-    let list = edits(alloc, &[ADD, REMOVE_NONE, ADD_OTHER])?;
-    let answer = session.group(&list, &mut Meter::new());
-    let member = GroupError::Member {
-        index: 1,
-        refusal: EditError::NoSuchField,
-    };
-    assert_eq!(rt; answer, Err(member));
-    assert_eq!(rt; (session.text().len(), session.done()), (0, 0));
-    Ok(())
+    let edits = named_edits(alloc)?;
+    let row = only_row(alloc, REFUSED)?;
+    check_refused(&rt, alloc, &edits, &row)
 }
 
-// A session with one step done and one undone.
-fn with_undone(alloc: Global) -> Result<Session, EditError> {
+/// A group that is made again where memory is refused to it, after edits of which the last is taken back.
+const MADE_AGAIN: &str = r"
+== a field more and a field less
+first: add A
+first: add C
+do: add C
+do: remove A
+message: A: b\n
+gives: C: d\n
+";
+
+// A row, the edits before its group, and the group.
+#[derive(Drop)]
+struct Scene {
+    row: Row,
+    first: Vec<Edit>,
+    group: Vec<Edit>,
+}
+
+fn read_scene(alloc: Global) -> Result<Scene, TableError> {
+    let edits = named_edits(alloc)?;
+    let row = only_row(alloc, MADE_AGAIN)?;
+    check_keys(&row, "first do message gives")?;
+    let first = edits_in(alloc, &edits, &row, "first")?;
+    let group = edits_in(alloc, &edits, &row, "do")?;
+    Ok(Scene { row, first, group })
+}
+
+// A session with the first edits done, but for the last, which is undone.
+fn with_undone(alloc: Global, first: &[Edit]) -> Result<Session, EditError> {
     let mut session = session_over(alloc, b"")?;
-    for asked in [ADD, ADD_OTHER] {
-        session.edit(&edit_at(alloc, &[1], asked)?, &mut Meter::new())?;
+    for edit in first {
+        session.edit(edit, &mut Meter::new())?;
     }
     session.undo()?;
     Ok(session)
 }
 
+fn check_made_again(rt: &impl Abort, session: &mut Session, scene: &Scene) {
+    let shows = scene.row.shows;
+    if session.group(&scene.group, &mut Meter::new()) == Err(GroupError::Memory) {
+        same(rt, session.text(), scene.row.bytes("message"), shows);
+        check_count(rt, session, 1, 1, shows);
+        let again = session.group(&scene.group, &mut Meter::new());
+        check_group(rt, again, Ok(()), shows);
+    }
+    same(rt, session.text(), scene.row.bytes("gives"), shows);
+    check_count(rt, session, 2, 0, shows);
+}
+
 #[test]
-fn groups_that_want_memory_change_nothing(rt: HostRuntime) {
+fn groups_that_want_memory_change_nothing(rt: HostRuntime) -> Result<(), Fail> {
     let alloc = rt.alloc();
     // Where the test itself gets no memory, there is nothing to see.
-    if let (Ok(list), Ok(mut session)) = (edits(alloc, &[ADD_OTHER, REMOVE]), with_undone(alloc)) {
-        if session.group(&list, &mut Meter::new()) == Err(GroupError::Memory) {
-            assert_eq!(rt; session.text(), b"A: b\n".as_slice());
-            assert_eq!(rt; (session.done(), session.undone()), (1, 1));
-            assert_eq!(rt; session.group(&list, &mut Meter::new()), Ok(()));
-        }
-        assert_eq!(rt; session.text(), b"C: d\n".as_slice());
-        assert_eq!(rt; (session.done(), session.undone()), (2, 0));
+    if let Some(scene) = if_memory(read_scene(alloc))?
+        && let Ok(mut session) = with_undone(alloc, &scene.first)
+    {
+        check_made_again(&rt, &mut session, &scene);
     }
+    Ok(())
 }

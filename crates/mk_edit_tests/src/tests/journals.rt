@@ -1,6 +1,10 @@
 //! Histories saved as journals, and journals loaded.
 
-use super::{Asked, edit_at, session_over};
+use super::checks::{check_answer, check_count, same};
+use super::groups::reason;
+use super::{
+    Asked, TableError, bytes_in, check_keys, edit_at, edit_in, number_in, only_row, session_over,
+};
 use mk_edit::{Edit, LoadError, Session};
 use mk_line::Meter;
 use mk_rows::{Row, rows};
@@ -142,39 +146,58 @@ journal: 1 0\n2\n0 0 3\nabc\n0 3 0\nabc\n
 "#;
 
 // The reason of a row, if it has one.
-fn refused_in(row: &Row) -> Option<LoadError> {
-    let at = row.number("at") as usize;
-    match row.text("refused") {
-        "syntax" => Some(LoadError::JournalSyntax { offset: at }),
-        "other" => Some(LoadError::JournalOther),
-        "step" => Some(LoadError::JournalMismatch { entry: at }),
-        _ => None,
+fn refused_in(row: &Row) -> Result<Option<LoadError>, TableError> {
+    match row.get("refused") {
+        Some(reason) => Ok(Some(load_error(reason.text, number_in(row, "at")? as usize)?)),
+        None => Ok(None),
     }
 }
 
-fn load(
-    alloc: Global,
-    text: &[u8],
-    journal: &[u8],
-) -> Result<Result<Session, (Vec<u8>, LoadError)>, AllocError> {
+// The reason of a name, at a place.
+fn load_error(name: &'static str, at: usize) -> Result<LoadError, TableError> {
+    match name {
+        "syntax" => Ok(LoadError::JournalSyntax { offset: at }),
+        "other" => Ok(LoadError::JournalOther),
+        "step" => Ok(LoadError::JournalMismatch { entry: at }),
+        _ => Err(TableError::Word(name)),
+    }
+}
+
+type Loaded = Result<Session, (Vec<u8>, LoadError)>;
+
+fn load(alloc: Global, text: &[u8], journal: &[u8]) -> Result<Loaded, AllocError> {
     Ok(Session::load(alloc, Vec::from_slice(alloc, text)?, journal))
+}
+
+// A journal was loaded with a text, or refused for a reason; then the text came back.
+fn check_loaded(
+    rt: &impl Abort,
+    loaded: Loaded,
+    text: &[u8],
+    refused: Option<LoadError>,
+    shows: &str,
+) {
+    match loaded {
+        Ok(session) => {
+            assert_eq!(rt; None, refused, "{shows}");
+            same(rt, session.text(), text, shows);
+        }
+        Err((back, error)) => {
+            assert_eq!(rt; Some(error), refused, "{shows}");
+            same(rt, &back, text, shows);
+        }
+    }
 }
 
 #[test]
 fn journals_are_loaded_or_refused(rt: HostRuntime) -> Result<(), Fail> {
     let alloc = rt.alloc();
-    for row in rows(alloc, LOADED)?.iter() {
-        let text = row.bytes("text");
-        match load(alloc, text, row.bytes("journal"))? {
-            Ok(session) => {
-                assert_eq!(rt; refused_in(row), None, "{}", row.shows);
-                assert_eq!(rt; session.text(), text, "{}", row.shows);
-            }
-            Err((back, error)) => {
-                assert_eq!(rt; refused_in(row), Some(error), "{}", row.shows);
-                assert_eq!(rt; back.as_slice(), text, "{}", row.shows);
-            }
-        }
+    let all = rows(alloc, LOADED)?;
+    assert_eq!(rt; all.len(), 18);
+    for row in &all {
+        let text = bytes_in(row, "text")?;
+        let loaded = load(alloc, text, bytes_in(row, "journal")?)?;
+        check_loaded(&rt, loaded, text, refused_in(row)?, row.shows);
     }
     Ok(())
 }
@@ -193,48 +216,67 @@ fn group_in(alloc: Global, row: &Row) -> Result<Vec<Edit>, AllocError> {
     Ok(list)
 }
 
-// The journal of a digest that ends so.
-fn journal_with(alloc: Global, digest: &str, end: &[u8]) -> Result<Vec<u8>, AllocError> {
+// A session over the text of a row, after its group.
+fn session_in(rt: &impl Abort, alloc: Global, row: &Row) -> Result<Session, Fail> {
+    check_keys(row, "text group digest journal")?;
+    let mut session = session_over(alloc, bytes_in(row, "text")?)?;
+    if row.get("group").is_some() {
+        let group = group_in(alloc, row)?;
+        let answer = session.group(&group, &mut Meter::new());
+        check_answer(rt, answer.map_err(reason), Ok(()), row.shows);
+    }
+    Ok(session)
+}
+
+// The journal of a row: its digest, and what stands after that.
+fn journal_in(alloc: Global, row: &Row) -> Result<Vec<u8>, TableError> {
     let mut journal = Vec::from_slice(alloc, b"mimejournal 2\n")?;
-    journal.extend_from_slice(digest.as_bytes())?;
+    journal.extend_from_slice(bytes_in(row, "digest")?)?;
     journal.push(b'\n')?;
-    journal.extend_from_slice(end)?;
+    journal.extend_from_slice(bytes_in(row, "journal")?)?;
     Ok(journal)
+}
+
+// A loaded session has the same journal, and gives the text before all steps.
+fn check_again(
+    rt: &impl Abort,
+    mut again: Session,
+    saved: &Session,
+    journal: &[u8],
+    row: &Row,
+) -> Result<(), Fail> {
+    check_count(rt, &again, saved.done(), saved.undone(), row.shows);
+    same(rt, &again.save()?, journal, row.shows);
+    for _ in 0..saved.done() {
+        check_answer(rt, again.undo(), Ok(()), row.shows);
+    }
+    same(rt, again.text(), row.bytes("text"), row.shows);
+    Ok(())
+}
+
+// The journal of a session is the one of a row.
+fn saved_as(rt: &impl Abort, alloc: Global, session: &Session, row: &Row) -> Result<Vec<u8>, Fail> {
+    let journal = session.save()?;
+    same(rt, &journal, &journal_in(alloc, row)?, row.shows);
+    Ok(journal)
+}
+
+fn check_saved(rt: &impl Abort, alloc: Global, row: &Row) -> Result<(), Fail> {
+    let session = session_in(rt, alloc, row)?;
+    let journal = saved_as(rt, alloc, &session, row)?;
+    match load(alloc, session.text(), &journal)? {
+        Ok(again) => check_again(rt, again, &session, &journal, row),
+        Err(_) => Err(Fail::new(row.shows)),
+    }
 }
 
 #[test]
 fn histories_are_saved_and_loaded_again(rt: HostRuntime) -> Result<(), Fail> {
     let alloc = rt.alloc();
-    for row in rows(alloc, SAVED)?.iter() {
-        let mut session = session_over(alloc, row.bytes("text"))?;
-        if row.get("group").is_some() {
-            let group = group_in(alloc, row)?;
-            assert_eq!(rt;
-                session.group(&group, &mut Meter::new()),
-                Ok(()),
-                "{}",
-                row.shows
-            );
-        }
-        let journal = session.save()?;
-        let wanted = journal_with(alloc, row.text("digest"), row.bytes("journal"))?;
-        assert_eq!(rt; journal.as_slice(), wanted.as_slice(), "{}", row.shows);
-        match load(alloc, session.text(), &journal)? {
-            Ok(mut again) => {
-                assert_eq!(rt;
-                    (again.done(), again.undone()),
-                    (session.done(), session.undone()),
-                    "{}",
-                    row.shows
-                );
-                assert_eq!(rt; again.save()?, journal, "{}", row.shows);
-                for _ in 0..session.done() {
-                    assert_eq!(rt; again.undo(), Ok(()), "{}", row.shows);
-                }
-                assert_eq!(rt; again.text(), row.bytes("text"), "{}", row.shows);
-            }
-            Err(_) => return Err(Fail::new(row.shows)),
-        }
+    let all = rows(alloc, SAVED)?;
+    assert_eq!(rt; all.len(), 4);
+    for row in &all {
+        check_saved(&rt, alloc, row)?;
     }
     Ok(())
 }
@@ -242,55 +284,95 @@ fn histories_are_saved_and_loaded_again(rt: HostRuntime) -> Result<(), Fail> {
 #[test]
 fn the_front_of_a_journal_is_refused_where_it_ends(rt: HostRuntime) -> Result<(), Fail> {
     let alloc = rt.alloc();
-    let journal = session_over(alloc, b"abc")?.save()?;
+    let text = b"abc".as_slice();
+    let journal = session_over(alloc, text)?.save()?;
     assert_eq!(rt; journal.len(), 83);
     for size in 0..journal.len() {
-        match load(alloc, b"abc", &journal[..size])? {
-            Ok(_) => return Err(Fail::new("a front of a journal was loaded")),
-            Err((_, error)) => {
-                assert_eq!(rt; error, LoadError::JournalSyntax { offset: size });
-            }
-        }
+        let loaded = load(alloc, text, &journal[..size])?;
+        let refused = Some(LoadError::JournalSyntax { offset: size });
+        check_loaded(&rt, loaded, text, refused, "a front of a journal");
     }
     Ok(())
 }
 
+/// A text, and a journal with a step that is undone.
+const UNDONE: &str = r"
+== a step of no bytes
+text: A: b\n\nx\n
+journal: mimejournal 1\n0 1\n8 0 0\n\n
+";
+
 #[test]
 fn a_redone_step_of_no_bytes_leaves_the_text(rt: HostRuntime) -> Result<(), Fail> {
     let alloc = rt.alloc();
-    let text = b"A: b\n\nx\n".as_slice();
-    match load(alloc, text, b"mimejournal 1\n0 1\n8 0 0\n\n")? {
+    let row = only_row(alloc, UNDONE)?;
+    let text = bytes_in(&row, "text")?;
+    match load(alloc, text, bytes_in(&row, "journal")?)? {
         Ok(mut session) => {
-            assert_eq!(rt; session.redo(), Ok(()));
-            assert_eq!(rt; session.text(), text);
-            assert_eq!(rt; (session.done(), session.undone()), (1, 0));
+            check_answer(&rt, session.redo(), Ok(()), row.shows);
+            same(&rt, session.text(), text, row.shows);
+            check_count(&rt, &session, 1, 0, row.shows);
         }
-        Err(_) => return Err(Fail::new("the journal was refused")),
+        Err(_) => return Err(Fail::new(row.shows)),
     }
     Ok(())
+}
+
+/// An edit, the text after it, and how many bytes the journal has then, and how it ends.
+const KEPT: &str = r"
+== a field more
+text: A: b\n\nx\n
+at: 1
+edit: add
+with: C: d\n
+gives: A: b\nC: d\n\nx\n
+size: 97
+end: \n1 0\n1\n5 0 5\nC: d\n\n
+";
+
+// The session after the edit of a row.
+fn edited(rt: &impl Abort, alloc: Global, row: &Row) -> Result<Session, Fail> {
+    let mut session = session_over(alloc, bytes_in(row, "text")?)?;
+    let answer = session.edit(&edit_in(alloc, row)?, &mut Meter::new());
+    check_answer(rt, answer, Ok(()), row.shows);
+    Ok(session)
+}
+
+// The journal of a session has so many bytes, and ends so.
+fn check_end(rt: &impl Abort, session: &Session, row: &Row) -> Result<(), Fail> {
+    let (size, end) = (number_in(row, "size")? as usize, bytes_in(row, "end")?);
+    let journal = session.save()?;
+    assert_eq!(rt; journal.len(), size, "{}", row.shows);
+    assert!(rt; journal.ends_with(end), "{}", row.shows);
+    Ok(())
+}
+
+// The one step of a session puts bytes at place 5, and takes none out.
+fn check_steps(rt: &impl Abort, steps: &[Vec<Splice>], wanted: &[u8], shows: &str) {
+    assert_eq!(rt; steps.len(), 1, "{shows}");
+    for step in steps {
+        assert_eq!(rt; step.len(), 1, "{shows}");
+        for splice in step {
+            check_splice(rt, splice, wanted, shows);
+        }
+    }
+}
+
+fn check_splice(rt: &impl Abort, splice: &Splice, wanted: &[u8], shows: &str) {
+    let Splice { place, old, new } = splice;
+    assert_eq!(rt; (*place, old.len()), (5, 0), "{shows}");
+    same(rt, new, wanted, shows);
 }
 
 #[test]
 fn a_session_keeps_the_bytes_of_each_step_alone(rt: HostRuntime) -> Result<(), Fail> {
     let alloc = rt.alloc();
-    let mut session = session_over(alloc, b"A: b\n\nx\n")?;
-    let asked = Asked::AddField {
-        top: false,
-        text: b"C: d\n",
-    };
-    session.edit(&edit_at(alloc, &[1], asked)?, &mut Meter::new())?;
-    let journal = session.save()?;
-    assert_eq!(rt; journal.len(), 97);
-    assert!(rt; journal.ends_with(b"\n1 0\n1\n5 0 5\nC: d\n\n"));
+    let row = only_row(alloc, KEPT)?;
+    let session = edited(&rt, alloc, &row)?;
+    check_end(&rt, &session, &row)?;
     let (doc, steps, done) = session.into_parts();
-    assert_eq!(rt; (doc.text(), done), (b"A: b\nC: d\n\nx\n".as_slice(), 1));
-    assert_eq!(rt; steps.len(), 1);
-    for step in &steps {
-        assert_eq!(rt; step.len(), 1);
-        for Splice { place, old, new } in step {
-            assert_eq!(rt; (*place, old.len()), (5, 0));
-            assert_eq!(rt; new.as_slice(), b"C: d\n".as_slice());
-        }
-    }
+    same(&rt, doc.text(), bytes_in(&row, "gives")?, row.shows);
+    assert_eq!(rt; done, 1);
+    check_steps(&rt, &steps, bytes_in(&row, "with")?, row.shows);
     Ok(())
 }

@@ -1,6 +1,6 @@
 //! Edits of fields that tell the kind of a section. What comes of an edit is worked out by hand.
 
-use super::check_rows;
+use super::checks::check_rows;
 use std::test::Fail;
 
 const ROWS: &str = r#"
@@ -199,5 +199,5 @@ gives: Content-Type: multipart/digest; boundary=b\n\n--b\nContent-Type: message/
 
 #[test]
 fn sections_keep_their_kinds(rt: HostRuntime) -> Result<(), Fail> {
-    check_rows(&rt, rt.alloc(), ROWS)
+    check_rows(&rt, rt.alloc(), ROWS, 23)
 }

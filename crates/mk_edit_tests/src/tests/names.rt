@@ -1,6 +1,6 @@
 //! Fields that get another name, and fields in the place of others. What comes of an edit is worked out by hand.
 
-use super::check_rows;
+use super::checks::check_rows;
 use std::test::Fail;
 
 const ROWS: &str = r#"
@@ -214,5 +214,5 @@ refused: HoldsBoundary { level: 1 }
 
 #[test]
 fn fields_are_renamed_and_set(rt: HostRuntime) -> Result<(), Fail> {
-    check_rows(&rt, rt.alloc(), ROWS)
+    check_rows(&rt, rt.alloc(), ROWS, 23)
 }

@@ -1,6 +1,6 @@
 //! Parts that are put in or taken out. What comes of an edit is worked out by hand.
 
-use super::check_rows;
+use super::checks::check_rows;
 use std::test::Fail;
 
 const ROWS: &str = r#"
@@ -253,5 +253,5 @@ refused: NoSuchSection
 
 #[test]
 fn parts_are_inserted_and_removed(rt: HostRuntime) -> Result<(), Fail> {
-    check_rows(&rt, rt.alloc(), ROWS)
+    check_rows(&rt, rt.alloc(), ROWS, 33)
 }

@@ -1,6 +1,6 @@
 //! Fields that are taken out. What comes of an edit is worked out by hand.
 
-use super::check_rows;
+use super::checks::check_rows;
 use std::test::Fail;
 
 const ROWS: &str = r#"
@@ -119,5 +119,5 @@ gives: Content-Type: multipart/mixed; boundary="b"\n\npre\n--b\n\none\n--b \t\nC
 
 #[test]
 fn fields_are_removed(rt: HostRuntime) -> Result<(), Fail> {
-    check_rows(&rt, rt.alloc(), ROWS)
+    check_rows(&rt, rt.alloc(), ROWS, 14)
 }

@@ -1,6 +1,6 @@
 //! Bodies and sections in the place of others. What comes of an edit is worked out by hand.
 
-use super::check_rows;
+use super::checks::check_rows;
 use std::test::Fail;
 
 const ROWS: &str = r#"
@@ -266,5 +266,5 @@ refused: NoSuchSection
 
 #[test]
 fn bodies_and_sections_are_set(rt: HostRuntime) -> Result<(), Fail> {
-    check_rows(&rt, rt.alloc(), ROWS)
+    check_rows(&rt, rt.alloc(), ROWS, 37)
 }

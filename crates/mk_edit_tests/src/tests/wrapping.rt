@@ -134,21 +134,38 @@ impl Wrapped<'_> {
         let part = below(self.alloc, self.path, 1)?;
         let mut made = Vec::new(self.alloc);
         if self.path.len() == 1 && !has_version(outside) {
-            made.push(self.line(self.path, What::Field, &[b"MIME-Version: 1.0"])?)?;
+            self.put_line(&mut made, self.path, What::Field, &[b"MIME-Version: 1.0"])?;
         }
-        made.push(self.line(self.path, What::Field, &kind)?)?;
-        made.push(self.line(self.path, What::Separator, &[])?)?;
-        made.push(item_of(self.alloc, self.path, What::Preamble, b"")?)?;
-        made.push(self.line(&part, What::Delimiter, &[b"--", boundary])?)?;
+        self.put_line(&mut made, self.path, What::Field, &kind)?;
+        self.put_line(&mut made, self.path, What::Separator, &[])?;
+        self.put_empty(&mut made, What::Preamble)?;
+        self.put_line(&mut made, &part, What::Delimiter, &[b"--", boundary])?;
         Ok(made)
     }
 
     // What follows the part.
     fn end(&self, boundary: &[u8]) -> Result<Vec<Item>, AllocError> {
         let mut made = Vec::new(self.alloc);
-        made.push(self.line(self.path, What::Close, &[b"--", boundary, b"--"])?)?;
-        made.push(item_of(self.alloc, self.path, What::Epilogue, b"")?)?;
+        self.put_line(&mut made, self.path, What::Close, &[b"--", boundary, b"--"])?;
+        self.put_empty(&mut made, What::Epilogue)?;
         Ok(made)
+    }
+
+    // An item of no bytes.
+    fn put_empty(&self, made: &mut Vec<Item>, what: What) -> Result<(), AllocError> {
+        made.push(item_of(self.alloc, self.path, what, b"")?)?;
+        Ok(())
+    }
+
+    fn put_line(
+        &self,
+        made: &mut Vec<Item>,
+        path: &[u32],
+        what: What,
+        pieces: &[&[u8]],
+    ) -> Result<(), AllocError> {
+        made.push(self.line(path, what, pieces)?)?;
+        Ok(())
     }
 
     // A made line.

@@ -1,5 +1,5 @@
 //! Sections wrapped into a multipart.
-use super::check_rows;
+use super::checks::check_rows;
 use std::test::Fail;
 
 const ROWS: &str = r#"
@@ -110,5 +110,5 @@ refused: NoSuchSection
 
 #[test]
 fn sections_are_wrapped(rt: HostRuntime) -> Result<(), Fail> {
-    check_rows(&rt, rt.alloc(), ROWS)
+    check_rows(&rt, rt.alloc(), ROWS, 13)
 }
