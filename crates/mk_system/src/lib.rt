@@ -6,9 +6,11 @@ mod edited;
 mod folder;
 mod journal;
 mod locking;
+mod placeholders;
 mod replacing;
 
 pub use device::{Input, Output};
 pub use edited::EditedFile;
 pub use folder::{Directory, Unwritten};
 pub use journal::JournalFile;
+pub use placeholders::Placeholders;

@@ -7,14 +7,16 @@ mod files;
 mod letters;
 mod options;
 mod program;
+mod words;
 
 pub use mk_run::{
     Folder, Journal, Status, laws, run_edit, run_extract, run_field, run_pack, run_sections, unpack,
 };
-use mk_system::{Input, Output};
+use mk_system::{Input, Output, Placeholders};
 use std::process::ExitCode;
 
 fn main(rt: HostRuntime) -> ExitCode {
+    let _closed = Placeholders::hold(&rt);
     let mut input = Input::new(rt.stdin());
     let mut out = Output::new(rt.stdout());
     let mut err = Output::new(rt.stderr());
