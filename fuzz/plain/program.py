@@ -56,12 +56,22 @@ def file_of(files, name):
     return files[name]
 
 
-def run_letters(found, message):
+def letters_given(found):
     """`field` takes its letters by the words of the command line (own)."""
-    given = {letter: found[letter.encode()] for letter in letters.EDITING + letters.PRINTING if letter.encode() in found}
-    if not letters.are_allowed(given):
-        raise Usage
-    return letters.run(message, given, b"-s" in found)
+    return {letter: found[letter.encode()] for letter in letters.EDITING + letters.PRINTING if letter.encode() in found}
+
+
+def are_valid(command, found, others):
+    """Whether the words of a command are what it takes; this is asked before any file is read (own)."""
+    if command == b"edit":
+        return b"-e" in found or bool(others)
+    if command == b"pack":
+        return bool(others) and all(b":" in word for word in others)
+    if command == b"extract" and listing.path_of(found[b"-s"]) is None:
+        return False
+    if command == b"field" and not letters.are_allowed(letters_given(found)):
+        return False
+    return not others
 
 
 def run_edit(command, found, others, message, files):
@@ -71,10 +81,8 @@ def run_edit(command, found, others, message, files):
         script, pieces = command, []
     elif b"-e" in found:
         script, pieces = b"".join(line + b"\n" for line in found[b"-e"]), others
-    elif others:
-        script, pieces = file_of(files, others[0]), others[1:]
     else:
-        raise Usage
+        script, pieces = file_of(files, others[0]), others[1:]
     given = [file_of(files, name) for name in pieces]
     output, errors, status, left = scripts.run(message, script, given, files.get(journal), journal is not None)
     return output, errors, status, {**files, journal: left} if left is not None else files
@@ -92,8 +100,6 @@ def run_unpack(found, message, files):
 def run_pack(found, others, message, files):
     """Each part is a type, a colon and a file, whose name is what follows its last slash (own)."""
     specs = [word.partition(b":") for word in others]
-    if not specs or any(not colon for _, colon, _ in specs):
-        raise Usage
     parts = [(media, name.split(b"/")[-1], file_of(files, name)) for media, _, name in specs]
     return packing.run(message, found[b"-b"], parts)
 
@@ -101,9 +107,7 @@ def run_pack(found, others, message, files):
 def obeyed(run):
     """What a run prints, how it ends, and the files afterwards (own)."""
     command, found, others = asked(run.words)
-    if command not in (b"edit", b"pack") and others:
-        raise Usage
-    if command == b"extract" and listing.path_of(found[b"-s"]) is None:
+    if not are_valid(command, found, others):
         raise Usage
     message = file_of(run.files, found[b"--from"]) if b"--from" in found else run.message
     if command in (b"edit", b"undo", b"redo"):
@@ -115,7 +119,7 @@ def obeyed(run):
     elif command == b"extract":
         plain = listing.extract(message, found[b"-s"])
     elif command == b"field":
-        plain = run_letters(found, message)
+        plain = letters.run(message, letters_given(found), b"-s" in found)
     else:
         plain = run_pack(found, others, message, run.files)
     return *plain, run.files

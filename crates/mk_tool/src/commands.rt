@@ -2,7 +2,7 @@
 
 use crate::faults::{Problem, usage};
 use crate::files::{attachments, read, read_all};
-use crate::letters::{letter_words, why_refused};
+use crate::letters::letter_words;
 use crate::options::{
     BOUNDARY, DIR, EACH, EDIT, EXTRACT, FIELD, JOURNAL, JSON, LINE, OVER, PACK, PATH, PIECE, REDO,
     SCRIPT, SECTIONS, SILENT, SPEC, TEXTS, UNDO, UNPACK,
@@ -10,7 +10,7 @@ use crate::options::{
 use clap::ArgMatches;
 use mk_mail::{Sink, Source};
 use mk_run::{
-    Cause, Journal, Spec, Status, Stop, read_doc, run_extract, run_pack, run_sections, try_edit,
+    Cause, Journal, Status, Stop, read_doc, run_extract, run_pack, run_sections, try_edit,
     try_field, try_unpack, write_all,
 };
 use mk_script::numbers;
@@ -28,10 +28,7 @@ const UNDO_SCRIPT: &[u8] = b"undo\n";
 
 const REDO_SCRIPT: &[u8] = b"redo\n";
 
-/// What is said of an edit without lines.
-const NO_SCRIPT: &str = "give a SCRIPT, or its lines, each after -e";
-
-/// Runs a subcommand.
+/// Runs a subcommand, the words of which are valid.
 pub fn run_command<R: Files<File = File> + AllocGlobal, S: Source, O: Sink, E: Sink>(
     rt: &R,
     name: &str,
@@ -84,7 +81,7 @@ fn edit<R: Files<File = File> + AllocGlobal, S: Source, O: Sink, E: Sink>(
         return edit_by(rt, matches, input, out, err, &script, &pieces);
     }
     let Some(path) = matches.get_str(SCRIPT) else {
-        return Err(Problem::Usage(String::from_str(alloc, NO_SCRIPT)?));
+        return Ok(usage(err));
     };
     let script = read(rt, path)?;
     let pieces = read_all(rt, paths)?;
@@ -168,14 +165,10 @@ fn extract<R: AllocGlobal, S: Source, O: Sink, E: Sink>(
     err: &mut E,
 ) -> Result<Status, Problem> {
     let alloc = rt.alloc();
-    let Some(word) = matches.get_str(PATH) else {
-        return Ok(usage(err));
-    };
+    let word = matches.get_str(PATH).unwrap_or("");
     match numbers(alloc, word.as_bytes())? {
         Some(path) => Ok(run_extract(alloc, input, out, err, &path)),
-        None => Err(Problem::Usage(format!(in alloc;
-            "invalid value '{word}' for '-s <PATH>': write numbers from 1 on with dots between them, as 1.2"
-        )?)),
+        None => Ok(usage(err)),
     }
 }
 
@@ -220,15 +213,7 @@ fn pack<R: Files + AllocGlobal, S: Source, O: Sink, E: Sink>(
     let Some(boundary) = matches.get_str(BOUNDARY) else {
         return Ok(usage(err));
     };
-    let words = matches.get_strs(SPEC).unwrap_or(&[]);
-    for word in words {
-        if Spec::of(word.as_bytes()).is_none() {
-            return Err(Problem::Usage(format!(in alloc;
-                "invalid value '{word}' for '<SPEC>...': write TYPE:FILE, as image/gif:dot.gif"
-            )?));
-        }
-    }
-    let parts = attachments(rt, words)?;
+    let parts = attachments(rt, matches.get_strs(SPEC).unwrap_or(&[]))?;
     Ok(run_pack(alloc, input, out, err, boundary.as_bytes(), &parts))
 }
 
@@ -241,12 +226,11 @@ fn field<R: AllocGlobal, S: Source, O: Sink, E: Sink>(
     err: &mut E,
 ) -> Result<Status, Problem> {
     let alloc = rt.alloc();
-    let words = letter_words(matches);
-    if let Some(letters) = words.letters(alloc)? {
+    if let Some(letters) = letter_words(matches).letters(alloc)? {
         if letters.ok() {
             let each = matches.get_flag(EACH);
             return Ok(try_field(alloc, input, out, err, &letters, each)?);
         }
     }
-    Err(Problem::Usage(why_refused(alloc, &words)?))
+    Ok(usage(err))
 }

@@ -60,17 +60,21 @@ struct Alone<'a> {
     takes: &'static str,
 }
 
-/// Why letters are refused: the first whose word it doesn't take, or that they don't stand together.
-pub fn why_refused(alloc: Global, words: &LetterWords<'_>) -> Result<String, AllocError> {
+/// Why letters are refused, if they are: the first whose word it doesn't take, or that they don't stand together.
+pub fn why_refused(alloc: Global, words: &LetterWords<'_>) -> Result<Option<String>, AllocError> {
+    if is_taken(alloc, words)? {
+        return Ok(None);
+    }
     for alone in letters_alone(words) {
         if let Some(word) = alone.word {
             if !is_taken(alloc, &alone.words)? {
                 let (letter, takes) = (alone.letter, alone.takes);
-                return format!(in alloc; "invalid value '{word}' for '{letter}': {takes}");
+                let sentence = format!(in alloc; "invalid value '{word}' for '{letter}': {takes}")?;
+                return Ok(Some(sentence));
             }
         }
     }
-    String::from_str(alloc, APART)
+    Ok(Some(String::from_str(alloc, APART)?))
 }
 
 // Whether these letters may be asked for.

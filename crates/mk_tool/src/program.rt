@@ -4,6 +4,7 @@ use crate::commands::run_command;
 use crate::faults::{Problem, report, say_usage, usage};
 use crate::files::{open, read};
 use crate::options::{EXTRACT, FROM, IN_PLACE, SECTIONS, command};
+use crate::words::check_words;
 use clap::ArgMatches;
 use clap::error::ErrorKind;
 use mk_mail::{Sink, Source};
@@ -78,7 +79,8 @@ fn show<O: Sink, E: Sink>(alloc: Global, error: &clap::Error, out: &mut O, err: 
     }
 }
 
-// Runs a subcommand on the message of `--in-place` or `--from`, or on the standard input.
+// Runs a subcommand on the message of `--in-place` or `--from`, or on the standard input. All its words are looked at before a
+// file is opened.
 fn start<R: Files<File = File> + AllocGlobal, S: Source, O: Sink, E: Sink>(
     rt: &R,
     name: &str,
@@ -87,6 +89,7 @@ fn start<R: Files<File = File> + AllocGlobal, S: Source, O: Sink, E: Sink>(
     out: &mut O,
     err: &mut E,
 ) -> Result<Status, Problem> {
+    check_words(rt.alloc(), name, matches)?;
     if let Some(path) = matches.get_str(IN_PLACE) {
         return run_in_place(rt, name, matches, path, err);
     }

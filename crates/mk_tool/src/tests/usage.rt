@@ -158,6 +158,51 @@ const SENTENCES: [(&[&str], &str); 16] = [
     ),
 ];
 
+/// Command lines that name a file that isn't there, and what is said of their words before that.
+const BESIDE_FILES: [(&[&str], &str); 7] = [
+    (
+        &["extract", "-s", ".1", "--from", "mimetool_none"],
+        "error: invalid value '.1' for '-s <PATH>': ",
+    ),
+    (
+        &["field", "-a", "x", "--from", "mimetool_none"],
+        "error: invalid value 'x' for '-a <FIELD>': ",
+    ),
+    (
+        &["field", "-I", "x", "--in-place", "mimetool_none"],
+        "error: invalid value 'x' for '-I <FIELD>': ",
+    ),
+    (
+        &["field", "-x", "A:", "-X", "A:", "--from", "mimetool_none"],
+        "error: -x and -X print fields, ",
+    ),
+    (
+        &["edit", "--from", "mimetool_none"],
+        "error: give a SCRIPT, ",
+    ),
+    (
+        &["edit", "--in-place", "mimetool_none"],
+        "error: give a SCRIPT, ",
+    ),
+    (
+        &["pack", "-b", "b", "text/plain:mimetool_none", "x"],
+        "error: invalid value 'x' for '<SPEC>...': ",
+    ),
+];
+
+#[test]
+fn words_are_looked_at_before_files(rt: HostRuntime) -> Result<(), Fail> {
+    for (words, front) in BESIDE_FILES {
+        let found = obeyed(&rt, words, b"")?;
+        assert_eq!(rt; found.status, Status::Usage, "{words:?}");
+        assert!(rt;
+            found.errors.bytes().starts_with(front.as_bytes()),
+            "{words:?}"
+        );
+    }
+    Ok(())
+}
+
 #[test]
 fn other_faults_are_named(rt: HostRuntime) -> Result<(), Fail> {
     for (words, sentence) in SENTENCES {
