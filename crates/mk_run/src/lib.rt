@@ -14,6 +14,7 @@ pub use filtering::{run_field, try_field};
 pub use journaling::Journal;
 pub use letters::LetterWords;
 pub use mk_show::{
-    Folder, Spec, laws, read_doc, run_extract, run_pack, run_sections, try_unpack, unpack,
+    Folder, Spec, laws, read_doc, run_extract, run_pack, run_sections, try_extract, try_pack,
+    try_sections, try_unpack, unpack,
 };
 pub use mk_transfer::{Cause, Status, Stop, give_up, read_all, write_all};

@@ -10,8 +10,8 @@ use crate::options::{
 use clap::ArgMatches;
 use mk_mail::{Sink, Source};
 use mk_run::{
-    Cause, Journal, Status, Stop, read_doc, run_extract, run_pack, run_sections, try_edit,
-    try_field, try_unpack, write_all,
+    Cause, Journal, Status, Stop, read_doc, try_edit, try_extract, try_field, try_pack,
+    try_sections, try_unpack, write_all,
 };
 use mk_script::numbers;
 use mk_system::{Directory, JournalFile, Output};
@@ -141,7 +141,7 @@ fn sections<R: AllocGlobal, S: Source, O: Sink, E: Sink>(
 ) -> Result<Status, Problem> {
     let alloc = rt.alloc();
     if !matches.get_flag(JSON) {
-        return Ok(run_sections(alloc, input, out, err));
+        return Ok(try_sections(alloc, input, out, err)?);
     }
     let doc = match read_doc(alloc, input) {
         Ok(doc) => doc,
@@ -167,7 +167,7 @@ fn extract<R: AllocGlobal, S: Source, O: Sink, E: Sink>(
     let alloc = rt.alloc();
     let word = matches.get_str(PATH).unwrap_or("");
     match numbers(alloc, word.as_bytes())? {
-        Some(path) => Ok(run_extract(alloc, input, out, err, &path)),
+        Some(path) => Ok(try_extract(alloc, input, out, err, &path)?),
         None => Ok(usage(err)),
     }
 }
@@ -214,7 +214,8 @@ fn pack<R: Files + AllocGlobal, S: Source, O: Sink, E: Sink>(
         return Ok(usage(err));
     };
     let parts = attachments(rt, matches.get_strs(SPEC).unwrap_or(&[]))?;
-    Ok(run_pack(alloc, input, out, err, boundary.as_bytes(), &parts))
+    let boundary = boundary.as_bytes();
+    Ok(try_pack(alloc, input, out, err, boundary, &parts)?)
 }
 
 // mimetool field

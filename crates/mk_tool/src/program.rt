@@ -2,8 +2,8 @@
 
 use crate::commands::run_command;
 use crate::faults::{Problem, report, say_usage, usage};
-use crate::files::{open, read};
-use crate::options::{EXTRACT, FROM, IN_PLACE, SECTIONS, command};
+use crate::files::open;
+use crate::options::{FROM, IN_PLACE, command};
 use crate::words::check_words;
 use clap::ArgMatches;
 use clap::error::ErrorKind;
@@ -125,7 +125,7 @@ fn run_in_place<R: Files<File = File> + AllocGlobal, E: Sink>(
     }
 }
 
-// Runs a subcommand on the message in a file. What only shows a message gets it read.
+// Runs a subcommand on the message in a file.
 fn run_from<R: Files<File = File> + AllocGlobal, O: Sink, E: Sink>(
     rt: &R,
     name: &str,
@@ -134,17 +134,6 @@ fn run_from<R: Files<File = File> + AllocGlobal, O: Sink, E: Sink>(
     out: &mut O,
     err: &mut E,
 ) -> Result<Status, Problem> {
-    if name == SECTIONS || name == EXTRACT {
-        let message = read(rt, path)?;
-        return run_command(
-            rt,
-            name,
-            matches,
-            &mut Input::new(message.as_slice()),
-            out,
-            err,
-        );
-    }
     let mut input = Input::new(open(rt, path)?);
     let done = run_command(rt, name, matches, &mut input, out, err);
     let unread = input.close();
