@@ -38,12 +38,7 @@ impl Placeholders {
 }
 
 // The device, where it gets one of the descriptors between these two, the lowest that is free.
-fn opened<R: Files<File = File>>(
-    rt: &R,
-    how: &OpenOptions,
-    least: i32,
-    most: i32,
-) -> Option<File> {
+fn opened<R: Files<File = File>>(rt: &R, how: &OpenOptions, least: i32, most: i32) -> Option<File> {
     let device = how.open(rt, NOTHING).ok()?;
     let place = device.as_raw_fd();
     if least <= place && place <= most {

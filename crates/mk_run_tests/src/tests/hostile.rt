@@ -6,7 +6,8 @@ use std::alloc::{AllocError, Global};
 use std::process::Abort;
 use std::test::Fail;
 
-const MESSAGE: &[u8] = b"Subject: t\nContent-Type: multipart/mixed; boundary=\"b\"\n\npre\n--b\n\none\n--b \t\nContent-Type: text/html\n\ntwo\n--b--\nepi\n";
+const MESSAGE: &[u8] =
+    b"Subject: t\nContent-Type: multipart/mixed; boundary=\"b\"\n\npre\n--b\n\none\n--b \t\nContent-Type: text/html\n\ntwo\n--b--\nepi\n";
 
 const SCRIPT: &[u8] = b"add 1 X: y\nundo\n";
 
@@ -80,10 +81,7 @@ fn odd_texts_come_out_again(rt: HostRuntime) -> Result<(), Fail> {
     check(&rt, alloc, &each_byte(alloc)?)?;
     let messages = repeated(alloc, b"Content-Type: message/rfc822\n\n")?;
     check(&rt, alloc, &messages)?;
-    let parts = repeated(
-        alloc,
-        b"Content-Type: multipart/mixed; boundary=b\n\n--b\n",
-    )?;
+    let parts = repeated(alloc, b"Content-Type: multipart/mixed; boundary=b\n\n--b\n")?;
     check(&rt, alloc, &parts)?;
     check(&rt, alloc, b"Content-Type: text/plain (a (b\n\nx\n")?;
     check(&rt, alloc, b"Content-Type: text/plain; a=\"b\\\n\nx\n")
