@@ -15,7 +15,8 @@ OBJECT = (b'{"path":"1","kind":"leaf","type":"text/plain","encoding":"identity",
 PACKED = (b'Subject: s\nMIME-Version: 1.0\nContent-Type: multipart/mixed; boundary="b"\n\n--b\nContent-Type: text/plain; name="p"\n'
           b'Content-Disposition: attachment; filename="p"\nContent-Transfer-Encoding: quoted-printable\n\nhi\n\n--b--\n')
 # A leaf that isn't base64, and one that is.
-LEAVES = (b"Content-Type: multipart/mixed; boundary=b\n\n--b\nContent-Type: image/gif; name=bad.gif\nContent-Transfer-Encoding: base64\n\naGl=\n"
+LEAVES = (b"Content-Type: multipart/mixed; boundary=b\n\n"
+          b"--b\nContent-Type: image/gif; name=bad.gif\nContent-Transfer-Encoding: base64\n\naGl=\n"
           b"--b\nContent-Type: image/gif; name=n.gif\nContent-Transfer-Encoding: base64\n\naGk=\n--b--\n")
 
 

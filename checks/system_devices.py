@@ -87,15 +87,26 @@ def check_turns(program):
     program.expect("the second message at a terminal", output=(second, terminal.shown()), status=(0, terminal.end()))
 
 
+# What is asked of an empty message, and what goes out.
+EMPTY = [
+    (["sections"], b"1 leaf text/plain identity 0 0 0 0 0\n"),
+    (["extract", "-s", "1"], b""),
+    (["unpack", "-t", "-C", "d"], b"part-1 (text/plain)\n"),
+    (["edit", "-e", "add 1 C: d"], b"C: d\n"),
+    (["field"], b""),
+    (["field", "-s"], b""),
+    (["field", "-A", "C: d"], b"C: d\n"),
+    (["field", "-s", "-A", "C: d"], b""),
+    (["field", "-x", "A:"], b""),
+    (["pack", "-b", "b", "text/plain:/dev/null"],
+     b'MIME-Version: 1.0\nContent-Type: multipart/mixed; boundary="b"\n\n--b\nContent-Type: text/plain; name="null"\n'
+     b'Content-Disposition: attachment; filename="null"\nContent-Transfer-Encoding: quoted-printable\n\n\n--b--\n'),
+]
+
+
 def check_empty(program):
     """An input that ends at once is an empty message."""
-    for words, output in (
-        (["sections"], b"1 leaf text/plain identity 0 0 0 0 0\n"), (["extract", "-s", "1"], b""), (["unpack", "-t", "-C", "d"], b"part-1 (text/plain)\n"),
-        (["edit", "-e", "add 1 C: d"], b"C: d\n"), (["field"], b""), (["field", "-s"], b""), (["field", "-A", "C: d"], b"C: d\n"),
-        (["field", "-s", "-A", "C: d"], b""), (["field", "-x", "A:"], b""),
-        (["pack", "-b", "b", "text/plain:/dev/null"], b'MIME-Version: 1.0\nContent-Type: multipart/mixed; boundary="b"\n\n--b\nContent-Type: text/plain; name="null"\n'
-         b'Content-Disposition: attachment; filename="null"\nContent-Transfer-Encoding: quoted-printable\n\n\n--b--\n'),
-    ):
+    for words, output in EMPTY:
         for shows, options in (("a pipe", {}), ("a device", {"stdin": subprocess.DEVNULL})):
             found = program.run(words, program.folder(), b"", nobody=False, **options)
             program.ended(f"{shows} that ends at once: {words}", found, output=output)

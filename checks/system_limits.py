@@ -1,6 +1,5 @@
 """Long command lines, little memory and few descriptors."""
 
-import os
 import resource
 
 from common import make, names, read, read_fault, write_fault
@@ -11,6 +10,8 @@ WORD = 128 * 1024 - 1
 PIECES = 60_000
 MEMORY = b"mimetool: memory\n"
 FEW = "Too many open files (os error 24)"
+# The standard streams, and one by which the system loads the C library.
+LEAST_DESCRIPTORS = 4
 
 
 def check_long_words(program):
@@ -109,7 +110,7 @@ def check_descriptors(program):
     done = {"f": EDITED, "j": journal(EDITED, b"2 0\n0\n1\n5 0 5\nC: d\n\n")}
     before = {"f": MESSAGE, "j": journal(MESSAGE, b"1 0\n0\n")}
     well = []
-    for count in range(3, 16):
+    for count in range(LEAST_DESCRIPTORS, 16):
         folder = program.folder()
         make(folder, before)
         found = program.run(["edit", "-e", "add 1 C: d", "-j", "j", "--in-place", "f"], folder, nobody=False,
@@ -122,9 +123,9 @@ def check_descriptors(program):
             errors = [fault(name, FEW) for fault in (read_fault, write_fault) for name in ("f", "j")]
             program.ended(f"{count} descriptors", found, 3, errors, files=(before, files))
     program.expect("descriptors", some=([False, True], sorted(set(well))))
-    for count in range(4):
-        found = program.run(["field", "-A", "C: d"], program.folder(), MESSAGE, nobody=False, before=limited(resource.RLIMIT_NOFILE, count))
-        program.ended(f"{count} descriptors for a run without files", found, output=EDITED)
+    found = program.run(["field", "-A", "C: d"], program.folder(), MESSAGE, nobody=False,
+                        before=limited(resource.RLIMIT_NOFILE, LEAST_DESCRIPTORS))
+    program.ended("a run without files, with few descriptors", found, output=EDITED)
 
 
 CHECKS = [check_long_words, check_memory, check_descriptors]

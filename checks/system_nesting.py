@@ -52,9 +52,8 @@ class Nested:
             is_leaf = level == len(bounds) - 1
             kind, media = (b"leaf", self.type()) if is_leaf else self.kind
             body = self.leaf()[1] if is_leaf else self.text.index(b"\n\n", begin) + 2
-            fields = self.text[begin:body].count(b"\n") - 1
-            path = b"1" + b".1" * level
-            lines.append(b"%s %s %s identity %d %d %d %d %d\n" % (path, kind, media, begin, body, end, fields, self.text[body:end].count(b"\n")))
+            path, fields, rest = b"1" + b".1" * level, self.text[begin:body].count(b"\n") - 1, self.text[body:end].count(b"\n")
+            lines.append(b"%s %s %s identity %d %d %d %d %d\n" % (path, kind, media, begin, body, end, fields, rest))
         return b"".join(lines)
 
     def content(self):

@@ -14,8 +14,9 @@ KINDS = {
     "a folder": ("/", os.O_RDONLY), "only written": ("/dev/null", os.O_WRONLY),
     "full": ("/dev/full", os.O_WRONLY), "only read": ("/dev/null", os.O_RDONLY),
 }
+NO_READER = "without a reader"
 INPUTS = ["a folder", "only written"]
-OUTPUTS = ["full", "only read", "without a reader"]
+OUTPUTS = ["full", "only read", NO_READER]
 
 
 def combinations():
@@ -31,7 +32,7 @@ def combinations():
 
 def become(place, kind):
     """Makes a standard stream of this process one of a kind."""
-    if kind == "without a reader":
+    if kind == NO_READER:
         reader, handle = os.pipe()
         os.close(reader)
     else:
@@ -40,10 +41,10 @@ def become(place, kind):
     os.close(handle)
 
 
-def between(streams, ignored=True):
-    """What a child does before it starts. A pipe without a reader is an error then, unless its signal isn't ignored."""
+def between(streams, action):
+    """What a child does before it starts. A write to a pipe without a reader has this action."""
     def prepare():
-        signal.signal(signal.SIGPIPE, signal.SIG_IGN if ignored else signal.SIG_DFL)
+        signal.signal(signal.SIGPIPE, action)
         for place, kind in enumerate(streams):
             if kind not in (OPEN, "closed"):
                 become(place, kind)
@@ -90,8 +91,10 @@ def check_case(program, case, streams, before):
 
 def check_streams(program):
     for streams in combinations():
-        for case in cases():
-            check_case(program, case, streams, between(streams))
+        actions = (signal.SIG_DFL, signal.SIG_IGN) if NO_READER in streams else (signal.SIG_DFL,)
+        for action in actions:
+            for case in cases():
+                check_case(program, case, streams, between(streams, action))
 
 
 CHECKS = [check_streams]

@@ -1,7 +1,7 @@
 """Invalid words beside files that can't be read or written: the words are told, whatever the files are."""
 
 from common import FOLDER, make, names
-from usage_rows import BESIDE, IN_PLACE, VALUES, WITH_FROM, APART
+from usage_rows import APART, BESIDE, IN_PLACE, VALUES, WITH_FROM
 
 NO_SCRIPT = "give a SCRIPT, or its lines, each after -e"
 
@@ -47,7 +47,8 @@ def check_words(program):
         for line in beside(words):
             found = program.run(line, folder)
             start = found.stderr[:len(sentence.encode())]
-            program.ended(f"an invalid word beside files: {line}", found, 2, None, sentence=(sentence.encode(), start), files=(["d"], names(folder)))
+            program.ended(f"an invalid word beside files: {line}", found, 2, None, sentence=(sentence.encode(), start),
+                          files=(["d"], names(folder)))
 
 
 CHECKS = [check_words]

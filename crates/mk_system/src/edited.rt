@@ -4,7 +4,7 @@ ghost use Rattle.std.specs.Prelude.{◌≡◌, ◌≤◌, length, None, IfOk};
 ghost use Rattle.mk_line.specs.Meters.{ticked};
 
 use crate::locking::{Stamp, lock};
-use crate::replacing::{Replacement, followed, sync_folder};
+use crate::replacing::{Replacement, followed, open_folder, sync_folder};
 use mk_mailbox::{CHUNK_BYTES, Fault, Sink};
 use std::fs::File;
 use std::io;
@@ -143,12 +143,13 @@ impl<'a, R: Files<File = File> + AllocGlobal> EditedFile<'a, R> {
             self.begin(length)?;
         }
         if let State::Beside(new) = &self.state {
+            let folder = open_folder(self.rt, &self.path)?;
             new.sync()?;
             if Stamp::at(self.rt, &self.path)? != self.found {
                 return Err(Error::new(ErrorKind::Other, CHANGED));
             }
             new.replace(self.rt, &self.path)?;
-            sync_folder(self.rt, &self.path)?;
+            sync_folder(&folder)?;
         }
         Ok(())
     }

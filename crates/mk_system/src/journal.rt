@@ -4,7 +4,7 @@ ghost use Rattle.std.specs.Prelude.{◌≡◌, ◌≤◌, length, None, IfOk};
 ghost use Rattle.mk_line.specs.Meters.{ticked};
 
 use crate::locking::lock;
-use crate::replacing::{Replacement, followed, sync_folder};
+use crate::replacing::{Replacement, followed, open_folder, sync_folder};
 use mk_mailbox::{Fault, Sink};
 use std::fs::{File, OpenOptions};
 use std::io;
@@ -118,12 +118,13 @@ impl<'a, R: Files<File = File> + AllocGlobal> JournalFile<'a, R> {
     // Lets what was written stand.
     fn end(&self) -> io::Result<()> {
         if let State::Beside(new) = &self.state {
+            let folder = open_folder(self.rt, &self.path)?;
             new.sync()?;
             match self.found {
                 Found::Nothing => new.take_name(self.rt, &self.path)?,
                 Found::Regular(_) | Found::Special => new.replace(self.rt, &self.path)?,
             }
-            sync_folder(self.rt, &self.path)?;
+            sync_folder(&folder)?;
         }
         Ok(())
     }

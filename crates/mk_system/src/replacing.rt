@@ -147,15 +147,24 @@ fn fresh_name(alloc: Global, path: &PathBuf, number: u32) -> io::Result<PathBuf>
     Ok(path.with_file_name(alloc, fresh.as_str())?)
 }
 
-/// Lets the names in the folder of a path stand on the disk. A folder that may not be read is left to the system.
-pub fn sync_folder<R: Files<File = File>>(rt: &R, path: &PathBuf) -> io::Result<()> {
+/// The folder of a path, opened so that its names can be let stand on the disk. A folder that may not be read is left to the
+/// system, and is `None`.
+pub fn open_folder<R: Files<File = File>>(rt: &R, path: &PathBuf) -> io::Result<Option<File>> {
     let folder = match path.parent() {
         Some(folder) if !folder.as_str().is_empty() => folder.as_str(),
         _ => HERE,
     };
     match OpenOptions::new().read(true).open(rt, folder) {
-        Ok(folder) => folder.sync_all(),
-        Err(error) if error.kind() == ErrorKind::PermissionDenied => Ok(()),
+        Ok(folder) => Ok(Some(folder)),
+        Err(error) if error.kind() == ErrorKind::PermissionDenied => Ok(None),
         Err(error) => Err(error),
+    }
+}
+
+/// Lets the names in a folder stand on the disk.
+pub fn sync_folder(folder: &Option<File>) -> io::Result<()> {
+    match folder {
+        Some(folder) => folder.sync_all(),
+        None => Ok(()),
     }
 }
