@@ -1,4 +1,4 @@
-//! Tests of lines, headers and encodings, by public calls alone. A crate of their own, so that nothing waits for them.
+//! Tests of lines, headers, encodings and parameters, by public calls alone. A crate of their own, so that nothing waits for them.
 #![tactic(auto)]
 
 #[cfg(test)]
@@ -13,6 +13,8 @@ mod headers;
 mod lines;
 #[cfg(test)]
 mod memory;
+#[cfg(test)]
+mod params;
 #[cfg(test)]
 mod types;
 #[cfg(test)]

@@ -5,8 +5,9 @@ use mk_code::{
     CodeError, Encoding, b64_encode, decode, push_b64, push_qp, qp_encode, words_decode,
     words_encode,
 };
-use mk_head::{content_type, header, unfold};
-use mk_line::Ending;
+use mk_head::{content_type, header, push_multipart_type, unfold, without_endings};
+use mk_line::{Ending, push_close, push_delimiter};
+use mk_param::{percent_decode, push_percent, text_of};
 
 /// What a text holds before something is appended.
 const BEFORE: &[u8] = b"ab";
@@ -50,6 +51,58 @@ fn memory_content_type(rt: HostRuntime) {
     assert_eq!(rt; charset, b"utf-8".as_slice());
     let name = media.param(b"name").expect(&rt, "a name");
     assert_eq!(rt; name, b"x".as_slice());
+}
+
+#[test]
+fn memory_push_delimiter(rt: HostRuntime) {
+    let Ok(mut text) = Vec::from_slice(rt.alloc(), BEFORE) else {
+        return;
+    };
+    let wanted = b"ab--a boundary\r\n";
+    if push_delimiter(&mut text, b"a boundary", Ending::Crlf).is_err() {
+        assert!(rt; text.starts_with(BEFORE) && wanted.starts_with(&text));
+        text.truncate(BEFORE.len());
+        push_delimiter(&mut text, b"a boundary", Ending::Crlf).expect(&rt, "memory");
+    }
+    assert_eq!(rt; text.as_slice(), wanted.as_slice());
+}
+
+#[test]
+fn memory_push_close(rt: HostRuntime) {
+    let Ok(mut text) = Vec::from_slice(rt.alloc(), BEFORE) else {
+        return;
+    };
+    let wanted = b"ab--a boundary--\r\n";
+    if push_close(&mut text, b"a boundary", Ending::Crlf).is_err() {
+        assert!(rt; text.starts_with(BEFORE) && wanted.starts_with(&text));
+        text.truncate(BEFORE.len());
+        push_close(&mut text, b"a boundary", Ending::Crlf).expect(&rt, "memory");
+    }
+    assert_eq!(rt; text.as_slice(), wanted.as_slice());
+}
+
+#[test]
+fn memory_push_multipart_type(rt: HostRuntime) {
+    let Ok(mut text) = Vec::from_slice(rt.alloc(), BEFORE) else {
+        return;
+    };
+    let wanted = b"abContent-Type: multipart/mixed; boundary=\"b\"\n";
+    if push_multipart_type(&mut text, b"mixed", b"b", Ending::Lf).is_err() {
+        assert!(rt; text.starts_with(BEFORE) && wanted.starts_with(&text));
+        text.truncate(BEFORE.len());
+        push_multipart_type(&mut text, b"mixed", b"b", Ending::Lf).expect(&rt, "memory");
+    }
+    assert_eq!(rt; text.as_slice(), wanted.as_slice());
+}
+
+#[test]
+fn memory_without_endings(rt: HostRuntime) {
+    let text = b"a\r\n b\n\nc\r";
+    let joined = match without_endings(rt.alloc(), text) {
+        Ok(joined) => joined,
+        Err(_) => without_endings(rt.alloc(), text).expect(&rt, "memory"),
+    };
+    assert_eq!(rt; joined.as_slice(), b"a bc\r".as_slice());
 }
 
 #[test]
@@ -138,4 +191,53 @@ fn memory_words_encode(rt: HostRuntime) {
         };
         assert_eq!(rt; value.as_slice(), wanted);
     }
+}
+
+#[test]
+fn memory_text_of(rt: HostRuntime) {
+    let value = b"a; filename*=x; filename*1*=%41%20; filename*0*=iso-8859-1''%e9; filename=x";
+    let Ok(media) = content_type(rt.alloc(), value) else {
+        return;
+    };
+    let text = match text_of(rt.alloc(), &media, b"filename") {
+        Ok(text) => text,
+        Err(_) => text_of(rt.alloc(), &media, b"filename").expect(&rt, "memory"),
+    };
+    let text = text.expect(&rt, "a text");
+    assert_eq!(rt; text.as_str(), "\u{e9}A ");
+}
+
+#[test]
+fn memory_text_of_words(rt: HostRuntime) {
+    let Ok(media) = content_type(rt.alloc(), b"a; name=\"=?utf-8?Q?a=20b?=\"") else {
+        return;
+    };
+    let text = match text_of(rt.alloc(), &media, b"name") {
+        Ok(text) => text,
+        Err(_) => text_of(rt.alloc(), &media, b"name").expect(&rt, "memory"),
+    };
+    let text = text.expect(&rt, "a text");
+    assert_eq!(rt; text.as_str(), "a b");
+}
+
+#[test]
+fn memory_percent_decode(rt: HostRuntime) {
+    let bytes = match percent_decode(rt.alloc(), b"a%20b") {
+        Ok(bytes) => bytes,
+        Err(_) => percent_decode(rt.alloc(), b"a%20b").expect(&rt, "memory"),
+    };
+    let bytes = bytes.expect(&rt, "bytes");
+    assert_eq!(rt; bytes.as_slice(), b"a b".as_slice());
+}
+
+#[test]
+fn memory_push_percent(rt: HostRuntime) {
+    let Ok(mut text) = Vec::from_slice(rt.alloc(), BEFORE) else {
+        return;
+    };
+    if push_percent(&mut text, b"c d").is_err() {
+        text.truncate(BEFORE.len());
+        push_percent(&mut text, b"c d").expect(&rt, "memory");
+    }
+    assert_eq!(rt; text.as_slice(), b"abc%20d".as_slice());
 }

@@ -1,0 +1,5 @@
+pub mod Percents
+pub mod Kept
+pub mod Texts
+pub mod Joined
+pub mod SaidTexts

@@ -1,0 +1,5 @@
+pub mod Percents
+pub mod Extended
+pub mod Segments
+pub mod Said
+pub mod SegmentViews
