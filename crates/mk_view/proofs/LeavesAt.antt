@@ -1,9 +1,19 @@
 -- Sections at their paths, and leaves put after others.
-use Rattle.std.proofs.Common.{◌≡◌, ◌+◌, ◌==◌, ◌++◌, if◌then◌else◌, ℕ, suc, Bool, true, false, Option, None, Some, List, [], ◌∷◌, option_and_then, ap, sym, subst, ◌∙◌, arith}
+use Rattle.std.proofs.Common.{◌≡◌, ◌+◌, ◌==◌, ◌++◌, if◌then◌else◌, ℕ, suc, Bool, true, false, Option, None, Some, List, [], ◌∷◌, option_and_then, ap, sym, subst, ◌∙◌, arith, refl}
 use Rattle.mk_head.specs.Fields.{counted}
 use Rattle.mk_tree.specs.Documents.{Document}
 use Rattle.mk_tree.specs.Sections.{Placed, children, root_of, section_at, section_below}
-use Rattle.mk_view.specs.declared.storing.Leaf.{Leaf}
+use Rattle.std.specs.List.{flat_map}
+use Rattle.mk_head.specs.Values.{MediaType}
+use Rattle.mk_tree.specs.declared.shapes.Kind.{Kind}
+use Rattle.mk_tree.specs.declared.shapes.Kind.TheVariants.{Leaf, Multi, Message}
+use Rattle.mk_tree.specs.Forms.{kind_in}
+use Rattle.mk_view.specs.declared.storing.Leaf.{Leaf as LeafIn}
+use Rattle.mk_view.specs.declared.text_names.NameForm.TheVariants.{Plain}
+use Rattle.mk_view.specs.FileNames.{raw_name, stored, stored_by}
+use Rattle.mk_view.specs.TextNames.{stored_in, stored_named}
+use Rattle.mk_view.specs.Listed.{Listed}
+use Rattle.mk_view.specs.Listing.{type_of}
 use Rattle.mk_view.specs.LeafViews.{AreAt, IsAt}
 
 one_below : (p q r : Placed) (n : ℕ) → ◌≡◌ {A = Option Placed} (Some p) (Some q) → counted n (children q) ≡ Some r → counted n (children p) ≡ Some r
@@ -51,12 +61,23 @@ first_from number all rest more q h e =
     ap (λ n. counted n all) same ∙ (h 0 ∙ ap (counted 1) e)
 
 -- one more leaf that is at its path
-pub at_more : (t : Document) (ls : List Leaf) (l : Leaf) → AreAt t ls → IsAt t l → AreAt t (ls ++ l ∷ [])
+pub at_more : (t : Document) (ls : List LeafIn) (l : LeafIn) → AreAt t ls → IsAt t l → AreAt t (ls ++ l ∷ [])
 at_more t [] l h i = (i, tt)
 at_more t (m ∷ ls) l h i = (h.0, at_more t ls l h.1 i)
 
 -- one more leaf with another name than one that is at its path
-pub at_named : (t : Document) (ns more : List Leaf) (o g : Leaf) → more ≡ ns ++ g ∷ [] → g.path ≡ o.path → g.section ≡ o.section → AreAt t ns → IsAt t o → AreAt t more
+pub at_named : (t : Document) (ns more : List LeafIn) (o g : LeafIn) → more ≡ ns ++ g ∷ [] → g.path ≡ o.path → g.section ≡ o.section → AreAt t ns → IsAt t o → AreAt t more
 at_named t ns more o g e p s h i =
     let here : IsAt t g = ap (λ v. section_at v.items t) p ∙ (i ∙ ap (λ (q : Placed). Some q) (sym s)) in
     subst (AreAt t) (sym e) (at_more t ns g h here)
+
+-- plain names are those of their bytes
+one_stored : (texts : Bool) (k : Kind) (path : List ℕ) (t : MediaType) (raw : Option (List ℕ)) → stored_named texts k path t None raw ≡ stored_by texts k path t raw
+one_stored texts Leaf path t raw = refl
+one_stored texts Multi path t raw = refl
+one_stored texts Message path t raw = refl
+
+pub plain_stored : (texts : Bool) (ss : List Listed) → flat_map (stored_in Plain texts) ss ≡ flat_map (stored texts) ss
+unfolding stored_in stored
+plain_stored texts [] = refl
+plain_stored texts (s ∷ ss) = rw (one_stored texts (kind_in s.section.entity) s.path (type_of s.section) (raw_name s.section), plain_stored texts ss) refl

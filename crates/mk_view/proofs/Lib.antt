@@ -4,6 +4,9 @@ pub mod LeavesAt
 pub mod Taken
 pub mod NamesKnown
 pub mod InTurn
+pub mod Fitting
+pub mod CleanTexts
+pub mod SaidTexts
 pub mod SafeNames
 pub mod Rows
 pub mod Gaps

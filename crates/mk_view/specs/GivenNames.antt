@@ -1,8 +1,9 @@
 -- Names told apart: one that an earlier section has gets a number after it (own).
-use Rattle.std.specs.Prelude.{◌≡◌, ◌==◌, ◌<◌, ◌≤◌, ◌&&◌, ◌++◌, ℕ, Bool, true, false, not, List, [], ◌∷◌, decimal}
+use Rattle.std.specs.Prelude.{◌≡◌, ◌==◌, ◌<◌, ◌≤◌, ◌&&◌, ◌||◌, ◌++◌, ℕ, Bool, true, false, not, List, [], ◌∷◌, decimal}
 use Rattle.std.specs.List.{list_all, list_any}
-use Rattle.std.specs.Str.{bytes_eq}
-use Rattle.mk_line.specs.Ascii.{full_stop, slash}
+use Rattle.std.specs.Char.{is_control}
+use Rattle.std.specs.Str.{bytes_eq, chars, is_utf8}
+use Rattle.mk_line.specs.Ascii.{backslash, full_stop, hyphen, slash}
 use Rattle.mk_view.specs.FileNames.{Named}
 
 -- a name with a number after it
@@ -49,10 +50,23 @@ AreDistinct names (g ∷ gs) = (is_taken names g.1 ≡ false) × AreDistinct (g.
 abbrev pub has_no_slash : List ℕ → Bool
 has_no_slash bytes = list_all (λ byte. not (byte == slash)) bytes
 
--- a name of a file in a folder that isn't hidden: it is not empty, has no slash, and begins with no full stop
+-- the characters that turn the direction of the text around them (Unicode Standard Annex 9, 2)
+abbrev pub turns : List ℕ
+turns = 0x061C ∷ 0x200E ∷ 0x200F ∷ 0x202A ∷ 0x202B ∷ 0x202C ∷ 0x202D ∷ 0x202E ∷ 0x2066 ∷ 0x2067 ∷ 0x2068 ∷ 0x2069 ∷ []
+
+-- a character that is no slash, no backslash, no control (U+0000 to U+001F, U+007F to U+009F), and turns no direction
+abbrev pub is_clean : ℕ → Bool
+is_clean c = not (c == slash || c == backslash) && (not (is_control c) && not (list_any (λ turn. turn == c) turns))
+
+-- the bytes are UTF-8, of such characters alone
+abbrev pub is_clean_text : List ℕ → Bool
+is_clean_text bytes = is_utf8 bytes && list_all is_clean (chars bytes)
+
+-- a name of a file in a folder that isn't hidden and is no option: it is not empty, has no slash, begins with no full stop and
+-- no hyphen, and is a clean text
 abbrev pub is_safe : List ℕ → Bool
 is_safe [] = false
-is_safe (byte ∷ bytes) = not (byte == full_stop) && has_no_slash (byte ∷ bytes)
+is_safe (byte ∷ bytes) = (not (byte == full_stop) && not (byte == hyphen)) && (has_no_slash (byte ∷ bytes) && is_clean_text (byte ∷ bytes))
 
 -- all of the names are such names
 abbrev pub AreSafe : List Named → Type 0

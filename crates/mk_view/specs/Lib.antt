@@ -2,6 +2,7 @@ pub mod Listed
 pub mod Listing
 pub mod Extracts
 pub mod FileNames
+pub mod TextNames
 pub mod NameViews
 pub mod LeafViews
 pub mod GivenNames

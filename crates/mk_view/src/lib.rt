@@ -6,6 +6,7 @@ mod giving;
 mod listing;
 mod naming;
 mod storing;
+mod text_names;
 mod typing;
 mod writing;
 
@@ -13,6 +14,7 @@ pub use extracting::{ExtractError, content, extract};
 pub use giving::numbered;
 pub use listing::list;
 pub use naming::said_name;
-pub use storing::{Leaf, leaves, names};
+pub use storing::{Leaf, leaves, leaves_in, names};
+pub use text_names::{NameForm, text_name};
 pub use typing::{media_type, push_type};
 pub use writing::push_path;

@@ -1,6 +1,7 @@
 //! Names that leaves stored as files would get by themselves.
 ghost use Rattle.std.specs.Prelude.{◌≡◌, codes, IfOk};
-ghost use Rattle.std.specs.Option.{option_map};
+ghost use Rattle.std.specs.Option.{option_map, option_or};
+ghost use Rattle.std.specs.String.{string_bytes};
 ghost use Rattle.mk_head.specs.Types.{field_value};
 ghost use Rattle.mk_head.specs.Values.{param_of};
 ghost use Rattle.mk_head.specs.ValueViews.{media_type_of};
@@ -25,17 +26,23 @@ const SLASH: u8 = b'/';
 const BACKSLASH: u8 = b'\\';
 
 /// How many bytes of a name that a message says are kept.
-const MOST_BYTES: usize = 100;
+pub(crate) const MOST_BYTES: usize = 100;
 
 const TEXT: &[u8] = b"text";
 
-/// Whether a leaf of a type, with the name that its fields say, is stored: a text without a name only where texts are.
-pub(crate) fn is_stored(texts: bool, media: &ContentType, raw: &Option<Vec<u8>>) -> bool
-    ensures { result ≡ is_stored_by texts (media_type_of media.now) (option_map (λ name. name.items) raw.now) }
+/// Whether a leaf of a type, with the text and the bytes that its fields say as its name, is stored: a text without a name
+/// only where texts are.
+pub(crate) fn is_stored(
+    texts: bool,
+    media: &ContentType,
+    text: &Option<String>,
+    raw: &Option<Vec<u8>>,
+) -> bool
+    ensures { result ≡ is_stored_by texts (media_type_of media.now) (option_or (option_map string_bytes text.now) (option_map (λ name. name.items) raw.now)) }
 {
-    match raw {
-        Some(_) => true,
-        None => texts || media.main.as_slice() != TEXT,
+    match (text, raw) {
+        (None, None) => texts || media.main.as_slice() != TEXT,
+        _ => true,
     }
 }
 
@@ -100,7 +107,8 @@ pub(crate) fn own_name(
     part_name(alloc, path)
 }
 
-fn part_name(alloc: Global, path: &[u32]) -> Result<Vec<u8>, AllocError>
+/// The name of a section that has no other.
+pub(crate) fn part_name(alloc: Global, path: &[u32]) -> Result<Vec<u8>, AllocError>
     ensures { IfOk result (λ name. name.items ≡ name_of_part path.now) }
 {
     let mut name = Vec::from_slice(alloc, b"part-")?;
