@@ -45,3 +45,12 @@ at_end f (suc i) (y ∷ ys) h = at_end f i ys (omega (arith, h))
 -- a text and what is still to be written
 pub written_one : {Y : Type 0} (g : Y → List ℕ) (old new goal_text : List ℕ) (ys rest : List Y) (y : Y) → ys ≡ y ∷ rest → new ≡ old ++ g y → old ++ flat_map g ys ≡ goal_text → new ++ flat_map g rest ≡ goal_text
 written_one g old new goal_text ys rest y e w h = ap (λ t. t ++ flat_map g rest) w ∙ (append_assoc old (g y) (flat_map g rest) ∙ (ap (λ zs. old ++ flat_map g zs) (sym e) ∙ h))
+
+-- what was made of a front, and what the rest is made into
+mapped_end : {W Y : Type 0} (g : W → Y) (ws : List W) (w : W) (rest : List Y) → map g (ws ++ w ∷ []) ++ rest ≡ map g ws ++ (g w ∷ rest)
+mapped_end g [] w rest = refl
+mapped_end g (x ∷ ws) w rest = ap (λ t. g x ∷ t) (mapped_end g ws w rest)
+
+pub mapped_one : {W Y : Type 0} (g : W → Y) (ws new : List W) (w : W) (ys rest all : List Y) (y : Y) → new ≡ ws ++ w ∷ [] → ys ≡ y ∷ rest → g w ≡ y → map g ws ++ ys ≡ all → map g new ++ rest ≡ all
+mapped_one g ws new w ys rest all y n e m h =
+    ap (λ list. map g list ++ rest) n ∙ (mapped_end g ws w rest ∙ ((λ i. map g ws ++ (m i ∷ rest)) ∙ (ap (λ list. map g ws ++ list) (sym e) ∙ h)))

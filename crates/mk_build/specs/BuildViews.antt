@@ -1,16 +1,25 @@
 -- What is attached, in memory, as plain data; and the refusals.
-use Rattle.std.specs.Prelude.{◌≡◌, ℕ, Some, List}
+use Rattle.std.specs.Prelude.{◌≡◌, ℕ, None, Some, List}
 use Rattle.std.specs.Option.{option_map}
 use Rattle.mk_build.specs.declared.attachment.Attach.{Attach}
+use Rattle.mk_build.specs.declared.attachment.Written.{Written}
 use Rattle.mk_build.specs.declared.attaching.AttachError.{AttachError}
 use Rattle.mk_build.specs.declared.attaching.AttachError.TheVariants as attach
 use Rattle.mk_build.specs.declared.building.BuildError.{BuildError}
 use Rattle.mk_build.specs.declared.building.BuildError.TheVariants as build
-use Rattle.mk_build.specs.Building.{Attached, attach_refusal, build_refusal}
+use Rattle.mk_build.specs.Building.{Attached, attach_refusal, build_refusal, named_in_utf8}
 
 -- its fields as lists
 abbrev pub attached_of : Attach → Attached
-attached_of a = record { media = a.media.items; name = option_map (λ v. v.items) a.name; text = a.text.items; base64 = a.base64 }
+attached_of a = record { media = a.media.items; name = option_map (λ v. v.items) a.name; said = None; text = a.text.items; base64 = a.base64 }
+
+-- the same under a name in UTF-8
+abbrev pub named_of : Attach → Attached
+named_of a = named_in_utf8 (attached_of a)
+
+-- what is written of it
+abbrev pub written_of : Written → Attached
+written_of w = record { media = w.media.now; name = option_map (λ v. v.items) w.name; said = option_map (λ v. v.now) w.said; text = w.text.now; base64 = w.base64 }
 
 -- the reason is the first; memory may be wanted at any time
 abbrev pub IsAttachRefused : Attached → AttachError → Type 0

@@ -1,28 +1,32 @@
--- Messages built from files: what is attached, and the message around it (RFC 2045, 5 and 6; RFC 2046, 5.1; RFC 2183).
-use Rattle.std.specs.Prelude.{◌==◌, ◌&&◌, ◌||◌, ◌++◌, if◌then◌else◌, ℕ, suc, Bool, true, false, not, Option, None, Some, List, [], ◌∷◌, codes, length, nat_eq, nat_le}
+-- Messages built from files: what is attached, and the message around it (RFC 2045, 5 and 6; RFC 2046, 5.1; RFC 2183; RFC 2231).
+use Rattle.std.specs.Prelude.{◌==◌, ◌&&◌, ◌||◌, ◌++◌, if◌then◌else◌, ℕ, suc, Bool, true, false, not, Option, None, Some, List, [], ◌∷◌, codes, length, map, nat_eq, nat_le, option_and_then, take}
 use Rattle.std.specs.List.{list_all, ends_with, flat_map, starts_with}
 use Rattle.std.specs.Option.{option_map}
-use Rattle.std.specs.Str.{bytes_eq}
+use Rattle.std.specs.Str.{bytes_eq, is_utf8}
 use Rattle.mk_line.specs.declared.cutting.Ending.{Ending}
 use Rattle.mk_line.specs.Lines.{TextLine, cut, ending_bytes, is_nil}
 use Rattle.mk_head.specs.Split.{is_start}
 use Rattle.mk_head.specs.Boundaries.{is_boundary}
 use Rattle.mk_head.specs.Fields.{is_one_field, name_of}
 use Rattle.mk_head.specs.Values.{is_token, lowered}
-use Rattle.mk_line.specs.Ascii.{backslash, quote, slash}
+use Rattle.mk_line.specs.Ascii.{backslash, quote, slash, underscore}
 use Rattle.mk_line.specs.Parting.{before, behind}
 use Rattle.mk_line.specs.Lines.{ends_open}
 use Rattle.mk_code.specs.Base64Text.{base64_encoded}
+use Rattle.mk_code.specs.EncodedWords.{is_shown}
 use Rattle.mk_code.specs.QuotedPrintable.{qp_encoded}
+use Rattle.mk_param.specs.Percents.{percent_encoded}
 use Rattle.mk_build.specs.declared.attaching.AttachError.{AttachError}
 use Rattle.mk_build.specs.declared.attaching.AttachError.TheVariants as attach
 use Rattle.mk_build.specs.declared.building.BuildError.{BuildError}
 use Rattle.mk_build.specs.declared.building.BuildError.TheVariants as build
 
--- what is attached: its media type, a name, its bytes, and whether they go as base64, not as quoted-printable
+-- what is attached: its media type, a name, the name as people write it where that is another one, its bytes, and whether they
+-- go as base64, not as quoted-printable
 pub record Attached : Type 0 where
   pub media : List ℕ
   pub name : Option (List ℕ)
+  pub said : Option (List ℕ)
   pub text : List ℕ
   pub base64 : Bool
 
@@ -56,6 +60,32 @@ abbrev pub is_name_or_none : Option (List ℕ) → Bool
 is_name_or_none None = true
 is_name_or_none (Some name) = is_name name
 
+-- the most bytes of a name as people write it: a file has no longer one on the systems of today (own)
+abbrev pub longest_said : ℕ
+longest_said = 255
+
+-- a byte of a name, or `_` for one that a quoted string can't hold as it is
+abbrev pub name_byte : ℕ → ℕ
+name_byte byte = if is_name_byte byte then byte else underscore
+
+-- what is left of a name in a quoted string
+abbrev pub plain_name : List ℕ → List ℕ
+plain_name name = take longest (map name_byte name)
+
+-- a name that is written as people write it: a text in UTF-8 that isn't printable ASCII, and isn't too long
+abbrev pub is_said : List ℕ → Bool
+is_said name = nat_le (length name) longest_said && (is_utf8 name && not (list_all is_shown name))
+
+-- what is attached under names as people write them: those that are said get a plain one beside them
+abbrev pub named_in_utf8 : Attached → Attached
+named_in_utf8 a = record {
+  media = a.media;
+  name = option_map (λ name. if is_said name then plain_name name else name) a.name;
+  said = option_and_then (λ name. if is_said name then Some name else None) a.name;
+  text = a.text;
+  base64 = a.base64;
+}
+
 -- why something can't be attached, the media type first
 abbrev pub attach_refusal : Attached → Option AttachError
 attach_refusal a = if is_media a.media then (if is_name_or_none a.name then None else Some attach.BadName) else Some attach.BadType
@@ -65,10 +95,15 @@ abbrev pub name_param : Option (List ℕ) → List ℕ
 name_param None = []
 name_param (Some name) = codes "; name=\"" ++ (name ++ codes "\"")
 
+-- the name as people write it, in UTF-8 with percent signs (RFC 2231, 4)
+abbrev pub said_param : Option (List ℕ) → List ℕ
+said_param None = []
+said_param (Some said) = codes "; filename*=utf-8''" ++ percent_encoded said
+
 -- an attachment under a name (RFC 2183, 2.3)
-abbrev pub disposition_line : Ending → Option (List ℕ) → List ℕ
-disposition_line eol None = []
-disposition_line eol (Some name) = codes "Content-Disposition: attachment; filename=\"" ++ (name ++ (codes "\"" ++ ending_bytes eol))
+abbrev pub disposition_line : Ending → Option (List ℕ) → Option (List ℕ) → List ℕ
+disposition_line eol None said = []
+disposition_line eol (Some name) said = codes "Content-Disposition: attachment; filename=\"" ++ (name ++ (codes "\"" ++ (said_param said ++ ending_bytes eol)))
 
 -- the media type and the name (RFC 2045, 5.1)
 abbrev pub type_line : Ending → Attached → List ℕ
@@ -88,7 +123,7 @@ encoded eol a = if a.base64 then base64_encoded eol a.text else qp_encoded eol a
 
 -- what is attached as a part: three fields, an empty line, the encoded bytes
 abbrev pub attached : Ending → Attached → List ℕ
-attached eol a = type_line eol a ++ (disposition_line eol a.name ++ (encoding_line eol a.base64 ++ (ending_bytes eol ++ encoded eol a)))
+attached eol a = type_line eol a ++ (disposition_line eol a.name a.said ++ (encoding_line eol a.base64 ++ (ending_bytes eol ++ encoded eol a)))
 
 -- whether a field describes a content or says the MIME version, without regard to ASCII case
 abbrev pub is_made_name : List ℕ → Bool

@@ -1,11 +1,12 @@
 //! Parts of messages, from what is attached (RFC 2045, 5 and 6; RFC 2183).
 ghost use Rattle.std.specs.Prelude.{◌≡◌, ◌≢◌, ◌++◌, None, IfOk, IfErr, OnOk};
-ghost use Rattle.mk_build.specs.BuildViews.{attached_of, IsAttachRefused};
-ghost use Rattle.mk_build.specs.Building.{attach_refusal, attached as attached_text, disposition_line, encoded, encoding_line, encoding_name as name_of_encoding, name_param, type_line};
+ghost use Rattle.mk_build.specs.BuildViews.{attached_of, written_of, IsAttachRefused};
+ghost use Rattle.mk_build.specs.Building.{attach_refusal, attached as attached_text, disposition_line, encoded, encoding_line, encoding_name as name_of_encoding, name_param, said_param, type_line};
 
-use crate::attachment::{Attach, has_name, is_media};
+use crate::attachment::{Attach, Written, as_given, has_name, is_media};
 use mk_code::{push_b64, push_qp};
 use mk_line::Ending;
+use mk_param::push_percent;
 use std::alloc::{AllocError, Global};
 use thiserror::Error;
 
@@ -41,46 +42,47 @@ pub fn attach(alloc: Global, attached: &Attach, eol: Ending) -> Result<Vec<u8>, 
     ensures text { IfOk result (λ text. (attach_refusal (attached_of attached.now) ≡ None) × (text.items ≡ attached_text eol (attached_of attached.now))) }
     ensures refused { IfErr result (λ error. IsAttachRefused (attached_of attached.now) error) }
 {
-    if !is_media(&attached.media) {
+    let written = as_given(alloc, attached)?;
+    if !is_media(written.media) {
         return Err(AttachError::BadType);
     }
-    if !has_name(attached) {
+    if !has_name(&written) {
         return Err(AttachError::BadName);
     }
     let mut text = Vec::new(alloc);
-    push_attached(&mut text, attached, eol)?;
+    push_attached(&mut text, &written, eol)?;
     Ok(text)
 }
 
 /// Writes what is attached as a part.
 pub(crate) fn push_attached(
     text: &mut Vec<u8>,
-    attached: &Attach,
+    written: &Written<'_>,
     eol: Ending,
 ) -> Result<(), AllocError>
     requires { eol ≢ Ending.Missing }
-    ensures { OnOk result (text.new.items ≡ text.old.items ++ attached_text eol (attached_of attached.now)) }
+    ensures { OnOk result (text.new.items ≡ text.old.items ++ attached_text eol (written_of written.now)) }
 {
-    push_type(text, attached, eol)?;
-    push_disposition(text, attached, eol)?;
-    push_encoding(text, attached.base64, eol)?;
+    push_type(text, written, eol)?;
+    push_disposition(text, written, eol)?;
+    push_encoding(text, written.base64, eol)?;
     text.extend_from_slice(eol.bytes())?;
-    push_bytes(text, attached, eol)
+    push_bytes(text, written, eol)
 }
 
-fn push_type(text: &mut Vec<u8>, attached: &Attach, eol: Ending) -> Result<(), AllocError>
-    ensures { OnOk result (text.new.items ≡ text.old.items ++ type_line eol (attached_of attached.now)) }
+fn push_type(text: &mut Vec<u8>, written: &Written<'_>, eol: Ending) -> Result<(), AllocError>
+    ensures { OnOk result (text.new.items ≡ text.old.items ++ type_line eol (written_of written.now)) }
 {
     text.extend_from_slice(b"Content-Type: ")?;
-    text.extend_from_slice(&attached.media)?;
-    push_name(text, attached)?;
+    text.extend_from_slice(written.media)?;
+    push_name(text, written)?;
     text.extend_from_slice(eol.bytes())
 }
 
-fn push_name(text: &mut Vec<u8>, attached: &Attach) -> Result<(), AllocError>
-    ensures { OnOk result (text.new.items ≡ text.old.items ++ name_param (attached_of attached.now).name) }
+fn push_name(text: &mut Vec<u8>, written: &Written<'_>) -> Result<(), AllocError>
+    ensures { OnOk result (text.new.items ≡ text.old.items ++ name_param (written_of written.now).name) }
 {
-    match &attached.name {
+    match &written.name {
         Some(name) => {
             text.extend_from_slice(b"; name=\"")?;
             text.extend_from_slice(name)?;
@@ -90,15 +92,33 @@ fn push_name(text: &mut Vec<u8>, attached: &Attach) -> Result<(), AllocError>
     }
 }
 
-fn push_disposition(text: &mut Vec<u8>, attached: &Attach, eol: Ending) -> Result<(), AllocError>
-    ensures { OnOk result (text.new.items ≡ text.old.items ++ disposition_line eol (attached_of attached.now).name) }
+fn push_disposition(
+    text: &mut Vec<u8>,
+    written: &Written<'_>,
+    eol: Ending,
+) -> Result<(), AllocError>
+    ensures { OnOk result (text.new.items ≡ text.old.items ++ disposition_line eol (written_of written.now).name (written_of written.now).said) }
 {
-    match &attached.name {
+    match &written.name {
         Some(name) => {
             text.extend_from_slice(b"Content-Disposition: attachment; filename=\"")?;
             text.extend_from_slice(name)?;
             text.extend_from_slice(b"\"")?;
+            push_said(text, written)?;
             text.extend_from_slice(eol.bytes())
+        }
+        None => Ok(()),
+    }
+}
+
+// Writes the name as people write it, where there is one.
+fn push_said(text: &mut Vec<u8>, written: &Written<'_>) -> Result<(), AllocError>
+    ensures { OnOk result (text.new.items ≡ text.old.items ++ said_param (written_of written.now).said) }
+{
+    match written.said {
+        Some(said) => {
+            text.extend_from_slice(b"; filename*=utf-8''")?;
+            push_percent(text, said)
         }
         None => Ok(()),
     }
@@ -123,13 +143,13 @@ fn encoding_name(base64: bool) -> &'static [u8]
 }
 
 // The bytes as they go.
-fn push_bytes(text: &mut Vec<u8>, attached: &Attach, eol: Ending) -> Result<(), AllocError>
+fn push_bytes(text: &mut Vec<u8>, written: &Written<'_>, eol: Ending) -> Result<(), AllocError>
     requires { eol ≢ Ending.Missing }
-    ensures { OnOk result (text.new.items ≡ text.old.items ++ encoded eol (attached_of attached.now)) }
+    ensures { OnOk result (text.new.items ≡ text.old.items ++ encoded eol (written_of written.now)) }
 {
-    if attached.base64 {
-        push_b64(text, &attached.text, eol)
+    if written.base64 {
+        push_b64(text, written.text, eol)
     } else {
-        push_qp(text, &attached.text, eol)
+        push_qp(text, written.text, eol)
     }
 }

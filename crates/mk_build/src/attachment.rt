@@ -1,11 +1,14 @@
-//! What is attached to a message, and whether it may be (RFC 2045, 5.1).
-ghost use Rattle.std.specs.Prelude.{◌≡◌};
+//! What is attached to a message, whether it may be (RFC 2045, 5.1), and the names that are written of it (RFC 2231).
+ghost use Rattle.std.specs.Prelude.{◌≡◌, IfOk};
 ghost use Rattle.std.specs.List.{list_all};
-ghost use Rattle.mk_build.specs.BuildViews.{attached_of};
-ghost use Rattle.mk_build.specs.Building.{is_media as may_be_attached, is_name as may_be_written, is_name_byte as may_stand, is_name_or_none, is_single as is_one_body};
+ghost use Rattle.std.specs.Str.{is_utf8 as is_in_utf8};
+ghost use Rattle.mk_code.specs.EncodedWords.{is_shown};
+ghost use Rattle.mk_build.specs.BuildViews.{attached_of, named_of, written_of};
+ghost use Rattle.mk_build.specs.Building.{is_media as may_be_attached, is_name as may_be_written, is_name_byte as may_stand, is_name_or_none, is_said as is_said_so, is_single as is_one_body, name_byte as name_byte_for, plain_name as plain_name_of};
 
 use mk_head::is_token;
 use mk_line::split_at_first;
+use std::alloc::{AllocError, Global};
 
 /// The most bytes of a media type and of a name.
 const LONGEST: usize = 100;
@@ -15,6 +18,11 @@ const SLASH: u8 = b'/';
 const QUOTE: u8 = b'"';
 
 const BACKSLASH: u8 = b'\\';
+
+const UNDERSCORE: u8 = b'_';
+
+/// The most bytes of a name as people write it.
+const LONGEST_SAID: usize = 255;
 
 const MULTIPART: &[u8; 9] = b"multipart";
 
@@ -52,10 +60,92 @@ fn is_single(main: &[u8]) -> bool
     !main.eq_ignore_ascii_case(MULTIPART) && !main.eq_ignore_ascii_case(MESSAGE)
 }
 
-pub(crate) fn has_name(attached: &Attach) -> bool
-    ensures { result ≡ is_name_or_none (attached_of attached.now).name }
+/// What is written of something that is attached.
+#[derive(Debug, Drop)]
+pub(crate) struct Written<'a> {
+    pub media: &'a [u8],
+    /// The name in quotes.
+    pub name: Option<Vec<u8>>,
+    /// The name as people write it, where that in quotes is what is left of it.
+    pub said: Option<&'a [u8]>,
+    pub text: &'a [u8],
+    pub base64: bool,
+}
+
+/// What is written of it as it is given.
+pub(crate) fn as_given(alloc: Global, attached: &Attach) -> Result<Written<'_>, AllocError>
+    ensures { IfOk result (λ w. written_of w ≡ attached_of attached.now) }
+{
+    let name = match &attached.name {
+        Some(name) => Some(Vec::from_slice(alloc, name)?),
+        None => None,
+    };
+    Ok(Written {
+        media: &attached.media,
+        name,
+        said: None,
+        text: &attached.text,
+        base64: attached.base64,
+    })
+}
+
+/// What is written of it under a name in UTF-8.
+pub(crate) fn in_utf8(alloc: Global, attached: &Attach) -> Result<Written<'_>, AllocError>
+    ensures { IfOk result (λ w. written_of w ≡ named_of attached.now) }
 {
     match &attached.name {
+        Some(name) if is_said(name) => Ok(Written {
+            media: &attached.media,
+            name: Some(plain_name(alloc, name)?),
+            said: Some(name),
+            text: &attached.text,
+            base64: attached.base64,
+        }),
+        _ => as_given(alloc, attached),
+    }
+}
+
+// Whether a name is written as people write it: a text that isn't printable ASCII, and isn't too long.
+fn is_said(name: &[u8]) -> bool
+    ensures { result ≡ is_said_so name.now }
+{
+    name.len() <= LONGEST_SAID && is_utf8(name) && !are_shown(name)
+}
+
+fn is_utf8(name: &[u8]) -> bool
+    ensures { result ≡ is_in_utf8 name.now }
+{
+    match std::str::from_utf8(name) {
+        Ok(_) => true,
+        Err(_) => false,
+    }
+}
+
+fn are_shown(name: &[u8]) -> bool
+    ensures { result ≡ list_all is_shown name.now }
+{
+    name.iter().all(|byte| (b' '..=b'~').contains(byte))
+}
+
+// What is left of a name in quotes.
+fn plain_name(alloc: Global, name: &[u8]) -> Result<Vec<u8>, AllocError>
+    ensures { IfOk result (λ plain. plain.items ≡ plain_name_of name.now) }
+{
+    let mut plain: Vec<u8> = name.iter().map(|byte| name_byte(*byte)).collect(alloc)?;
+    plain.truncate(LONGEST);
+    Ok(plain)
+}
+
+fn name_byte(byte: u8) -> u8
+    ensures { result ≡ name_byte_for byte }
+{
+    if is_name_byte(byte) { byte } else { UNDERSCORE }
+}
+
+pub(crate) fn has_name(written: &Written<'_>) -> bool
+    ensures { result ≡ is_name_or_none (written_of written.now).name }
+{
+    match &written.name {
         Some(name) => is_name(name),
         None => true,
     }

@@ -3,11 +3,11 @@ ghost use Rattle.std.specs.Prelude.{◌≡◌, ◌≢◌, ◌++◌, None, codes,
 ghost use Rattle.std.specs.List.{flat_map, starts_with};
 ghost use Rattle.mk_line.specs.Lines.{cut as lines_of};
 ghost use Rattle.mk_head.specs.Values.{lowered};
-ghost use Rattle.mk_build.specs.BuildViews.{attached_of, IsBuildRefused};
+ghost use Rattle.mk_build.specs.BuildViews.{attached_of, named_of, written_of, IsBuildRefused};
 ghost use Rattle.mk_build.specs.Building.{build_refusal, built, built_part, close_line, closed_field, first_failing, is_free_field as may_begin, is_free_start as begins_free, is_made_name as is_made, is_media as may_be_attached, is_name_or_none, made_head};
 
 use crate::attaching::push_attached;
-use crate::attachment::{Attach, has_name, is_media};
+use crate::attachment::{Attach, Written, as_given, has_name, in_utf8, is_media};
 use mk_head::{is_boundary, one_field};
 use mk_line::{Ending, ends_open, first_line, name_len};
 use std::alloc::{AllocError, Global};
@@ -63,6 +63,60 @@ pub fn build(
     ensures text { IfOk result (λ text. (build_refusal (map (λ f. f.items) fields.now) (map attached_of parts.now) boundary.now ≡ None) × (text.items ≡ built eol (map (λ f. f.items) fields.now) (map attached_of parts.now) boundary.now)) }
     ensures refused { IfErr result (λ error. IsBuildRefused (map (λ f. f.items) fields.now) (map attached_of parts.now) boundary.now error) }
 {
+    let parts = all_as_given(alloc, parts)?;
+    build_of(alloc, fields, &parts, boundary, eol)
+}
+
+/// The same, with each name in UTF-8 that isn't printable ASCII also written as it is (RFC 2231, 4).
+pub fn build_in_utf8(
+    alloc: Global,
+    fields: &[Vec<u8>],
+    parts: &[Attach],
+    boundary: &[u8],
+    eol: Ending,
+) -> Result<Vec<u8>, BuildError>
+    requires { eol ≢ Ending.Missing }
+    ensures text { IfOk result (λ text. (build_refusal (map (λ f. f.items) fields.now) (map named_of parts.now) boundary.now ≡ None) × (text.items ≡ built eol (map (λ f. f.items) fields.now) (map named_of parts.now) boundary.now)) }
+    ensures refused { IfErr result (λ error. IsBuildRefused (map (λ f. f.items) fields.now) (map named_of parts.now) boundary.now error) }
+{
+    let parts = all_in_utf8(alloc, parts)?;
+    build_of(alloc, fields, &parts, boundary, eol)
+}
+
+// What is written of all parts as they are given.
+fn all_as_given(alloc: Global, parts: &[Attach]) -> Result<Vec<Written<'_>>, AllocError>
+    ensures { IfOk result (λ list. map written_of list.items ≡ map attached_of parts.now) }
+{
+    let mut list = Vec::with_capacity(alloc, parts.len())?;
+    for part in parts {
+        list.push(as_given(alloc, part)?)?;
+    }
+    Ok(list)
+}
+
+// What is written of all parts under names in UTF-8.
+fn all_in_utf8(alloc: Global, parts: &[Attach]) -> Result<Vec<Written<'_>>, AllocError>
+    ensures { IfOk result (λ list. map written_of list.items ≡ map named_of parts.now) }
+{
+    let mut list = Vec::with_capacity(alloc, parts.len())?;
+    for part in parts {
+        list.push(in_utf8(alloc, part)?)?;
+    }
+    Ok(list)
+}
+
+// The message of what is written of its parts.
+fn build_of(
+    alloc: Global,
+    fields: &[Vec<u8>],
+    parts: &[Written<'_>],
+    boundary: &[u8],
+    eol: Ending,
+) -> Result<Vec<u8>, BuildError>
+    requires { eol ≢ Ending.Missing }
+    ensures text { IfOk result (λ text. (build_refusal (map (λ f. f.items) fields.now) (map written_of parts.now) boundary.now ≡ None) × (text.items ≡ built eol (map (λ f. f.items) fields.now) (map written_of parts.now) boundary.now)) }
+    ensures refused { IfErr result (λ error. IsBuildRefused (map (λ f. f.items) fields.now) (map written_of parts.now) boundary.now error) }
+{
     if let Some(index) = bad_field(fields) {
         return Err(BuildError::BadField { index });
     }
@@ -96,11 +150,11 @@ fn bad_field(fields: &[Vec<u8>]) -> Option<usize>
 }
 
 // The index of the first part whose media type can't be attached, from 0.
-fn bad_type(parts: &[Attach]) -> Option<usize>
-    ensures { result ≡ first_failing (λ a. may_be_attached a.media) (map attached_of parts.now) }
+fn bad_type(parts: &[Written<'_>]) -> Option<usize>
+    ensures { result ≡ first_failing (λ a. may_be_attached a.media) (map written_of parts.now) }
 {
     for (index, part) in parts.iter().enumerate() {
-        if !is_media(&part.media) {
+        if !is_media(part.media) {
             return Some(index);
         }
     }
@@ -108,8 +162,8 @@ fn bad_type(parts: &[Attach]) -> Option<usize>
 }
 
 // The index of the first part whose name can't be written, from 0.
-fn bad_name(parts: &[Attach]) -> Option<usize>
-    ensures { result ≡ first_failing (λ a. is_name_or_none a.name) (map attached_of parts.now) }
+fn bad_name(parts: &[Written<'_>]) -> Option<usize>
+    ensures { result ≡ first_failing (λ a. is_name_or_none a.name) (map written_of parts.now) }
 {
     for (index, part) in parts.iter().enumerate() {
         if !has_name(part) {
@@ -189,12 +243,12 @@ fn push_head(text: &mut Vec<u8>, boundary: &[u8], eol: Ending) -> Result<(), All
 
 fn push_parts(
     text: &mut Vec<u8>,
-    parts: &[Attach],
+    parts: &[Written<'_>],
     boundary: &[u8],
     eol: Ending,
 ) -> Result<(), AllocError>
     requires { eol ≢ Ending.Missing }
-    ensures { OnOk result (text.new.items ≡ text.old.items ++ flat_map (built_part eol boundary.now) (map attached_of parts.now)) }
+    ensures { OnOk result (text.new.items ≡ text.old.items ++ flat_map (built_part eol boundary.now) (map written_of parts.now)) }
 {
     for part in parts {
         push_part(text, part, boundary, eol)?;
@@ -204,12 +258,12 @@ fn push_parts(
 
 fn push_part(
     text: &mut Vec<u8>,
-    part: &Attach,
+    part: &Written<'_>,
     boundary: &[u8],
     eol: Ending,
 ) -> Result<(), AllocError>
     requires { eol ≢ Ending.Missing }
-    ensures { OnOk result (text.new.items ≡ text.old.items ++ built_part eol boundary.now (attached_of part.now)) }
+    ensures { OnOk result (text.new.items ≡ text.old.items ++ built_part eol boundary.now (written_of part.now)) }
 {
     text.extend_from_slice(HYPHENS)?;
     text.extend_from_slice(boundary)?;

@@ -7,4 +7,4 @@ mod building;
 
 pub use attaching::{AttachError, attach};
 pub use attachment::Attach;
-pub use building::{BuildError, build};
+pub use building::{BuildError, build, build_in_utf8};
