@@ -1,8 +1,7 @@
 -- The fields at the start of a built message: their lines are fields, and none says a content.
-use Rattle.std.proofs.Common.{◌≡◌, ◌==◌, ◌&&◌, ◌-◌, ◌++◌, if◌then◌else◌, ℕ, suc, Bool, true, false, not, List, [], ◌∷◌, refl, ap, sym, ◌∙◌, subst, append_assoc, codes, drop, length, nat_eq, inl, inr, arith}
+use Rattle.std.proofs.Common.{◌≡◌, ◌==◌, ◌&&◌, ◌++◌, if◌then◌else◌, ℕ, Bool, true, false, not, List, [], ◌∷◌, refl, ap, sym, ◌∙◌, subst, append_assoc, codes, nat_eq, inl, inr}
 use Rattle.std.proofs.lemmas.Bool.{cases_Bool, eqb-true, or_parts}
-use Rattle.std.specs.Cmp.Lexicographic.{pointwise}
-use Rattle.std.specs.List.{ends_with, flat_map, list_all, starts_with}
+use Rattle.std.specs.List.{flat_map, list_all, starts_with}
 use Rattle.std.specs.Str.{bytes_eq}
 use Rattle.mk_line.specs.Ascii.{is_blank}
 use Rattle.mk_line.specs.declared.cutting.Ending.{Ending}

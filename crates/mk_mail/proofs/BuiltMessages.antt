@@ -21,7 +21,7 @@ use Rattle.mk_tree.specs.Documents.{Document, document_of, levels, tree}
 use Rattle.mk_tree.specs.Kinds.{Multi, is_digest, kind, kind_of}
 use Rattle.mk_tree.specs.Locality.{BeginsPlain}
 use Rattle.mk_tree.specs.Reading.{AreWellRead, IsWellRead}
-use Rattle.mk_tree.specs.Sections.{Placed, children, has_part, parts_placed, root_of, section_below}
+use Rattle.mk_tree.specs.Sections.{Placed, children, has_part, parts_placed, root_of, section_at, section_below}
 use Rattle.mk_tree.specs.Spans.{digest_below, size}
 use Rattle.mk_tree.specs.Tree.{Entity, multi, Parts, no_parts, part, print, print_parts}
 use Rattle.mk_tree.proofs.Stability.{read_parts}
@@ -34,29 +34,29 @@ use Rattle.mk_decide.proofs.Typed.{MayBound, made_bound, made_kind, made_value, 
 use Rattle.mk_decide.proofs.Wraps.{close_is, type_is}
 use Rattle.mk_build.specs.declared.building.BuildError.{BuildError}
 use Rattle.mk_build.specs.declared.building.BuildError.TheVariants as build
-use Rattle.mk_build.specs.Building.{Attached, attached, built, built_part, closed_field, first_failing, is_free_field, is_media, is_name_or_none, refusal_at}
+use Rattle.mk_build.specs.Building.{Attached, attached, built, built_part, closed_field, first_failing, is_free_field, is_media, is_name_or_none, build_refusal, refusal_at}
 use Rattle.mk_mail.specs.BuiltLaws.{AreBytes, HaveBytes, GivesBack, BuiltMessagesGiveBack}
 use Rattle.mk_view.specs.Extracts.{IsContentOf, IsExtract}
 use Rattle.mk_mail.proofs.BuiltFields.{AreFreeFields, field_lines, fields_are_lines, fields_closed, fields_lines, fields_text, run_fields, skip_fields}
 use Rattle.mk_mail.proofs.BuiltParts.{AreFull, empty_line, full_join, full_none, full_one, inner_line, part_content, part_entity, part_free, part_full, part_read, part_text}
 
 -- the parts that may be attached
-abbrev AreGood : List Attached → Type 0
+abbrev pub AreGood : List Attached → Type 0
 AreGood [] = Unit {0}
 AreGood (a ∷ list) = (is_media a.media ≡ true) × (is_name_or_none a.name ≡ true) × AreBytes a.text × AreGood list
 
 -- the message as an entity
-abbrev parts_of : Ending → List ℕ → List Attached → Parts
+abbrev pub parts_of : Ending → List ℕ → List Attached → Parts
 parts_of eol b [] = no_parts
 parts_of eol b (a ∷ list) = part (delimiter_line eol b) (part_entity eol a) (parts_of eol b list)
 
-abbrev version : Ending → TextLine
+abbrev pub version : Ending → TextLine
 version eol = text_line (codes "MIME-Version: 1.0") eol
 
-abbrev root_fields : Ending → List (List ℕ) → List ℕ → List TextLine
+abbrev pub root_fields : Ending → List (List ℕ) → List ℕ → List TextLine
 root_fields eol fields b = fields_lines eol fields ++ (version eol ∷ multi_line eol (codes "mixed") b ∷ [])
 
-abbrev root_entity : Ending → List (List ℕ) → List ℕ → List Attached → Entity
+abbrev pub root_entity : Ending → List (List ℕ) → List ℕ → List Attached → Entity
 root_entity eol fields b list = multi (record { fields = root_fields eol fields b; separator = Some (empty_line eol) }) b [] (parts_of eol b list) (Some (end_line eol b, []))
 
 -- its text
@@ -193,6 +193,23 @@ parts_hold eol b place digest (x ∷ list) (suc zero) a c g e =
 parts_hold eol b place digest (x ∷ list) (suc (suc k)) a c g e =
     parts_hold eol b (place + size (delimiter_line eol b ∷ []) + size (print (part_entity eol x))) digest list (suc k) a c g.3 e
 
+-- what its parts are
+pub record IsPart (eol : Ending) (o : Option Placed) (a : Attached) : Type 0 where
+  pub place : Placed
+  pub found : o ≡ Some place
+  pub entity_is : place.entity ≡ part_entity eol a
+
+parts_are : (eol : Ending) (b : List ℕ) (place : ℕ) (digest : Bool) (list : List Attached) (k : ℕ) (a : Attached) → counted k list ≡ Some a → IsPart eol (counted k (parts_placed place true digest (parts_of eol b list))) a
+parts_are eol b place digest [] k a e = absurd cc
+parts_are eol b place digest (x ∷ list) zero a e = absurd cc
+parts_are eol b place digest (x ∷ list) (suc zero) a e = record {
+  place = record { start = place + size (delimiter_line eol b ∷ []); followed = has_part (parts_of eol b list) || true; digest = digest; entity = part_entity eol x };
+  found = refl;
+  entity_is = ap (part_entity eol) (first_is x a e);
+}
+parts_are eol b place digest (x ∷ list) (suc (suc k)) a e =
+    parts_are eol b (place + size (delimiter_line eol b ∷ []) + size (print (part_entity eol x))) digest list (suc k) a e
+
 parts_count : (eol : Ending) (b : List ℕ) (place : ℕ) (digest : Bool) (list : List Attached) → length (parts_placed place true digest (parts_of eol b list)) ≡ length list
 parts_count eol b place digest [] = refl
 parts_count eol b place digest (a ∷ list) = ap suc (parts_count eol b (place + size (delimiter_line eol b ∷ []) + size (print (part_entity eol a))) digest list)
@@ -247,13 +264,31 @@ closed_eol Crlf h = refl
 closed_eol Lf h = refl
 closed_eol Missing h = absurd (h refl)
 
-pub built_messages_lem : BuiltMessagesGiveBack
-built_messages_lem eol fields parts boundary is small none =
+-- what is known of a message that is built
+pub record IsBuilt (eol : Ending) (fields : List (List ℕ)) (parts : List Attached) (boundary : List ℕ) : Type 0 where
+  pub closed : is_open eol ≡ false
+  pub good : AreGood parts
+  pub read : tree (built eol fields parts boundary) ≡ record { envelope = None; root = root_entity eol fields boundary parts }
+
+pub is_built : (eol : Ending) (fields : List (List ℕ)) (parts : List Attached) (boundary : List ℕ) → eol ≢ Missing → HaveBytes parts → build_refusal fields parts boundary ≡ None → IsBuilt eol fields parts boundary
+is_built eol fields parts boundary is small none =
     let c = closed_eol eol is in
     let p = none_at build.BadField (first_failing is_free_field fields) _ none in
     let q = none_at build.BadType (first_failing (λ (a : Attached). is_media a.media) parts) _ p.1 in
     let r = none_at build.BadName (first_failing (λ (a : Attached). is_name_or_none a.name) parts) _ q.1 in
     let m = may_bound boundary (bounded (is_boundary boundary) r.1) in
-    let free = free_fields fields p.0 in
     let good = good_parts parts q.0 r.0 small in
-    subst (GivesBack parts) (sym (read_built eol fields boundary parts c m free good)) (gives_back eol fields boundary parts c good)
+    record { closed = c; good = good; read = read_built eol fields boundary parts c m (free_fields fields p.0) good }
+
+-- the k-th part of a built message
+pub part_at : (eol : Ending) (fields : List (List ℕ)) (b : List ℕ) (list : List Attached) (k : ℕ) (a : Attached) → counted k list ≡ Some a
+    → IsPart eol (section_at (1 ∷ k ∷ []) (record { envelope = None; root = root_entity eol fields b list })) a
+part_at eol fields b list k a e =
+    let t : Document = record { envelope = None; root = root_entity eol fields b list } in
+    let p = parts_are eol b _ _ list k a e in
+    record { place = p.place; found = ap (option_and_then (section_below [])) p.found; entity_is = p.entity_is }
+
+pub built_messages_lem : BuiltMessagesGiveBack
+built_messages_lem eol fields parts boundary is small none =
+    let b = is_built eol fields parts boundary is small none in
+    subst (GivesBack parts) (sym b.read) (gives_back eol fields boundary parts b.closed b.good)

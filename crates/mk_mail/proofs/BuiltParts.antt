@@ -1,5 +1,6 @@
 -- A part of a built message: its lines, that they are read back, and what it holds.
-use Rattle.std.proofs.Common.{◌≡◌, ◌≢◌, ◌==◌, ◌&&◌, ◌++◌, if◌then◌else◌, ℕ, suc, Bool, true, false, not, Option, None, Some, List, [], ◌∷◌, refl, ap, sym, ◌∙◌, subst, append_assoc, codes, length, nat_le}
+use Rattle.std.proofs.Common.{◌≡◌, ◌≢◌, ◌==◌, ◌&&◌, ◌++◌, ◌+◌, ◌/◌, ◌%◌, ◌<◌, if◌then◌else◌, ℕ, suc, Bool, true, false, not, Option, None, Some, List, [], ◌∷◌, refl, ap, sym, ◌∙◌, subst, append_assoc, codes, length, nat_le, nat_lt, arith, inl, inr}
+use Rattle.std.proofs.lemmas.Bool.{cases_Bool, ne_eqb}
 use Rattle.std.proofs.lemmas.List.Folds.{list_all-append}
 use Rattle.std.specs.List.{list_all}
 use Rattle.mk_line.specs.declared.cutting.Ending.{Ending}
@@ -15,7 +16,8 @@ use Rattle.mk_head.specs.Values.{is_token, is_token_byte}
 use Rattle.mk_line.specs.Parting.{before, behind}
 use Rattle.mk_code.specs.Contents.{IsContent}
 use Rattle.mk_code.specs.Base64Text.{base64_encoded}
-use Rattle.mk_code.specs.QuotedPrintable.{qp_encoded}
+use Rattle.mk_code.specs.QuotedPrintable.{hex_digit, qp_encoded}
+use Rattle.mk_param.specs.Percents.{byte_encoded, is_attribute_byte, percent_encoded}
 use Rattle.mk_code.proofs.Base64Laws.{base64_back}
 use Rattle.mk_code.proofs.Base64Safe.{base64_safe}
 use Rattle.mk_code.proofs.NoReturns.{base64_others, is_other, qp_others}
@@ -27,7 +29,7 @@ use Rattle.mk_tree.specs.Reading.{IsWellRead}
 use Rattle.mk_tree.specs.Tree.{Entity, leaf, print}
 use Rattle.mk_tree.proofs.Plugs.{unmarked_join}
 use Rattle.mk_decide.proofs.Bounds.{made_line}
-use Rattle.mk_build.specs.Building.{Attached, attached, disposition_line, encoded, encoding_line, encoding_name, is_media, is_name, is_name_byte, is_name_or_none, is_single, is_subtype, longest, name_param}
+use Rattle.mk_build.specs.Building.{Attached, attached, disposition_line, encoded, encoding_line, encoding_name, is_media, is_name, is_name_byte, is_name_or_none, is_single, is_subtype, longest, name_param, said_param}
 use Rattle.mk_mail.specs.BuiltLaws.{AreBytes}
 use Rattle.mk_view.specs.Extracts.{IsContentOf}
 use Rattle.mk_mail.proofs.BuiltBodies.{AreFree, body_content, free_ended, free_unmarked, safe_free}
@@ -38,15 +40,15 @@ use Rattle.mk_mail.proofs.PartTypes.{both, differs, part_kind, parted}
 abbrev pub part_type : Ending → List ℕ → Option (List ℕ) → TextLine
 part_type eol media name = text_line (codes "Content-Type: " ++ (media ++ name_param name)) eol
 
-abbrev pub disposition : Ending → Option (List ℕ) → List TextLine
-disposition eol None = []
-disposition eol (Some name) = text_line (codes "Content-Disposition: attachment; filename=\"" ++ (name ++ codes "\"")) eol ∷ []
+abbrev pub disposition : Ending → Option (List ℕ) → Option (List ℕ) → List TextLine
+disposition eol None said = []
+disposition eol (Some name) said = text_line (codes "Content-Disposition: attachment; filename=\"" ++ (name ++ (codes "\"" ++ said_param said))) eol ∷ []
 
 abbrev pub part_encoding : Ending → Bool → TextLine
 part_encoding eol base64 = text_line (codes "Content-Transfer-Encoding: " ++ encoding_name base64) eol
 
-abbrev pub part_fields : Ending → List ℕ → Option (List ℕ) → Bool → List TextLine
-part_fields eol media name base64 = part_type eol media name ∷ (disposition eol name ++ (part_encoding eol base64 ∷ []))
+abbrev pub part_fields : Ending → List ℕ → Option (List ℕ) → Option (List ℕ) → Bool → List TextLine
+part_fields eol media name said base64 = part_type eol media name ∷ (disposition eol name said ++ (part_encoding eol base64 ∷ []))
 
 abbrev pub empty_line : Ending → TextLine
 empty_line eol = text_line [] eol
@@ -56,31 +58,31 @@ part_body eol a = cut (encoded eol a ++ ending_bytes eol)
 
 -- the part as an entity
 abbrev pub part_entity : Ending → Attached → Entity
-part_entity eol a = leaf (record { fields = part_fields eol a.media a.name a.base64; separator = Some (empty_line eol) }) (part_body eol a)
+part_entity eol a = leaf (record { fields = part_fields eol a.media a.name a.said a.base64; separator = Some (empty_line eol) }) (part_body eol a)
 
 without_name : (t m e c n bytes : List ℕ)
     → (((t ++ (m ++ [])) ++ e) ++ (((c ++ n) ++ e) ++ (([] ++ e) ++ []))) ++ (bytes ++ e)
     ≡ ((t ++ (m ++ ([] ++ e))) ++ ([] ++ ((c ++ (n ++ e)) ++ (e ++ bytes)))) ++ e
 without_name t m e c n bytes = simp append_assoc
 
-with_name : (t m p name q e d c n bytes : List ℕ)
-    → (((t ++ (m ++ (p ++ (name ++ q)))) ++ e) ++ (((d ++ (name ++ q)) ++ e) ++ (((c ++ n) ++ e) ++ (([] ++ e) ++ [])))) ++ (bytes ++ e)
-    ≡ ((t ++ (m ++ ((p ++ (name ++ q)) ++ e))) ++ ((d ++ (name ++ (q ++ e))) ++ ((c ++ (n ++ e)) ++ (e ++ bytes)))) ++ e
-with_name t m p name q e d c n bytes = simp append_assoc
+with_name : (t m p name q s e d c n bytes : List ℕ)
+    → (((t ++ (m ++ (p ++ (name ++ q)))) ++ e) ++ (((d ++ (name ++ (q ++ s))) ++ e) ++ (((c ++ n) ++ e) ++ (([] ++ e) ++ [])))) ++ (bytes ++ e)
+    ≡ ((t ++ (m ++ ((p ++ (name ++ q)) ++ e))) ++ ((d ++ (name ++ (q ++ (s ++ e)))) ++ ((c ++ (n ++ e)) ++ (e ++ bytes)))) ++ e
+with_name t m p name q s e d c n bytes = simp append_assoc
 
 -- its text
-text_by : (eol : Ending) (media : List ℕ) (name : Option (List ℕ)) (base64 : Bool) (bytes body : List ℕ) → body ≡ bytes ++ ending_bytes eol
-    → text_of (part_fields eol media name base64 ++ (empty_line eol ∷ [])) ++ body
-    ≡ ((codes "Content-Type: " ++ (media ++ (name_param name ++ ending_bytes eol))) ++ (disposition_line eol name ++ (encoding_line eol base64 ++ (ending_bytes eol ++ bytes)))) ++ ending_bytes eol
-text_by eol media None base64 bytes body h =
+text_by : (eol : Ending) (media : List ℕ) (name said : Option (List ℕ)) (base64 : Bool) (bytes body : List ℕ) → body ≡ bytes ++ ending_bytes eol
+    → text_of (part_fields eol media name said base64 ++ (empty_line eol ∷ [])) ++ body
+    ≡ ((codes "Content-Type: " ++ (media ++ (name_param name ++ ending_bytes eol))) ++ (disposition_line eol name said ++ (encoding_line eol base64 ++ (ending_bytes eol ++ bytes)))) ++ ending_bytes eol
+text_by eol media None said base64 bytes body h =
     rw h (without_name (codes "Content-Type: ") media (ending_bytes eol) (codes "Content-Transfer-Encoding: ") (encoding_name base64) bytes)
-text_by eol media (Some name) base64 bytes body h =
-    rw h (with_name (codes "Content-Type: ") media (codes "; name=\"") name (codes "\"") (ending_bytes eol) (codes "Content-Disposition: attachment; filename=\"") (codes "Content-Transfer-Encoding: ") (encoding_name base64) bytes)
+text_by eol media (Some name) said base64 bytes body h =
+    rw h (with_name (codes "Content-Type: ") media (codes "; name=\"") name (codes "\"") (said_param said) (ending_bytes eol) (codes "Content-Disposition: attachment; filename=\"") (codes "Content-Transfer-Encoding: ") (encoding_name base64) bytes)
 
 pub part_text : (eol : Ending) (a : Attached) → text_of (print (part_entity eol a)) ≡ attached eol a ++ ending_bytes eol
 part_text eol a =
-    text_append (part_fields eol a.media a.name a.base64 ++ (empty_line eol ∷ [])) (part_body eol a)
-    ∙ text_by eol a.media a.name a.base64 (encoded eol a) (text_of (part_body eol a)) (text_cut (encoded eol a ++ ending_bytes eol))
+    text_append (part_fields eol a.media a.name a.said a.base64 ++ (empty_line eol ∷ [])) (part_body eol a)
+    ∙ text_by eol a.media a.name a.said a.base64 (encoded eol a) (text_of (part_body eol a)) (text_cut (encoded eol a ++ ending_bytes eol))
 
 -- bytes that are no part of an ending
 abbrev is_inner : ℕ → Bool
@@ -137,6 +139,32 @@ param_inner : (name : Option (List ℕ)) → is_name_or_none name ≡ true → l
 param_inner None h = refl
 param_inner (Some name) h = inner_join (codes "; name=\"") (name ++ codes "\"") refl (inner_join name (codes "\"") (name_inner name h) refl)
 
+-- and those of a name as people write it
+digit_inner : (value : ℕ) → is_inner (hex_digit value) ≡ true
+digit_inner value = by_size (nat_lt value 10)
+  where
+    past : (n : ℕ) → 13 < n → is_inner n ≡ true
+    past n l = rw (ne_eqb n 10 (λ e. absurd (omega (arith, e, l))), ne_eqb n 13 (λ e. absurd (omega (arith, e, l)))) refl
+
+    by_size : (small : Bool) → is_inner (if small then 48 + value else 55 + value) ≡ true
+    by_size true = past (48 + value) (omega arith)
+    by_size false = past (55 + value) (omega arith)
+
+byte_inner : (byte : ℕ) → list_all is_inner (byte_encoded byte) ≡ true
+byte_inner byte =
+    elim (cases_Bool (is_attribute_byte byte)) [
+      | inl t ↦ rw (t, differs is_attribute_byte byte 10 t refl, differs is_attribute_byte byte 13 t refl) refl
+      | inr f ↦ rw (f, digit_inner (byte / 16), digit_inner (byte % 16)) refl
+    ]
+
+percent_inner : (bytes : List ℕ) → list_all is_inner (percent_encoded bytes) ≡ true
+percent_inner [] = refl
+percent_inner (byte ∷ bytes) = inner_join (byte_encoded byte) (percent_encoded bytes) (byte_inner byte) (percent_inner bytes)
+
+said_inner : (said : Option (List ℕ)) → list_all is_inner (said_param said) ≡ true
+said_inner None = refl
+said_inner (Some said) = inner_join (codes "; filename*=utf-8''") (percent_encoded said) refl (percent_inner said)
+
 -- its lines are lines, and none is open
 pub record AreFull (ls : List TextLine) : Type 0 where
   pub lines : AreLines ls
@@ -151,35 +179,38 @@ full_one content eol c h = record { lines = (h, (λ _. refl), tt); closed = (c, 
 pub full_none : AreFull []
 full_none = record { lines = tt; closed = tt }
 
-disposition_full : (eol : Ending) (name : Option (List ℕ)) → is_open eol ≡ false → is_name_or_none name ≡ true → AreFull (disposition eol name)
-disposition_full eol None c h = full_none
-disposition_full eol (Some name) c h =
-    let content = codes "Content-Disposition: attachment; filename=\"" ++ (name ++ codes "\"") in
-    full_one content eol c (inner_line eol content c (inner_join (codes "Content-Disposition: attachment; filename=\"") (name ++ codes "\"") refl (inner_join name (codes "\"") (name_inner name h) refl)))
+disposition_full : (eol : Ending) (name said : Option (List ℕ)) → is_open eol ≡ false → is_name_or_none name ≡ true → AreFull (disposition eol name said)
+disposition_full eol None said c h = full_none
+disposition_full eol (Some name) said c h =
+    let content = codes "Content-Disposition: attachment; filename=\"" ++ (name ++ (codes "\"" ++ said_param said)) in
+    full_one content eol c
+    (inner_line eol content c
+    (inner_join (codes "Content-Disposition: attachment; filename=\"") (name ++ (codes "\"" ++ said_param said)) refl
+    (inner_join name (codes "\"" ++ said_param said) (name_inner name h) (inner_join (codes "\"") (said_param said) refl (said_inner said)))))
 
 encoding_inner : (base64 : Bool) → list_all is_inner (codes "Content-Transfer-Encoding: " ++ encoding_name base64) ≡ true
 encoding_inner true = refl
 encoding_inner false = refl
 
-fields_full : (eol : Ending) (media : List ℕ) (name : Option (List ℕ)) (base64 : Bool) → is_open eol ≡ false → is_media media ≡ true → is_name_or_none name ≡ true → AreFull (part_fields eol media name base64)
-fields_full eol media name base64 c h n =
+fields_full : (eol : Ending) (media : List ℕ) (name said : Option (List ℕ)) (base64 : Bool) → is_open eol ≡ false → is_media media ≡ true → is_name_or_none name ≡ true → AreFull (part_fields eol media name said base64)
+fields_full eol media name said base64 c h n =
     let content = codes "Content-Type: " ++ (media ++ name_param name) in
-    full_join (part_type eol media name ∷ []) (disposition eol name ++ (part_encoding eol base64 ∷ []))
+    full_join (part_type eol media name ∷ []) (disposition eol name said ++ (part_encoding eol base64 ∷ []))
     (full_one content eol c (inner_line eol content c (inner_join (codes "Content-Type: ") (media ++ name_param name) refl (inner_join media (name_param name) (media_inner media h) (param_inner name n)))))
-    (full_join (disposition eol name) (part_encoding eol base64 ∷ []) (disposition_full eol name c n)
+    (full_join (disposition eol name said) (part_encoding eol base64 ∷ []) (disposition_full eol name said c n)
     (full_one (codes "Content-Transfer-Encoding: " ++ encoding_name base64) eol c (inner_line eol (codes "Content-Transfer-Encoding: " ++ encoding_name base64) c (encoding_inner base64))))
 
 pub part_full : (eol : Ending) (a : Attached) → is_open eol ≡ false → is_media a.media ≡ true → is_name_or_none a.name ≡ true → AreLines (print (part_entity eol a)) × AreClosed (print (part_entity eol a))
 part_full eol a c h n =
-    let head = full_join (part_fields eol a.media a.name a.base64) (empty_line eol ∷ []) (fields_full eol a.media a.name a.base64 c h n) (full_one [] eol c (inner_line eol [] c refl)) in
+    let head = full_join (part_fields eol a.media a.name a.said a.base64) (empty_line eol ∷ []) (fields_full eol a.media a.name a.said a.base64 c h n) (full_one [] eol c (inner_line eol [] c refl)) in
     let body : AreFull (part_body eol a) = record { lines = lines_cut (encoded eol a ++ ending_bytes eol); closed = some_closed (part_body eol a) (cut_ended (encoded eol a) eol c) } in
-    let all = full_join (part_fields eol a.media a.name a.base64 ++ (empty_line eol ∷ [])) (part_body eol a) head body in
+    let all = full_join (part_fields eol a.media a.name a.said a.base64 ++ (empty_line eol ∷ [])) (part_body eol a) head body in
     (all.lines, all.closed)
 
 -- no line of it is a mark
-fields_free : (eol : Ending) (media : List ℕ) (name : Option (List ℕ)) (base64 : Bool) → AreFree (part_fields eol media name base64 ++ (empty_line eol ∷ []))
-fields_free eol media None base64 = (refl, (refl, (refl, tt)))
-fields_free eol media (Some name) base64 = (refl, (refl, (refl, (refl, tt))))
+fields_free : (eol : Ending) (media : List ℕ) (name said : Option (List ℕ)) (base64 : Bool) → AreFree (part_fields eol media name said base64 ++ (empty_line eol ∷ []))
+fields_free eol media None said base64 = (refl, (refl, (refl, tt)))
+fields_free eol media (Some name) said base64 = (refl, (refl, (refl, (refl, tt))))
 
 not_missing : (eol : Ending) → is_open eol ≡ false → eol ≢ Missing
 not_missing Crlf c e = cc
@@ -195,39 +226,39 @@ part_free b eol a c small =
     let is = not_missing eol c in
     let safe : AreFree (cut (encoded eol a)) =
     encoded_by a.base64 (λ xs. AreFree (cut xs)) (base64_encoded eol a.text) (qp_encoded eol a.text) (λ _. safe_free (cut (base64_encoded eol a.text)) (base64_safe eol a.text is small)) (λ _. safe_free (cut (qp_encoded eol a.text)) (qp_safe eol a.text is small)) in
-    unmarked_join b (part_fields eol a.media a.name a.base64 ++ (empty_line eol ∷ [])) (part_body eol a)
-    (free_unmarked b (part_fields eol a.media a.name a.base64 ++ (empty_line eol ∷ [])) (fields_free eol a.media a.name a.base64))
+    unmarked_join b (part_fields eol a.media a.name a.said a.base64 ++ (empty_line eol ∷ [])) (part_body eol a)
+    (free_unmarked b (part_fields eol a.media a.name a.said a.base64 ++ (empty_line eol ∷ [])) (fields_free eol a.media a.name a.said a.base64))
     (free_unmarked b (part_body eol a) (free_ended (encoded eol a) eol c safe))
 
 -- what its fields say
-type_value : (eol : Ending) (media : List ℕ) (name : Option (List ℕ)) (base64 : Bool) → field_value (codes "Content-Type") (part_fields eol media name base64) ≡ Some (32 ∷ (media ++ name_param name))
-type_value eol media None base64 = ap (λ cs. Some (or_nothing (behind 58 cs))) (append_nil (codes "Content-Type: " ++ (media ++ name_param None)))
-type_value eol media (Some name) base64 = ap (λ cs. Some (or_nothing (behind 58 cs))) (append_nil (codes "Content-Type: " ++ (media ++ name_param (Some name))))
+type_value : (eol : Ending) (media : List ℕ) (name said : Option (List ℕ)) (base64 : Bool) → field_value (codes "Content-Type") (part_fields eol media name said base64) ≡ Some (32 ∷ (media ++ name_param name))
+type_value eol media None said base64 = ap (λ cs. Some (or_nothing (behind 58 cs))) (append_nil (codes "Content-Type: " ++ (media ++ name_param None)))
+type_value eol media (Some name) said base64 = ap (λ cs. Some (or_nothing (behind 58 cs))) (append_nil (codes "Content-Type: " ++ (media ++ name_param (Some name))))
 
 -- the encoding that is named
 abbrev coding : Bool → Encoding
 coding true = Base64
 coding false = Qp
 
-says_encoding : (eol : Ending) (media : List ℕ) (name : Option (List ℕ)) (base64 : Bool) → header_encoding (part_fields eol media name base64) ≡ coding base64
-says_encoding eol media None true = refl
-says_encoding eol media None false = refl
-says_encoding eol media (Some name) true = refl
-says_encoding eol media (Some name) false = refl
+says_encoding : (eol : Ending) (media : List ℕ) (name said : Option (List ℕ)) (base64 : Bool) → header_encoding (part_fields eol media name said base64) ≡ coding base64
+says_encoding eol media None said true = refl
+says_encoding eol media None said false = refl
+says_encoding eol media (Some name) said true = refl
+says_encoding eol media (Some name) said false = refl
 
-fields_kind : (digest : Bool) (eol : Ending) (media : List ℕ) (name : Option (List ℕ)) (base64 : Bool) → is_media media ≡ true → is_name_or_none name ≡ true → kind (part_fields eol media name base64) digest ≡ Leaf
+fields_kind : (digest : Bool) (eol : Ending) (media : List ℕ) (name said : Option (List ℕ)) (base64 : Bool) → is_media media ≡ true → is_name_or_none name ≡ true → kind (part_fields eol media name said base64) digest ≡ Leaf
 unfolding kind
-fields_kind digest eol media name base64 h n =
-    ap (λ o. kind_of (type_by digest o) (header_encoding (part_fields eol media name base64))) (type_value eol media name base64)
-    ∙ part_kind digest (header_encoding (part_fields eol media name base64)) media name h n
+fields_kind digest eol media name said base64 h n =
+    ap (λ o. kind_of (type_by digest o) (header_encoding (part_fields eol media name said base64))) (type_value eol media name said base64)
+    ∙ part_kind digest (header_encoding (part_fields eol media name said base64)) media name h n
 
-fields_run : (eol : Ending) (media : List ℕ) (name : Option (List ℕ)) (base64 : Bool) → IsRun false (part_fields eol media name base64)
-fields_run eol media None base64 = (refl, (refl, tt))
-fields_run eol media (Some name) base64 = (refl, (refl, (refl, tt)))
+fields_run : (eol : Ending) (media : List ℕ) (name said : Option (List ℕ)) (base64 : Bool) → IsRun false (part_fields eol media name said base64)
+fields_run eol media None said base64 = (refl, (refl, tt))
+fields_run eol media (Some name) said base64 = (refl, (refl, (refl, tt)))
 
 -- it is read back
 pub part_read : (n : ℕ) (digest : Bool) (eol : Ending) (a : Attached) → is_media a.media ≡ true → is_name_or_none a.name ≡ true → IsWellRead (suc n) digest (part_entity eol a)
-part_read n digest eol a h k = (record { run = fields_run eol a.media a.name a.base64; next = refl }, fields_kind digest eol a.media a.name a.base64 h k)
+part_read n digest eol a h k = (record { run = fields_run eol a.media a.name a.said a.base64; next = refl }, fields_kind digest eol a.media a.name a.said a.base64 h k)
 
 no_returns : (eol : Ending) (a : Attached) → AreBytes a.text → eol ≡ Lf → list_all is_other (encoded eol a) ≡ true
 no_returns eol a small e =
@@ -241,4 +272,4 @@ content_by eol false text c small = sym (qp_back eol text (not_missing eol c) sm
 -- the content of the part, where lines stand after it, is what was attached
 pub part_content : (start : ℕ) (digest : Bool) (eol : Ending) (a : Attached) → is_open eol ≡ false → AreBytes a.text → IsContentOf (record { start = start; followed = true; digest = digest; entity = part_entity eol a }) a.text
 part_content start digest eol a c small =
-    rw (says_encoding eol a.media a.name a.base64, body_content (encoded eol a) eol c (no_returns eol a small)) (content_by eol a.base64 a.text c small)
+    rw (says_encoding eol a.media a.name a.said a.base64, body_content (encoded eol a) eol c (no_returns eol a small)) (content_by eol a.base64 a.text c small)

@@ -5,6 +5,8 @@ pub mod FieldLines
 pub mod BuiltFields
 pub mod BuiltParts
 pub mod BuiltMessages
+pub mod SaidNames
+pub mod BuiltNames
 pub mod FieldNames
 pub mod MailChains
 pub mod FilteredMail

@@ -30,32 +30,32 @@ differs f c d h k =
     ]
 
 -- outside quotes such a byte neither opens nor ends anything, and is no blank
-abbrev Simple : List ℕ → Type 0
+abbrev pub Simple : List ℕ → Type 0
 Simple [] = Unit {0}
 Simple (c ∷ cs) = ((c == 34) ≡ false) × ((c == 40) ≡ false) × ((c == 59) ≡ false) × ((c == 47) ≡ false) × (is_blank c ≡ false) × Simple cs
 
 -- inside quotes such a byte stands for itself
-abbrev InQuotes : List ℕ → Type 0
+abbrev pub InQuotes : List ℕ → Type 0
 InQuotes [] = Unit {0}
 InQuotes (c ∷ cs) = ((c == 34) ≡ false) × ((c == 92) ≡ false) × InQuotes cs
 
 no_blank : (c : ℕ) → is_token_byte c ≡ true → is_blank c ≡ false
 no_blank c h = rw (differs is_token_byte c 32 h refl, differs is_token_byte c 9 h refl) refl
 
-token_simple : (cs : List ℕ) → list_all is_token_byte cs ≡ true → Simple cs
+pub token_simple : (cs : List ℕ) → list_all is_token_byte cs ≡ true → Simple cs
 token_simple [] h = tt
 token_simple (c ∷ cs) h =
     let p = both (is_token_byte c) (list_all is_token_byte cs) h in
     (differs is_token_byte c 34 p.0 refl, differs is_token_byte c 40 p.0 refl, differs is_token_byte c 59 p.0 refl, differs is_token_byte c 47 p.0 refl, no_blank c p.0, token_simple cs p.1)
 
-name_quotes : (cs : List ℕ) → list_all is_name_byte cs ≡ true → InQuotes cs
+pub name_quotes : (cs : List ℕ) → list_all is_name_byte cs ≡ true → InQuotes cs
 name_quotes [] h = tt
 name_quotes (c ∷ cs) h =
     let p = both (is_name_byte c) (list_all is_name_byte cs) h in
     (differs is_name_byte c 34 p.0 refl, differs is_name_byte c 92 p.0 refl, name_quotes cs p.1)
 
 -- without comments
-plain_uncommented : (cs rest : List ℕ) → Simple cs → uncommented Plain (cs ++ rest) ≡ cs ++ uncommented Plain rest
+pub plain_uncommented : (cs rest : List ℕ) → Simple cs → uncommented Plain (cs ++ rest) ≡ cs ++ uncommented Plain rest
 plain_uncommented [] rest h = refl
 plain_uncommented (c ∷ cs) rest h = rw (h.0, h.1) (ap (λ xs. c ∷ xs) (plain_uncommented cs rest h.5))
 
@@ -64,7 +64,7 @@ quoted_uncommented [] h = refl
 quoted_uncommented (c ∷ cs) h = rw (h.1, h.0) (ap (λ xs. c ∷ xs) (quoted_uncommented cs h.2))
 
 -- the pieces
-plain_pieces : (cs rest x : List ℕ) (ps : List (List ℕ)) → Simple cs → pieces Plain rest ≡ x ∷ ps → pieces Plain (cs ++ rest) ≡ (cs ++ x) ∷ ps
+pub plain_pieces : (cs rest x : List ℕ) (ps : List (List ℕ)) → Simple cs → pieces Plain rest ≡ x ∷ ps → pieces Plain (cs ++ rest) ≡ (cs ++ x) ∷ ps
 plain_pieces [] rest x ps h e = e
 plain_pieces (c ∷ cs) rest x ps h e = rw (h.2, h.0, h.1) (ap (push_first c) (plain_pieces cs rest x ps h.5 e))
 
@@ -104,7 +104,7 @@ kept_front : (c : ℕ) (xs : List ℕ) → is_nil xs ≡ false → trimmed xs �
 kept_front c [] n h = absurd cc
 kept_front c (d ∷ ds) n h = ap (trimmed_before c) h
 
-simple_trimmed : (cs : List ℕ) → Simple cs → trimmed cs ≡ cs
+pub simple_trimmed : (cs : List ℕ) → Simple cs → trimmed cs ≡ cs
 simple_trimmed [] h = refl
 simple_trimmed (c ∷ []) h = rw h.4 refl
 simple_trimmed (c ∷ d ∷ cs) h = kept_front c (d ∷ cs) refl (simple_trimmed (d ∷ cs) h.5)

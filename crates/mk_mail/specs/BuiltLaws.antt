@@ -1,5 +1,6 @@
 -- A message that was built gives back what was attached (own).
-use Rattle.std.specs.Prelude.{◌≡◌, ◌≢◌, ◌<◌, ℕ, None, Some, List, [], ◌∷◌, length, slice_index}
+use Rattle.std.specs.Prelude.{◌≡◌, ◌≢◌, ◌<◌, ℕ, None, Some, List, [], ◌∷◌, length, map, nat_lt, slice_index, true}
+use Rattle.std.specs.List.{list_all}
 use Rattle.mk_line.specs.declared.cutting.Ending.{Ending}
 use Rattle.mk_line.specs.declared.cutting.Ending.TheVariants.{Missing}
 use Rattle.mk_head.specs.Fields.{counted}
@@ -7,8 +8,9 @@ use Rattle.mk_tree.specs.declared.shapes.Kind.TheVariants.{Multi}
 use Rattle.mk_tree.specs.Documents.{Document, tree}
 use Rattle.mk_tree.specs.Forms.{kind_in}
 use Rattle.mk_tree.specs.Sections.{Placed, children, section_at}
-use Rattle.mk_build.specs.Building.{Attached, build_refusal, built}
+use Rattle.mk_build.specs.Building.{Attached, build_refusal, built, is_said, named_in_utf8}
 use Rattle.mk_view.specs.Extracts.{IsExtract}
+use Rattle.mk_view.specs.TextNames.{text_name}
 
 -- all of them are bytes
 abbrev pub AreBytes : List ℕ → Type 0
@@ -31,3 +33,10 @@ pub record GivesBack (parts : List Attached) (t : Document) : Type 0 where
 abbrev pub BuiltMessagesGiveBack : Type 0
 BuiltMessagesGiveBack = (eol : Ending) (fields : List (List ℕ)) (parts : List Attached) (boundary : List ℕ) → eol ≢ Missing → HaveBytes parts
     → build_refusal fields parts boundary ≡ None → GivesBack parts (tree (built eol fields parts boundary))
+
+-- a file whose name is written as people write it has just that name in each message that is built in UTF-8
+abbrev pub BuiltNamesAreSaid : Type 0
+BuiltNamesAreSaid = (eol : Ending) (fields : List (List ℕ)) (files : List Attached) (boundary : List ℕ) → eol ≢ Missing → HaveBytes (map named_in_utf8 files)
+    → build_refusal fields (map named_in_utf8 files) boundary ≡ None
+    → (k : ℕ) (a : Attached) (name : List ℕ) (p : Placed) → counted k files ≡ Some a → a.name ≡ Some name → is_said name ≡ true → list_all (λ byte. nat_lt byte 256) name ≡ true
+    → section_at (1 ∷ k ∷ []) (tree (built eol fields (map named_in_utf8 files) boundary)) ≡ Some p → text_name p ≡ Some name

@@ -1,6 +1,6 @@
 //! Laws of built messages, letters and mailboxes, over the definitions alone: each a function with an empty body whose
 //! clause is the law.
-ghost use Rattle.mk_mail.specs.BuiltLaws.{BuiltMessagesGiveBack};
+ghost use Rattle.mk_mail.specs.BuiltLaws.{BuiltMessagesGiveBack, BuiltNamesAreSaid};
 ghost use Rattle.mk_mail.specs.Filtered.{FilteredStayApart};
 
 pub use mk_mailbox::laws::{
@@ -12,6 +12,11 @@ pub use mk_mailbox::laws::{
 /// the k-th text, whatever the texts and the line ending are.
 pub fn built_messages_give_back()
     ensures { BuiltMessagesGiveBack }
+{}
+
+/// The part of a file whose name is written as people write it has just that name, in each message that is built in UTF-8.
+pub fn built_names_are_said()
+    ensures { BuiltNamesAreSaid }
 {}
 
 /// The messages of a mailbox, each filtered by letters, are a mailbox of these messages: none is cut in two and no two

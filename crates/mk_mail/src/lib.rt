@@ -8,8 +8,9 @@ pub mod laws;
 mod letters;
 
 pub use letters::{Letters, field_edits};
-pub use mk_build::{Attach, AttachError, BuildError, attach, build};
+pub use mk_build::{Attach, AttachError, BuildError, attach, build, build_in_utf8};
 pub use mk_mailbox::{Fault, MailFault, Mailbox, Sink, Source};
 pub use mk_view::{
-    ExtractError, Leaf, content, extract, leaves, list, names, numbered, push_path, push_type,
+    ExtractError, Leaf, NameForm, content, extract, leaves, leaves_in, list, names, numbered,
+    push_path, push_type,
 };

@@ -5,6 +5,7 @@ mod edits;
 mod letters;
 mod mailboxes;
 mod memory;
+mod text_names;
 
 use calls::{Call, check};
 use std::test::Fail;

@@ -90,8 +90,8 @@ fn extracted(alloc: Global, row: &Row) -> Result<Vec<u8>, Fail> {
     }
 }
 
-// Adds the path and the name of a leaf.
-fn push_leaf(
+/// Adds the path and the name of a leaf.
+pub fn push_leaf(
     alloc: Global,
     text: &mut Vec<u8>,
     path: &[u32],
