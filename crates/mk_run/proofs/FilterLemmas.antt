@@ -3,7 +3,8 @@ use Rattle.std.proofs.Common.{◌≡◌, ◌≤◌, ◌+◌, ◌-◌, ◌*◌, l
 use Rattle.std.proofs.KnownBytes.{Appends-kept, Appends-nil, Appends-trans}
 use Rattle.std.specs.Io.KnownBytes.{Appends, Keeps}
 use Rattle.std.specs.List.{flat_map}
-use Rattle.mk_line.specs.Lines.{cut, is_nil}
+use Rattle.std.proofs.lemmas.Bool.{and_parts}
+use Rattle.mk_line.specs.Lines.{cut, eol_of, is_lf, is_nil}
 use Rattle.mk_decide.specs.declared.errors.EditError.{EditError}
 use Rattle.mk_decide.specs.Answers.{is_unnamed, refusal_of}
 use Rattle.mk_edit.specs.Answers.{IsGroupRefusedBy}
@@ -19,7 +20,7 @@ use Rattle.mk_tree.specs.Sections.{head_text, root_of, section_fields}
 use Rattle.mk_mailbox.specs.Devices.{AppendsFront, IsFull, IsLong, Rose}
 use Rattle.mk_mail.specs.Filtered.{outcome, text_left}
 use Rattle.mk_mailbox.specs.Held.{Held as Kept}
-use Rattle.mk_mail.specs.Letters.{PlainLetters, edits_of}
+use Rattle.mk_mail.specs.Letters.{PlainLetters, are_allowed, edits_of}
 use Rattle.mk_mailbox.specs.Mailboxes.{FitsReads, IsKnownWhole, IsNextPiece, IsOver, chunk_bytes}
 use Rattle.mk_mailbox.specs.Pieces.{mailbox_pieces}
 use Rattle.mk_mail.proofs.FieldNames.{root_fields}
@@ -30,7 +31,8 @@ use Rattle.mk_transfer.specs.declared.status.Cause.TheVariants.{Read, Write, Mem
 use Rattle.mk_transfer.specs.declared.transfer.Stop.{Stop}
 use Rattle.mk_transfer.specs.declared.transfer.Stop.TheVariants.{Fault as Stopped, Memory as Wanting}
 use Rattle.mk_run.specs.FilterClauses.{EndsFiltered, Filters, GivesKnown, IsBroken, IsEdited, IsFiltered, IsReason, SaysAll, SaysSome}
-use Rattle.mk_run.specs.Filtering.{given_by, message_line, report_of, said_from, said_of, said_of_edits, said_or}
+use Rattle.mk_run.specs.FilterViews.{is_allowed}
+use Rattle.mk_run.specs.Filtering.{PlainFilter, given_by, letters_for, message_line, report_of, said_by, said_from, said_of, said_of_edits, said_or}
 use Rattle.mk_transfer.specs.RunClauses.{Counts, Held, IsBlamed, IsSent, IsStopped, Reason, WriteFailed, cause_of_writing, held, status_of}
 use Rattle.mk_transfer.specs.Said.{Run, shown, Said, said_behind, silence}
 use Rattle.mk_transfer.proofs.GivenUp.{not_reading}
@@ -44,19 +46,19 @@ behind_behind a b c = λ i. record { output = append_assoc a.output b.output c.o
 behind_none : (a : Said) → said_behind a silence ≡ a
 behind_none a = λ i. record { output = append-nil a.output i; errors = append-nil a.errors i }
 
-said_append : (l : PlainLetters) (number : ℕ) (ms ns : List (List ℕ)) → said_from l number (ms ++ ns) ≡ said_behind (said_from l number ms) (said_from l (number + length ms) ns)
-said_append l number [] ns = ap (λ k. said_from l k ns) (omega arith)
-said_append l number (m ∷ ms) ns =
-    ap (said_behind (said_of l number m)) (said_append l (suc number) ms ns ∙ ap (λ k. said_behind (said_from l (suc number) ms) (said_from l k ns)) (omega arith))
-    ∙ sym (behind_behind (said_of l number m) (said_from l (suc number) ms) (said_from l (number + length (m ∷ ms)) ns))
+said_append : (f : PlainFilter) (number : ℕ) (ms ns : List (List ℕ)) → said_from f number (ms ++ ns) ≡ said_behind (said_from f number ms) (said_from f (number + length ms) ns)
+said_append f number [] ns = ap (λ k. said_from f k ns) (omega arith)
+said_append f number (m ∷ ms) ns =
+    ap (said_behind (said_of f number m)) (said_append f (suc number) ms ns ∙ ap (λ k. said_behind (said_from f (suc number) ms) (said_from f k ns)) (omega arith))
+    ∙ sym (behind_behind (said_of f number m) (said_from f (suc number) ms) (said_from f (number + length (m ∷ ms)) ns))
 
-pub said_one : (l : PlainLetters) (number : ℕ) (m : List ℕ) → said_from l number (m ∷ []) ≡ said_of l number m
-said_one l number m = behind_none (said_of l number m)
+pub said_one : (f : PlainFilter) (number : ℕ) (m : List ℕ) → said_from f number (m ∷ []) ≡ said_of f number m
+said_one f number m = behind_none (said_of f number m)
 
 -- one message more
-said_more : (l : PlainLetters) (turn : ℕ) (done : List (List ℕ)) (m : List ℕ) → turn ≡ length done → said_from l 1 (done ++ m ∷ []) ≡ said_behind (said_from l 1 done) (said_of l (turn + 1) m)
-said_more l turn done m t =
-    said_append l 1 done (m ∷ []) ∙ ap (said_behind (said_from l 1 done)) (said_one l (1 + length done) m ∙ ap (λ k. said_of l k m) (omega (arith, t)))
+said_more : (f : PlainFilter) (turn : ℕ) (done : List (List ℕ)) (m : List ℕ) → turn ≡ length done → said_from f 1 (done ++ m ∷ []) ≡ said_behind (said_from f 1 done) (said_of f (turn + 1) m)
+said_more f turn done m t =
+    said_append f 1 done (m ∷ []) ∙ ap (said_behind (said_from f 1 done)) (said_one f (1 + length done) m ∙ ap (λ k. said_of f k m) (omega (arith, t)))
 
 says_on : (a b : Said) (r s : Bool) (out out_mid out_after err err_mid err_after : Option (List ℕ)) → SaysAll a r out out_mid err err_mid → SaysAll b s out_mid out_after err_mid err_after
     → SaysAll (said_behind a b) (r || s) out out_after err err_after
@@ -79,81 +81,81 @@ none_said out err = record { output = AppendsFront-none out []; errors = Appends
 -- ---- messages of a mailbox in turn
 
 -- messages that went out: all that was read is these and what is kept, whatever is read later
-pub record AreOut (l : PlainLetters) (turn : ℕ) (refused : Bool) (text : List ℕ) (done : List (List ℕ)) (now : Kept) (out out_after err err_after : Option (List ℕ)) : Type 0 where
+pub record AreOut (f : PlainFilter) (turn : ℕ) (refused : Bool) (text : List ℕ) (done : List (List ℕ)) (now : Kept) (out out_after err err_after : Option (List ℕ)) : Type 0 where
   pub pieces : (more : List ℕ) → (now.ended ≡ true → more ≡ []) → mailbox_pieces (text ++ more) ≡ done ++ mailbox_pieces (now.kept ++ more)
-  pub says : SaysAll (said_from l 1 done) refused out out_after err err_after
+  pub says : SaysAll (said_from f 1 done) refused out out_after err err_after
   pub count : turn ≡ length done
 
-pub none_out : (l : PlainLetters) (out err : Option (List ℕ)) (now : Kept) → now.kept ≡ [] → AreOut l 0 false [] [] now out out err err
-none_out l out err now e = record {
+pub none_out : (f : PlainFilter) (out err : Option (List ℕ)) (now : Kept) → now.kept ≡ [] → AreOut f 0 false [] [] now out out err err
+none_out f out err now e = record {
   pieces = λ more _. ap (λ x. mailbox_pieces (x ++ more)) (sym e);
   says = record { output = Appends-nil out; errors = Appends-nil err; refused_is = refl };
   count = refl;
 }
 
 -- what was read in a call, with what went before it
-read_with : (l : PlainLetters) (turn : ℕ) (refused : Bool) (text read : List ℕ) (done : List (List ℕ)) (now : Kept) (out out_after err err_after : Option (List ℕ))
-    → AreOut l turn refused text done now out out_after err err_after → (now.ended ≡ true → read ≡ [])
+read_with : (f : PlainFilter) (turn : ℕ) (refused : Bool) (text read : List ℕ) (done : List (List ℕ)) (now : Kept) (out out_after err err_after : Option (List ℕ))
+    → AreOut f turn refused text done now out out_after err err_after → (now.ended ≡ true → read ≡ [])
     → (more : List ℕ) → (now.ended ≡ true → more ≡ []) → mailbox_pieces ((text ++ read) ++ more) ≡ done ++ mailbox_pieces ((now.kept ++ read) ++ more)
-read_with l turn refused text read done now out out_after err err_after a r more m =
+read_with f turn refused text read done now out out_after err err_after a r more m =
     ap mailbox_pieces (append_assoc text read more)
     ∙ (a.pieces (read ++ more) (λ e. (λ i. r e i ++ m e i)) ∙ ap (λ x. done ++ mailbox_pieces x) (sym (append_assoc now.kept read more)))
 
 -- the same where nothing more is read
-read_all : (l : PlainLetters) (turn : ℕ) (refused : Bool) (text read : List ℕ) (done : List (List ℕ)) (now : Kept) (out out_after err err_after : Option (List ℕ))
-    → AreOut l turn refused text done now out out_after err err_after → (now.ended ≡ true → read ≡ [])
+read_all : (f : PlainFilter) (turn : ℕ) (refused : Bool) (text read : List ℕ) (done : List (List ℕ)) (now : Kept) (out out_after err err_after : Option (List ℕ))
+    → AreOut f turn refused text done now out out_after err err_after → (now.ended ≡ true → read ≡ [])
     → mailbox_pieces (text ++ read) ≡ done ++ mailbox_pieces (now.kept ++ read)
-read_all l turn refused text read done now out out_after err err_after a r =
+read_all f turn refused text read done now out out_after err err_after a r =
     ap mailbox_pieces (sym (append-nil (text ++ read)))
-    ∙ (read_with l turn refused text read done now out out_after err err_after a r [] (λ _. refl) ∙ ap (λ x. done ++ mailbox_pieces x) (append-nil (now.kept ++ read)))
+    ∙ (read_with f turn refused text read done now out out_after err err_after a r [] (λ _. refl) ∙ ap (λ x. done ++ mailbox_pieces x) (append-nil (now.kept ++ read)))
 
 -- a message more went out
-pub one_out : (l : PlainLetters) (turn : ℕ) (refused told : Bool) (text read m : List ℕ) (done : List (List ℕ)) (old now : Kept) (out out_mid out_after err err_mid err_after : Option (List ℕ))
-    → AreOut l turn refused text done old out out_mid err err_mid → (old.ended ≡ true → read ≡ []) → (old.ended ≡ true → now.ended ≡ true) → IsNextPiece m old read now
-    → SaysAll (said_of l (turn + 1) m) told out_mid out_after err_mid err_after
-    → AreOut l (turn + 1) (refused || told) (text ++ read) (done ++ m ∷ []) now out out_after err err_after
-one_out l turn refused told text read m done old now out out_mid out_after err err_mid err_after a r s p y = record {
-  pieces = λ more e. read_with l turn refused text read done old out out_mid err err_mid a r more (λ t. e (s t))
+pub one_out : (f : PlainFilter) (turn : ℕ) (refused told : Bool) (text read m : List ℕ) (done : List (List ℕ)) (old now : Kept) (out out_mid out_after err err_mid err_after : Option (List ℕ))
+    → AreOut f turn refused text done old out out_mid err err_mid → (old.ended ≡ true → read ≡ []) → (old.ended ≡ true → now.ended ≡ true) → IsNextPiece m old read now
+    → SaysAll (said_of f (turn + 1) m) told out_mid out_after err_mid err_after
+    → AreOut f (turn + 1) (refused || told) (text ++ read) (done ++ m ∷ []) now out out_after err err_after
+one_out f turn refused told text read m done old now out out_mid out_after err err_mid err_after a r s p y = record {
+  pieces = λ more e. read_with f turn refused text read done old out out_mid err err_mid a r more (λ t. e (s t))
       ∙ (ap (λ xs. done ++ xs) (p.stays more e) ∙ sym (append_assoc done (m ∷ []) (mailbox_pieces (now.kept ++ more))));
-  says = subst (λ said. SaysAll said (refused || told) out out_after err err_after) (sym (said_more l turn done m a.count))
-      (says_on (said_from l 1 done) (said_of l (turn + 1) m) refused told out out_mid out_after err err_mid err_after a.says y);
+  says = subst (λ said. SaysAll said (refused || told) out out_after err err_after) (sym (said_more f turn done m a.count))
+      (says_on (said_from f 1 done) (said_of f (turn + 1) m) refused told out out_mid out_after err err_mid err_after a.says y);
   count = omega (arith, a.count, length-append done (m ∷ []));
 }
 
 -- a run that stops between two messages
-pub stopped_between : (l : PlainLetters) (turn : ℕ) (refused : Bool) (text read : List ℕ) (done : List (List ℕ)) (now : Kept) (out out_after err err_after : Option (List ℕ))
-    → AreOut l turn refused text done now out out_after err err_after → (now.ended ≡ true → read ≡ [])
-    → SaysSome (said_from l 1 (mailbox_pieces (text ++ read))) out out_after err err_after
-stopped_between l turn refused text read done now out out_after err err_after a r =
+pub stopped_between : (f : PlainFilter) (turn : ℕ) (refused : Bool) (text read : List ℕ) (done : List (List ℕ)) (now : Kept) (out out_after err err_after : Option (List ℕ))
+    → AreOut f turn refused text done now out out_after err err_after → (now.ended ≡ true → read ≡ [])
+    → SaysSome (said_from f 1 (mailbox_pieces (text ++ read))) out out_after err err_after
+stopped_between f turn refused text read done now out out_after err err_after a r =
     let rest = mailbox_pieces (now.kept ++ read) in
-    let all = read_all l turn refused text read done now out out_after err err_after a r in
-    some_on (said_from l 1 done) silence (said_from l (1 + length done) rest) (said_from l 1 (mailbox_pieces (text ++ read))) refused out out_after out_after err err_after err_after a.says (none_said out_after err_after)
-    (ap (said_from l 1) all ∙ said_append l 1 done rest)
+    let all = read_all f turn refused text read done now out out_after err err_after a r in
+    some_on (said_from f 1 done) silence (said_from f (1 + length done) rest) (said_from f 1 (mailbox_pieces (text ++ read))) refused out out_after out_after err err_after err_after a.says (none_said out_after err_after)
+    (ap (said_from f 1) all ∙ said_append f 1 done rest)
 
 -- the same where nothing more was read
-pub stopped_here : (l : PlainLetters) (turn : ℕ) (refused : Bool) (text : List ℕ) (done : List (List ℕ)) (now : Kept) (out out_after err err_after : Option (List ℕ))
-    → AreOut l turn refused text done now out out_after err err_after → SaysSome (said_from l 1 (mailbox_pieces text)) out out_after err err_after
-stopped_here l turn refused text done now out out_after err err_after a =
-    subst (λ x. SaysSome (said_from l 1 (mailbox_pieces x)) out out_after err err_after) (append-nil text) (stopped_between l turn refused text [] done now out out_after err err_after a (λ _. refl))
+pub stopped_here : (f : PlainFilter) (turn : ℕ) (refused : Bool) (text : List ℕ) (done : List (List ℕ)) (now : Kept) (out out_after err err_after : Option (List ℕ))
+    → AreOut f turn refused text done now out out_after err err_after → SaysSome (said_from f 1 (mailbox_pieces text)) out out_after err err_after
+stopped_here f turn refused text done now out out_after err err_after a =
+    subst (λ x. SaysSome (said_from f 1 (mailbox_pieces x)) out out_after err err_after) (append-nil text) (stopped_between f turn refused text [] done now out out_after err err_after a (λ _. refl))
 
 -- a run that stops within a message
-pub stopped_within : (l : PlainLetters) (turn : ℕ) (refused : Bool) (text read m : List ℕ) (done : List (List ℕ)) (old now : Kept) (out out_mid out_after err err_mid err_after : Option (List ℕ))
-    → AreOut l turn refused text done old out out_mid err err_mid → (old.ended ≡ true → read ≡ []) → IsNextPiece m old read now → SaysSome (said_of l (turn + 1) m) out_mid out_after err_mid err_after
-    → SaysSome (said_from l 1 (mailbox_pieces (text ++ read))) out out_after err err_after
-stopped_within l turn refused text read m done old now out out_mid out_after err err_mid err_after a r p y =
+pub stopped_within : (f : PlainFilter) (turn : ℕ) (refused : Bool) (text read m : List ℕ) (done : List (List ℕ)) (old now : Kept) (out out_mid out_after err err_mid err_after : Option (List ℕ))
+    → AreOut f turn refused text done old out out_mid err err_mid → (old.ended ≡ true → read ≡ []) → IsNextPiece m old read now → SaysSome (said_of f (turn + 1) m) out_mid out_after err_mid err_after
+    → SaysSome (said_from f 1 (mailbox_pieces (text ++ read))) out out_after err err_after
+stopped_within f turn refused text read m done old now out out_mid out_after err err_mid err_after a r p y =
     let rest = mailbox_pieces (now.kept ++ []) in
     let all : mailbox_pieces (text ++ read) ≡ done ++ (m ∷ rest) =
-    ap mailbox_pieces (sym (append-nil (text ++ read))) ∙ (read_with l turn refused text read done old out out_mid err err_mid a r [] (λ _. refl) ∙ ap (λ xs. done ++ xs) (p.stays [] (λ _. refl))) in
-    some_on (said_from l 1 done) (said_of l (turn + 1) m) (said_from l (suc (1 + length done)) rest) (said_from l 1 (mailbox_pieces (text ++ read))) refused out out_mid out_after err err_mid err_after a.says y
-    (ap (said_from l 1) all ∙ (said_append l 1 done (m ∷ rest) ∙ ap (λ k. said_behind (said_from l 1 done) (said_behind (said_of l k m) (said_from l (suc (1 + length done)) rest))) (omega (arith, a.count))))
+    ap mailbox_pieces (sym (append-nil (text ++ read))) ∙ (read_with f turn refused text read done old out out_mid err err_mid a r [] (λ _. refl) ∙ ap (λ xs. done ++ xs) (p.stays [] (λ _. refl))) in
+    some_on (said_from f 1 done) (said_of f (turn + 1) m) (said_from f (suc (1 + length done)) rest) (said_from f 1 (mailbox_pieces (text ++ read))) refused out out_mid out_after err err_mid err_after a.says y
+    (ap (said_from f 1) all ∙ (said_append f 1 done (m ∷ rest) ∙ ap (λ k. said_behind (said_from f 1 done) (said_behind (said_of f k m) (said_from f (suc (1 + length done)) rest))) (omega (arith, a.count))))
 
 -- all messages went out
-pub all_out : (l : PlainLetters) (turn : ℕ) (refused : Bool) (text read : List ℕ) (done : List (List ℕ)) (old now : Kept) (out out_after err err_after : Option (List ℕ))
-    → AreOut l turn refused text done old out out_after err err_after → (old.ended ≡ true → read ≡ []) → IsOver old read now
-    → SaysAll (said_from l 1 (mailbox_pieces (text ++ read))) refused out out_after err err_after
-all_out l turn refused text read done old now out out_after err err_after a r o =
-    subst (λ ms. SaysAll (said_from l 1 ms) refused out out_after err err_after)
-    (sym (read_all l turn refused text read done old out out_after err err_after a r ∙ (ap (λ x. done ++ mailbox_pieces x) o.none ∙ append-nil done))) a.says
+pub all_out : (f : PlainFilter) (turn : ℕ) (refused : Bool) (text read : List ℕ) (done : List (List ℕ)) (old now : Kept) (out out_after err err_after : Option (List ℕ))
+    → AreOut f turn refused text done old out out_after err err_after → (old.ended ≡ true → read ≡ []) → IsOver old read now
+    → SaysAll (said_from f 1 (mailbox_pieces (text ++ read))) refused out out_after err err_after
+all_out f turn refused text read done old now out out_after err err_after a r o =
+    subst (λ ms. SaysAll (said_from f 1 ms) refused out out_after err err_after)
+    (sym (read_all f turn refused text read done old out out_after err err_after a r ∙ (ap (λ x. done ++ mailbox_pieces x) o.none ∙ append-nil done))) a.says
 
 -- ---- reads
 
@@ -284,17 +286,17 @@ stopped_so (Some reason) number stop err err_after before after n s = s.fault
 -- ---- what is said of one message
 
 -- what letters give of it goes out
-pub given_all : (l : PlainLetters) (number : ℕ) (text given : List ℕ) (out out_after err : Option (List ℕ)) → Some given ≡ given_by l.take l.whole text → Appends out out_after given → SaysAll (said_of l number text) false out out_after err err
-given_all l number text given out out_after err e o =
+pub given_all : (decodes : Bool) (l : PlainLetters) (number : ℕ) (text given : List ℕ) (out out_after err : Option (List ℕ)) → Some given ≡ given_by decodes l.take l.whole text → Appends out out_after given → SaysAll (said_by decodes l number text) false out out_after err err
+given_all decodes l number text given out out_after err e o =
     subst (λ x. SaysAll (said_or x (said_of_edits l number text)) false out out_after err err) e (record { output = o; errors = Appends-nil err; refused_is = refl })
 
-pub given_some : (l : PlainLetters) (number : ℕ) (text given : List ℕ) (out out_after err : Option (List ℕ)) → Some given ≡ given_by l.take l.whole text → AppendsFront out out_after given → SaysSome (said_of l number text) out out_after err err
-given_some l number text given out out_after err e o =
+pub given_some : (decodes : Bool) (l : PlainLetters) (number : ℕ) (text given : List ℕ) (out out_after err : Option (List ℕ)) → Some given ≡ given_by decodes l.take l.whole text → AppendsFront out out_after given → SaysSome (said_by decodes l number text) out out_after err err
+given_some decodes l number text given out out_after err e o =
     subst (λ x. SaysSome (said_or x (said_of_edits l number text)) out out_after err err) e (record { output = o; errors = AppendsFront-none err [] })
 
 -- where they give nothing, it is what their edits leave
-pub given_none : (P : Said → Type 0) (l : PlainLetters) (number : ℕ) (text : List ℕ) → None ≡ given_by l.take l.whole text → P (said_of_edits l number text) → P (said_of l number text)
-given_none P l number text e h = subst (λ x. P (said_or x (said_of_edits l number text))) e h
+pub given_none : (P : Said → Type 0) (decodes : Bool) (l : PlainLetters) (number : ℕ) (text : List ℕ) → None ≡ given_by decodes l.take l.whole text → P (said_of_edits l number text) → P (said_by decodes l number text)
+given_none P decodes l number text e h = subst (λ x. P (said_or x (said_of_edits l number text))) e h
 
 pub on_err : {A E : Type 0} (r : Result A E) (P Q : Type 0) → OnErr r P → (P → Q) → OnErr r Q
 on_err (Ok x) P Q h f = tt
@@ -371,13 +373,13 @@ Filters-given_up why IsKnown each Memory said before input output between errors
 -- ---- messages that are known to be whole
 
 -- reading failed between two messages, and of what is kept none is known to be whole
-pub known_between : (l : PlainLetters) (turn : ℕ) (refused : Bool) (text read : List ℕ) (done : List (List ℕ)) (old new : Kept) (out out_after err err_after : Option (List ℕ))
-    → AreOut l turn refused text done old out out_after err err_after → (old.ended ≡ true → read ≡ []) → new.kept ≡ old.kept ++ read → (IsKnownWhole new.kept → ⊥)
-    → GivesKnown l (text ++ read) out out_after
-known_between l turn refused text read done old new out out_after err err_after a r k u = record {
+pub known_between : (f : PlainFilter) (turn : ℕ) (refused : Bool) (text read : List ℕ) (done : List (List ℕ)) (old new : Kept) (out out_after err err_after : Option (List ℕ))
+    → AreOut f turn refused text done old out out_after err err_after → (old.ended ≡ true → read ≡ []) → new.kept ≡ old.kept ++ read → (IsKnownWhole new.kept → ⊥)
+    → GivesKnown f (text ++ read) out out_after
+known_between f turn refused text read done old new out out_after err err_after a r k u = record {
   given = done;
   rest = new.kept;
-  parts = read_all l turn refused text read done old out out_after err err_after a r ∙ ap (λ x. done ++ mailbox_pieces x) (sym k);
+  parts = read_all f turn refused text read done old out out_after err err_after a r ∙ ap (λ x. done ++ mailbox_pieces x) (sym k);
   unknown = u;
   output = a.says.output;
 }
@@ -402,3 +404,11 @@ not_both_stops stop a b = cc
 -- so many messages were read that reading is given up
 pub turns_out : (turn kept before reads : ℕ) → 18446744073709551615 ≤ turn → (turn + kept + chunk_bytes * before ≤ chunk_bytes * reads) ⊎ IsFull reads → IsLong before reads
 turns_out turn kept before reads end c = elim c [ inr full ↦ inr full | inl less ↦ inl (omega (arith, end, less)) ]
+
+-- the letters for a message may be asked for
+pub allowed_for : (f : PlainFilter) (text : List ℕ) → is_allowed f ≡ true → are_allowed (letters_for f text) ≡ true
+allowed_for f text h = let both = and_parts (are_allowed f.lf) (are_allowed f.crlf) h in either (is_lf (eol_of (cut text))) both.0 both.1
+  where
+    either : (is_lf : Bool) → are_allowed f.lf ≡ true → are_allowed f.crlf ≡ true → are_allowed (if is_lf then f.lf else f.crlf) ≡ true
+    either true a b = a
+    either false a b = b

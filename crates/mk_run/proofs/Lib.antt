@@ -1,3 +1,5 @@
 pub mod RunLemmas
 pub mod RefusalLemmas
 pub mod FilterLemmas
+pub mod Wordings
+pub mod WordsRead

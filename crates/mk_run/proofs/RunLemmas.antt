@@ -1,9 +1,7 @@
 -- What the engine's exits leave.
-use Rattle.std.proofs.Common.{◌≡◌, ◌∙◌, ◌++◌, ap, ◌⊎◌, ℕ, Bool, true, false, not, if◌then◌else◌, List, [], Option, None, Some, Result, Ok, Err, IfOk, IfErr, OnOk, refl, sym, inl, inr}
+use Rattle.std.proofs.Common.{◌≡◌, ◌⊎◌, ℕ, Bool, true, false, not, if◌then◌else◌, List, Option, Some, Result, Ok, Err, IfOk, IfErr, OnOk, refl, inl, inr}
 use Rattle.std.proofs.lemmas.Bool.{cases_Bool}
-use Rattle.std.proofs.lemmas.List.{append-nil}
 use Rattle.std.specs.Io.KnownBytes.{Appends, Consumes, IsAtEnd, Keeps}
-use Rattle.std.proofs.KnownBytes.{Appends-nil}
 use Rattle.mk_line.specs.Lines.{is_nil}
 use Rattle.mk_edit.specs.History.{History}
 use Rattle.mk_edit.specs.declared.errors.LoadError.{LoadError}
@@ -14,12 +12,9 @@ use Rattle.mk_transfer.specs.declared.status.Status.{Status}
 use Rattle.mk_transfer.specs.declared.status.Status.TheVariants.{Well, Refused}
 use Rattle.mk_transfer.specs.declared.status.Cause.{Cause}
 use Rattle.mk_transfer.specs.declared.status.Cause.TheVariants.{Read, Write, Memory}
-use Rattle.mk_transfer.specs.declared.transfer.Stop.{Stop}
-use Rattle.mk_transfer.specs.declared.transfer.Stop.TheVariants.{Fault as Stopped, Memory as Wanting}
 use Rattle.mk_script.specs.ScriptSteps.{ScriptStep}
 use Rattle.mk_run.specs.Journaling.{Journaling, begun, named_by}
 use Rattle.mk_run.specs.JournalRuns.{LeavesJournal, LeavesJournalSoFar, Prints}
-use Rattle.mk_transfer.specs.Said.{Run}
 use Rattle.mk_run.specs.Runs.{ScriptRun, run_from, errors_of}
 use Rattle.mk_transfer.specs.RunClauses.{Held, Counts, IsBlamedWith, LeavesSoFar, ends_itself, status_of}
 use Rattle.mk_run.specs.inner.Keeping.{says_memory}

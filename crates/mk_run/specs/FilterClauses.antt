@@ -1,4 +1,4 @@
--- What a run of letters leaves in its devices.
+-- What a run that filters leaves in its devices.
 use Rattle.std.specs.Prelude.{◌≡◌, ◌⊎◌, ◌++◌, ℕ, Bool, true, false, not, List, Option, None, Some, Result, Ok, Err}
 use Rattle.std.specs.Io.KnownBytes.{Appends, Consumes, IsAtEnd, Keeps}
 use Rattle.mk_line.specs.Lines.{is_nil}
@@ -14,22 +14,22 @@ use Rattle.mk_transfer.specs.declared.status.Status.{Status}
 use Rattle.mk_transfer.specs.declared.status.Status.TheVariants.{Well, Refused, Usage, Fault, Memory}
 use Rattle.mk_transfer.specs.declared.status.Cause.{Cause}
 use Rattle.mk_transfer.specs.declared.status.Cause.TheVariants.{Read}
-use Rattle.mk_run.specs.Filtering.{field_run, messages_of, said_from}
+use Rattle.mk_run.specs.Filtering.{PlainFilter, field_run, messages_of, said_from}
 use Rattle.mk_transfer.specs.RunClauses.{Held, IsDone, Reason, status_of}
 use Rattle.mk_transfer.specs.Said.{Run, Said}
 
 -- all messages that are known to be whole went out: of the rest of what was read none is
-pub record GivesKnown (l : PlainLetters) (text : List ℕ) (out out_after : Option (List ℕ)) : Type 0 where
+pub record GivesKnown (f : PlainFilter) (text : List ℕ) (out out_after : Option (List ℕ)) : Type 0 where
   pub given : List (List ℕ)
   pub rest : List ℕ
   pub parts : mailbox_pieces text ≡ given ++ mailbox_pieces rest
   pub unknown : IsKnownWhole rest → ⊥
-  pub output : Appends out out_after (said_from l 1 given).output
+  pub output : Appends out out_after (said_from f 1 given).output
 
 -- where messages go out one by one and reading fails, all that are known to be whole went out, unless so much was read that reading
 -- was given up
-abbrev pub known_by : PlainLetters → Bool → Type 0 → List ℕ → Option (List ℕ) → Option (List ℕ) → Cause → Type 0
-known_by l each spent text out out_after cause = cause ≡ Read → each ≡ true → GivesKnown l text out out_after ⊎ spent
+abbrev pub known_by : PlainFilter → Bool → Type 0 → List ℕ → Option (List ℕ) → Option (List ℕ) → Cause → Type 0
+known_by f each spent text out out_after cause = cause ≡ Read → each ≡ true → GivesKnown f text out out_after ⊎ spent
 
 -- the run was given up: a front of the output and of the errors went out, and then the line that says why; where reading failed
 -- nothing went to the output, unless the messages go out one by one
@@ -59,11 +59,11 @@ Filters why IsKnown each Usage run before after = ⊥
 Filters why IsKnown each Fault run before after = IsCutShort why IsKnown each Fault run before after
 Filters why IsKnown each Memory run before after = IsCutShort why IsKnown each Memory run before after
 
--- what a run of letters leaves is what is defined for the bytes that it read
-abbrev pub LeavesFiltered : Reason → Type 0 → PlainLetters → Bool → Status → Held → Held → Type 0
-LeavesFiltered why spent l each status before after =
+-- what a run that filters leaves is what is defined for the bytes that it read
+abbrev pub LeavesFiltered : Reason → Type 0 → PlainFilter → Bool → Status → Held → Held → Type 0
+LeavesFiltered why spent f each status before after =
     (text : List ℕ) × Consumes before.input after.input text
-    × Filters why (known_by l each spent text before.output after.output) each status (field_run l each text) before after
+    × Filters why (known_by f each spent text before.output after.output) each status (field_run f each text) before after
 
 -- what is said went out whole, and whether something is reported
 pub record SaysAll (said : Said) (refused : Bool) (out out_after err err_after : Option (List ℕ)) : Type 0 where
@@ -105,12 +105,12 @@ FiltersSoFar IsKnown each (Ok refused) said before after = IsFiltered said refus
 FiltersSoFar IsKnown each (Err cause) said before after = IsBroken IsKnown each cause said before after
 
 -- the same for the bytes that were read
-abbrev pub LeavesSaid : Type 0 → PlainLetters → Bool → Result Bool Cause → Held → Held → Type 0
-LeavesSaid spent l each result before after =
+abbrev pub LeavesSaid : Type 0 → PlainFilter → Bool → Result Bool Cause → Held → Held → Type 0
+LeavesSaid spent f each result before after =
     (text : List ℕ) × Consumes before.input after.input text
-    × FiltersSoFar (known_by l each spent text before.output after.output) each result (said_from l 1 (messages_of each text)) before after
+    × FiltersSoFar (known_by f each spent text before.output after.output) each result (said_from f 1 (messages_of each text)) before after
 
--- what a run of letters leaves, where it may be given up
-abbrev pub LeavesFilteredSoFar : Type 0 → PlainLetters → Bool → Result Status Cause → Held → Held → Type 0
-LeavesFilteredSoFar spent l each (Ok status) before after = (text : List ℕ) × Consumes before.input after.input text × EndsFiltered status (field_run l each text) before after
-LeavesFilteredSoFar spent l each (Err cause) before after = LeavesSaid spent l each (Err cause) before after
+-- what a run that filters leaves, where it may be given up
+abbrev pub LeavesFilteredSoFar : Type 0 → PlainFilter → Bool → Result Status Cause → Held → Held → Type 0
+LeavesFilteredSoFar spent f each (Ok status) before after = (text : List ℕ) × Consumes before.input after.input text × EndsFiltered status (field_run f each text) before after
+LeavesFilteredSoFar spent f each (Err cause) before after = LeavesSaid spent f each (Err cause) before after

@@ -1,7 +1,8 @@
 -- Messages whose fields are filtered by letters, or given (own, after formail).
-use Rattle.std.specs.Prelude.{◌++◌, ◌∷◌, [], ℕ, suc, Bool, true, false, Option, None, Some, Ok, Err, List, codes, decimal, filter}
+use Rattle.std.specs.Prelude.{◌++◌, ◌∷◌, if◌then◌else◌, [], ℕ, suc, Bool, true, false, Option, None, Some, Ok, Err, List, codes, decimal, filter}
 use Rattle.std.specs.List.{flat_map}
 use Rattle.mk_line.specs.Ascii.{colon, line_feed}
+use Rattle.mk_line.specs.Lines.{cut, eol_of, is_lf}
 use Rattle.mk_head.specs.Fields.{FieldText, is_named}
 use Rattle.mk_tree.specs.Documents.{tree}
 use Rattle.mk_tree.specs.Sections.{root_of, section_fields}
@@ -12,7 +13,23 @@ use Rattle.mk_mail.specs.Letters.{PlainLetters, root_path}
 use Rattle.mk_mailbox.specs.Pieces.{mailbox_pieces}
 use Rattle.mk_script.specs.Paths.{parted}
 use Rattle.mk_run.specs.Reports.{behind_name, reason_name}
+use Rattle.mk_run.specs.Wording.{decoded_line}
 use Rattle.mk_transfer.specs.Said.{Run, shown, Said, said_behind, silence}
+
+-- what a filter is asked for: letters for a message whose lines end with LF, those for one whose lines end with CR LF, and whether
+-- values are printed as people read them
+pub record PlainFilter : Type 0 where
+  pub lf : PlainLetters
+  pub crlf : PlainLetters
+  pub decodes : Bool
+
+-- letters alone: they are the same for each message
+abbrev pub of_letters : PlainLetters → PlainFilter
+of_letters l = record { lf = l; crlf = l; decodes = false }
+
+-- the letters for a message, by its ending
+abbrev pub letters_for : PlainFilter → List ℕ → PlainLetters
+letters_for f text = if is_lf (eol_of (cut text)) then f.lf else f.crlf
 
 -- the fields of a message that have a name
 abbrev pub fields_named : List ℕ → List ℕ → List FieldText
@@ -31,6 +48,14 @@ behind_colon raw = part_behind (parted colon raw)
 abbrev pub contents_named : List ℕ → List ℕ → List ℕ
 contents_named name text = flat_map (λ f. behind_colon f.raw) (fields_named name text)
 
+-- what the fields of a name say, a line for each (`-x --decode`)
+abbrev pub values_named : List ℕ → List ℕ → List ℕ
+values_named name text = flat_map (λ f. decoded_line (behind_colon f.raw)) (fields_named name text)
+
+-- what `-x` gives: values as they stand, or as people read them
+abbrev pub taken : Bool → List ℕ → List ℕ → List ℕ
+taken decodes name text = if decodes then values_named name text else contents_named name text
+
 -- the fields of a name, one after another (`-X`)
 abbrev pub wholes_named : List ℕ → List ℕ → List ℕ
 wholes_named name text = flat_map (λ f. f.raw) (fields_named name text)
@@ -45,10 +70,10 @@ report_of number (Ok p) = []
 report_of number (Err q) = message_line number q.1
 
 -- what letters give of a message that ask for fields of a name; nothing where none does
-abbrev pub given_by : Option (List ℕ) → Option (List ℕ) → List ℕ → Option (List ℕ)
-given_by (Some name) whole text = Some (contents_named name text)
-given_by None (Some name) text = Some (wholes_named name text)
-given_by None None text = None
+abbrev pub given_by : Bool → Option (List ℕ) → Option (List ℕ) → List ℕ → Option (List ℕ)
+given_by decodes (Some name) whole text = Some (taken decodes name text)
+given_by decodes None (Some name) text = Some (wholes_named name text)
+given_by decodes None None text = None
 
 -- what is said of a message of which letters give nothing: what they leave of it, and the reason where an edit is refused
 abbrev pub said_of_edits : PlainLetters → ℕ → List ℕ → Said
@@ -59,20 +84,24 @@ abbrev pub said_or : Option (List ℕ) → Said → Said
 said_or None edits = edits
 said_or (Some given) edits = record { output = given; errors = [] }
 
--- what letters say of a message of a number
-abbrev pub said_of : PlainLetters → ℕ → List ℕ → Said
-said_of l number text = said_or (given_by l.take l.whole text) (said_of_edits l number text)
+-- what these letters say of a message of a number
+abbrev pub said_by : Bool → PlainLetters → ℕ → List ℕ → Said
+said_by decodes l number text = said_or (given_by decodes l.take l.whole text) (said_of_edits l number text)
+
+-- what a filter says of a message of a number
+abbrev pub said_of : PlainFilter → ℕ → List ℕ → Said
+said_of f number text = said_by f.decodes (letters_for f text) number text
 
 -- what is said of messages in turn, where the first has this number
-abbrev pub said_from : PlainLetters → ℕ → List (List ℕ) → Said
-said_from l number [] = silence
-said_from l number (m ∷ ms) = said_behind (said_of l number m) (said_from l (suc number) ms)
+abbrev pub said_from : PlainFilter → ℕ → List (List ℕ) → Said
+said_from f number [] = silence
+said_from f number (m ∷ ms) = said_behind (said_of f number m) (said_from f (suc number) ms)
 
 -- the messages that are filtered: those of a mailbox, each by itself, or all as one
 abbrev pub messages_of : Bool → List ℕ → List (List ℕ)
 messages_of true text = mailbox_pieces text
 messages_of false text = text ∷ []
 
--- the run of letters on an input
-abbrev pub field_run : PlainLetters → Bool → List ℕ → Run
-field_run l each text = let said = said_from l 1 (messages_of each text) in shown said.output said.errors
+-- the run of a filter on an input
+abbrev pub field_run : PlainFilter → Bool → List ℕ → Run
+field_run f each text = let said = said_from f 1 (messages_of each text) in shown said.output said.errors

@@ -1,5 +1,5 @@
 -- What a run keeps for later runs: the journal of its history (own).
-use Rattle.std.specs.Prelude.{◌≡◌, ◌++◌, ◌∷◌, [], ℕ, Bool, true, false, List, Option, Some, None, Result, Ok, Err, codes, decimal}
+use Rattle.std.specs.Prelude.{◌++◌, ◌∷◌, [], ℕ, List, Option, Some, None, Result, Ok, codes, decimal}
 use Rattle.mk_line.specs.Ascii.{line_feed}
 use Rattle.mk_edit.specs.declared.errors.LoadError.{LoadError}
 use Rattle.mk_edit.specs.declared.errors.LoadError.TheVariants.{JournalSyntax as SyntaxIn, JournalOther as OtherIn, JournalMismatch as MismatchIn, Memory as MemoryIn}

@@ -2,7 +2,10 @@ pub mod Reports
 pub mod Journaling
 pub mod JournalRuns
 pub mod Runs
-pub mod Filtering
 pub mod Asked
+pub mod Wording
+pub mod Filtering
+pub mod FilterViews
 pub mod FilterClauses
+pub mod WordLaws
 pub mod inner

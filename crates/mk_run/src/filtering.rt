@@ -5,9 +5,12 @@ ghost use Rattle.mk_mailbox.specs.Devices.{IsLong};
 ghost use Rattle.mk_mail.specs.LetterViews.{letters_of};
 ghost use Rattle.mk_mail.specs.Letters.{are_allowed};
 ghost use Rattle.mk_run.specs.FilterClauses.{LeavesFiltered, LeavesFilteredSoFar, LeavesSaid};
+ghost use Rattle.mk_run.specs.FilterViews.{filter_of, is_allowed};
+ghost use Rattle.mk_run.specs.Filtering.{of_letters};
 ghost use Rattle.mk_transfer.specs.RunClauses.{held, counts, reason, SameFailures, ReadFailed, WriteFailed, IsBlamed, ends_itself};
 
 use crate::fields::filter_message;
+use crate::filters::FieldFilter;
 use mk_mail::{Letters, MailFault, Mailbox, Sink, Source};
 use mk_mailbox::MOST_READS;
 use mk_transfer::{Cause, Status, finish, give_up, read_all, reading, writing};
@@ -30,7 +33,7 @@ pub fn run_field<S: Source, O: Sink, E: Sink>(
     requires { are_allowed (letters_of letters.now) ≡ true }
     ensures leaves { let before = counts (S.failures input.old) (S.read_count input.old) (O.failures out.old) (E.failures err.old) in
         let after = counts (S.failures input.new) (S.read_count input.new) (O.failures out.new) (E.failures err.new) in
-        LeavesFiltered (reason before after) (IsLong (S.read_count input.old) (S.read_count input.new)) (letters_of letters.now) each result
+        LeavesFiltered (reason before after) (IsLong (S.read_count input.old) (S.read_count input.new)) (of_letters (letters_of letters.now)) each result
         (held (S.remaining input.old) (O.contents out.old) (E.contents err.old))
         (held (S.remaining input.new) (O.contents out.new) (E.contents err.new)) }
     ensures blamed { result ≡ Status.Fault →
@@ -43,23 +46,23 @@ pub fn run_field<S: Source, O: Sink, E: Sink>(
     ensures finished { ends_itself result ≡ true → O.finished out.new ≡ true }
     ensures unfinished { ends_itself result ≡ false → O.finished out.new ≡ O.finished out.old }
 {
-    match try_field(alloc, input, out, err, letters, each) {
+    match try_field(alloc, input, out, err, &FieldFilter::new(letters), each) {
         Ok(status) => status,
         Err(cause) => give_up(err, cause),
     }
 }
 
-/// Does the same, and leaves it to the caller to say why the run is given up.
+/// Does the same by any filter, and leaves it to the caller to say why the run is given up.
 pub fn try_field<S: Source, O: Sink, E: Sink>(
     alloc: Global,
     input: &mut S,
     out: &mut O,
     err: &mut E,
-    letters: &Letters,
+    filter: &FieldFilter<'_>,
     each: bool,
 ) -> Result<Status, Cause>
-    requires { are_allowed (letters_of letters.now) ≡ true }
-    ensures leaves { LeavesFilteredSoFar (IsLong (S.read_count input.old) (S.read_count input.new)) (letters_of letters.now) each result
+    requires { is_allowed (filter_of filter.now) ≡ true }
+    ensures leaves { LeavesFilteredSoFar (IsLong (S.read_count input.old) (S.read_count input.new)) (filter_of filter.now) each result
         (held (S.remaining input.old) (O.contents out.old) (E.contents err.old))
         (held (S.remaining input.new) (O.contents out.new) (E.contents err.new)) }
     ensures ended { IfOk result (λ status. ends_itself status ≡ true) }
@@ -72,7 +75,7 @@ pub fn try_field<S: Source, O: Sink, E: Sink>(
     ensures finished { OnOk result (O.finished out.new ≡ true) }
     ensures unfinished { OnErr result (O.finished out.new ≡ O.finished out.old) }
 {
-    let refused = match filter(alloc, input, out, err, letters, each) {
+    let refused = match filter_input(alloc, input, out, err, filter, each) {
         Ok(refused) => refused,
         Err(cause) => return Err(cause),
     };
@@ -87,16 +90,16 @@ pub fn try_field<S: Source, O: Sink, E: Sink>(
 }
 
 // Filters the input up to a cause to give up. Answers whether a message was reported.
-fn filter<S: Source, O: Sink, E: Sink>(
+fn filter_input<S: Source, O: Sink, E: Sink>(
     alloc: Global,
     input: &mut S,
     out: &mut O,
     err: &mut E,
-    letters: &Letters,
+    filter: &FieldFilter<'_>,
     each: bool,
 ) -> Result<bool, Cause>
-    requires { are_allowed (letters_of letters.now) ≡ true }
-    ensures leaves { LeavesSaid (IsLong (S.read_count input.old) (S.read_count input.new)) (letters_of letters.now) each result
+    requires { is_allowed (filter_of filter.now) ≡ true }
+    ensures leaves { LeavesSaid (IsLong (S.read_count input.old) (S.read_count input.new)) (filter_of filter.now) each result
         (held (S.remaining input.old) (O.contents out.old) (E.contents err.old))
         (held (S.remaining input.new) (O.contents out.new) (E.contents err.new)) }
     ensures blamed { IfErr result (λ cause. IsBlamed cause
@@ -108,9 +111,9 @@ fn filter<S: Source, O: Sink, E: Sink>(
     ensures unfinished { O.finished out.new ≡ O.finished out.old }
 {
     if each {
-        filter_each(alloc, input, out, err, letters)
+        filter_each(alloc, input, out, err, filter)
     } else {
-        filter_whole(alloc, input, out, err, letters)
+        filter_whole(alloc, input, out, err, filter)
     }
 }
 
@@ -120,10 +123,10 @@ fn filter_whole<S: Source, O: Sink, E: Sink>(
     input: &mut S,
     out: &mut O,
     err: &mut E,
-    letters: &Letters,
+    filter: &FieldFilter<'_>,
 ) -> Result<bool, Cause>
-    requires { are_allowed (letters_of letters.now) ≡ true }
-    ensures leaves { LeavesSaid (IsLong (S.read_count input.old) (S.read_count input.new)) (letters_of letters.now) false result
+    requires { is_allowed (filter_of filter.now) ≡ true }
+    ensures leaves { LeavesSaid (IsLong (S.read_count input.old) (S.read_count input.new)) (filter_of filter.now) false result
         (held (S.remaining input.old) (O.contents out.old) (E.contents err.old))
         (held (S.remaining input.new) (O.contents out.new) (E.contents err.new)) }
     ensures blamed { IfErr result (λ cause. IsBlamed cause
@@ -138,7 +141,7 @@ fn filter_whole<S: Source, O: Sink, E: Sink>(
         Ok(message) => message,
         Err(stop) => return Err(reading(stop)),
     };
-    match filter_message(alloc, letters, ONLY, message, out, err) {
+    match filter_message(alloc, filter, ONLY, message, out, err) {
         Ok(refused) => Ok(refused),
         Err(stop) => Err(writing(stop)),
     }
@@ -150,10 +153,10 @@ fn filter_each<S: Source, O: Sink, E: Sink>(
     input: &mut S,
     out: &mut O,
     err: &mut E,
-    letters: &Letters,
+    filter: &FieldFilter<'_>,
 ) -> Result<bool, Cause>
-    requires { are_allowed (letters_of letters.now) ≡ true }
-    ensures leaves { LeavesSaid (IsLong (S.read_count input.old) (S.read_count input.new)) (letters_of letters.now) true result
+    requires { is_allowed (filter_of filter.now) ≡ true }
+    ensures leaves { LeavesSaid (IsLong (S.read_count input.old) (S.read_count input.new)) (filter_of filter.now) true result
         (held (S.remaining input.old) (O.contents out.old) (E.contents err.old))
         (held (S.remaining input.new) (O.contents out.new) (E.contents err.new)) }
     ensures blamed { IfErr result (λ cause. IsBlamed cause
@@ -173,7 +176,7 @@ fn filter_each<S: Source, O: Sink, E: Sink>(
         }
         match mailbox.next(input) {
             Ok(Some(message)) => {
-                match filter_message(alloc, letters, turn + 1, message, out, err) {
+                match filter_message(alloc, filter, turn + 1, message, out, err) {
                     Ok(told) => refused |= told,
                     Err(stop) => return Err(writing(stop)),
                 }

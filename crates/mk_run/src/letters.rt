@@ -1,13 +1,16 @@
 //! Letters as words of the command line.
 
-ghost use Rattle.std.specs.Prelude.{◌≡◌, IfOk};
+ghost use Rattle.std.specs.Prelude.{◌≡◌, ◌≢◌, IfOk};
 ghost use Rattle.std.specs.Option.{option_and_then, option_map};
 ghost use Rattle.mk_line.specs.Ascii.{colon};
 ghost use Rattle.mk_mail.specs.LetterViews.{bytes_in};
 ghost use Rattle.mk_mail.specs.Letters.{passes};
 ghost use Rattle.mk_run.specs.Asked.{is_name_word, is_pair_word, name_in as name_in_word};
+ghost use Rattle.mk_run.specs.Wording.{worded_field as in_words};
 ghost use Rattle.mk_script.specs.Paths.{parted as parted_at};
 
+use crate::wording::worded_field;
+use mk_line::Ending;
 use mk_mail::Letters;
 use mk_script::parted;
 use std::alloc::{AllocError, Global};
@@ -15,7 +18,7 @@ use std::alloc::{AllocError, Global};
 const COLON: u8 = b':';
 
 /// The words that stand after the letters of `field`, each where its letter was given.
-#[derive(Clone, Copy, Debug)]
+#[derive(Clone, Copy, Debug, Default)]
 pub struct LetterWords<'a> {
     /// `--rename OLD:NEW`
     pub rename: Option<&'a str>,
@@ -38,10 +41,11 @@ pub struct LetterWords<'a> {
 }
 
 impl LetterWords<'_> {
-    ghost use Rattle.std.specs.Prelude.{◌≡◌, IfOk};
+    ghost use Rattle.std.specs.Prelude.{◌≡◌, ◌≢◌, IfOk};
     ghost use Rattle.std.specs.Option.{option_map};
     ghost use Rattle.mk_mail.specs.LetterViews.{letters_of};
     ghost use Rattle.mk_run.specs.Asked.{asked, have_colons as words_have_colons, words_of};
+    ghost use Rattle.mk_run.specs.Wording.{worded};
 
     /// What the words ask for. `None` where a name stands without its colon.
     pub fn letters(&self, alloc: Global) -> Result<Option<Letters>, AllocError>
@@ -61,6 +65,26 @@ impl LetterWords<'_> {
             take: name(alloc, self.take)?,
             whole: name(alloc, self.whole)?,
         }))
+    }
+
+    /// What the words ask for with the values of fields in encoded words, for messages whose lines end with `eol`. `None` where a
+    /// name stands without its colon.
+    pub fn letters_in_words(
+        &self,
+        alloc: Global,
+        eol: Ending,
+    ) -> Result<Option<Letters>, AllocError>
+        requires { eol ≢ Ending.Missing }
+        ensures { IfOk result (λ letters. option_map letters_of letters ≡ asked (worded eol (words_of self.now))) }
+    {
+        let Some(mut letters) = self.letters(alloc)? else {
+            return Ok(None);
+        };
+        letters.add_if = field_in_words(alloc, self.add_if, eol)?;
+        letters.add = field_in_words(alloc, self.add, eol)?;
+        letters.prefixed = field_in_words(alloc, self.prefixed, eol)?;
+        letters.only = field_in_words(alloc, self.only, eol)?;
+        Ok(Some(letters))
     }
 
     // Whether each word that is a name has its colon, and that of `--rename` one between its names.
@@ -111,6 +135,21 @@ fn field(alloc: Global, word: Option<&str>) -> Result<Option<Vec<u8>>, AllocErro
 {
     match word {
         Some(word) => Ok(Some(Vec::from_slice(alloc, word.as_bytes())?)),
+        None => Ok(None),
+    }
+}
+
+// The field that a word is, its value in encoded words where it needs them.
+fn field_in_words(
+    alloc: Global,
+    word: Option<&str>,
+    eol: Ending,
+) -> Result<Option<Vec<u8>>, AllocError>
+    requires { eol ≢ Ending.Missing }
+    ensures { IfOk result (λ field. bytes_in field ≡ option_map (in_words eol) (option_map (λ s. s.now) word.entry)) }
+{
+    match word {
+        Some(word) => Ok(Some(worded_field(alloc, word.as_bytes(), eol)?)),
         None => Ok(None),
     }
 }

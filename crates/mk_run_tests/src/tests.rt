@@ -11,11 +11,13 @@ mod letters;
 mod memory;
 mod not_packed;
 mod packed;
+mod packed_names;
 mod pieces;
 mod runs;
 mod shelf;
 mod shown;
 mod unpacked;
+mod wording;
 
 use devices::{Page, Text};
 use mk_rows::{Cell, Row, rows};

@@ -82,7 +82,8 @@ fn memory_for_a_run(rt: HostRuntime) {
 }
 
 // A device, where there is memory again.
-fn page(rt: &impl Abort, alloc: Global) -> Page {
+/// An empty page.
+pub fn page(rt: &impl Abort, alloc: Global) -> Page {
     Page::new(alloc, SIZE).expect(rt, "memory")
 }
 

@@ -81,8 +81,8 @@ fn part(rt: &impl Abort, alloc: Global, word: &[u8], text: &[u8]) -> Result<Atta
     Ok(spec.attach(alloc, Vec::from_slice(alloc, text)?)?)
 }
 
-// The files of a row: after each cell `file` comes what it holds.
-fn parts(rt: &impl Abort, alloc: Global, row: &Row) -> Result<Vec<Attach>, Fail> {
+/// The files of a row: after each cell `file` comes what it holds.
+pub fn parts(rt: &impl Abort, alloc: Global, row: &Row) -> Result<Vec<Attach>, Fail> {
     let mut parts = Vec::new(alloc);
     let mut word: &[u8] = &[];
     for cell in &row.cells {

@@ -3,9 +3,9 @@
 use super::check_left;
 use super::devices::{Page, Text};
 use super::shelf::Shelf;
-use mk_mail::Sink;
+use mk_mail::{NameForm, Sink};
 use mk_rows::{Row, rows};
-use mk_run::{Folder, Status, unpack};
+use mk_run::{Folder, Status, try_unpack_in, unpack};
 use std::alloc::Global;
 use std::process::Abort;
 use std::test::Fail;
@@ -215,6 +215,50 @@ fn no_name_leads_out_of_the_folder(rt: HostRuntime) -> Result<(), Fail> {
     for length in [300usize, 5_000] {
         let long = vec![in rt.alloc(); b'a'; length]?;
         assert!(rt; is_put(rt.alloc(), &long, &kept)?);
+    }
+    Ok(())
+}
+
+/// Dispositions, and the names of the files that come of them where names are in UTF-8.
+const TEXT_NAMES: &str = r#"
+== percent signs
+says: inline; filename*=utf-8''na%C3%AFve.pdf
+file: na\xc3\xafve.pdf
+
+== the path to another folder
+says: inline; filename*=utf-8''%2e%2e%2f..%5c%e4%b8%ad
+file: \xe4\xb8\xad
+
+== a plain name
+says: inline; filename=a.gif
+file: a.gif
+
+== no name
+says: inline
+file: part-1
+"#;
+
+// Unpacks an image with a disposition and names in UTF-8, and says whether it was put under a name.
+fn is_put_in_utf8(alloc: Global, said: &[u8], name: &[u8]) -> Result<bool, Fail> {
+    let mut message = Vec::from_slice(alloc, b"Content-Type: image/gif\nContent-Disposition: ")?;
+    message.extend_from_slice(said)?;
+    message.extend_from_slice(b"\n\nx")?;
+    let mut input = Text::new(&message, 1_000);
+    let mut out = Page::new(alloc, 1_000)?;
+    let mut err = Page::new(alloc, 1_000)?;
+    let mut dir = Shelf::new(alloc);
+    let form = NameForm::Utf8;
+    let done = try_unpack_in(
+        alloc, &mut input, &mut out, &mut err, &mut dir, form, false, false, false,
+    );
+    Ok(done == Ok(Status::Well) && dir.count() == 1 && dir.text(name) == Some(b"x".as_slice()))
+}
+
+#[test]
+fn names_in_utf8_are_those_of_files(rt: HostRuntime) -> Result<(), Fail> {
+    for row in &rows(rt.alloc(), TEXT_NAMES)? {
+        let (said, name) = (row.bytes("says"), row.bytes("file"));
+        assert!(rt; is_put_in_utf8(rt.alloc(), said, name)?, "{}", row.shows);
     }
     Ok(())
 }

@@ -2,8 +2,6 @@ use Rattle.std.proofs.Common.{◌≡◌, ◌∙◌, Err, sym, refl, map, inl}
 use Rattle.std.proofs.KnownBytes.{Appends-nil, Keeps-refl}
 use Rattle.mk_run.specs.Journaling.{begun, journaling_of}
 use Rattle.mk_transfer.specs.RunClauses.{held, counts}
-use Rattle.mk_run.specs.Runs.{run_from}
-use Rattle.mk_run.specs.inner.Sessions.{sunk}
 use Rattle.mk_script.specs.ScriptViews.{step_by, texts_of}
 use Rattle.mk_transfer.proofs.Fronts.{AppendsFront-none}
 use Rattle.mk_run.proofs.RunLemmas.{Leaves-session, Prints-session, named_reason, session_blamed, session_ended}

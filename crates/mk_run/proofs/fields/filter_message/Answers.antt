@@ -1,26 +1,8 @@
-use Rattle.std.proofs.lemmas.Result.{err_from_is_err_and}
-use Rattle.mk_mail.specs.LetterViews.{letters_of}
-use Rattle.mk_run.specs.FilterClauses.{SaysSome}
-use Rattle.mk_run.proofs.FilterLemmas.{given_all, given_none, given_some, on_err}
+use Rattle.std.proofs.Common.{◌∙◌, ap}
+use Rattle.mk_mail.specs.Letters.{are_allowed}
+use Rattle.mk_run.specs.FilterViews.{filter_of}
+use Rattle.mk_run.proofs.FilterLemmas.{allowed_for}
 use Rattle.mk_run.proofs.fields.filter_message.Goals as goal
 
-pub returns-in-Ok-Some-clause-all : goal.returns-in-Ok-Some-clause-all
-returns-in-Ok-Some-clause-all g c =
-    let l = letters_of c.args.letters.now in
-    let given = rw (c.in-Ok-Some.field-0-is, c.doc.ensures, c.in-Ok.ensures.ok) at c.in-Ok-Some.ensures in
-    given_all l c.args.number c.args.message.items c.in-Ok-Some.text.items _ _ _ given (rw c.deref.ensures.value at c.in_ok-send-in-Ok-Some.ensures.sends.whole)
-
-pub returns-in_err-send-in-Ok-Some-clause-some : goal.returns-in_err-send-in-Ok-Some-clause-some
-returns-in_err-send-in-Ok-Some-clause-some g c =
-    let stopped = err_from_is_err_and c.from_residual.result c.from_residual.ensures.1 in
-    let l = letters_of c.args.letters.now in
-    let given = rw (c.in-Ok-Some.field-0-is, c.doc.ensures, c.in-Ok.ensures.ok) at c.in-Ok-Some.ensures in
-    rw stopped.1 (given_some l c.args.number c.args.message.items c.in-Ok-Some.text.items _ _ _ given (rw c.deref.ensures.value at c.in_err-send-in-Ok-Some.ensures.sends.front))
-
-pub returns-in-Ok-None-clause-some : goal.returns-in-Ok-None-clause-some
-returns-in-Ok-None-clause-some g c =
-    let l = letters_of c.args.letters.now in
-    let given = rw (c.in-Ok-None.field-0-is, c.doc.ensures, c.in-Ok.ensures.ok) at c.in-Ok-None.ensures in
-    on_err c.edit_message.result _ _ c.edit_message.ensures.some
-    (λ h. given_none (λ said. SaysSome said (g.O.Sink.contents c.args.out.now) (g.O.Sink.contents c.edit_message.new.out) (g.E.Sink.contents c.args.err.now) (g.E.Sink.contents c.edit_message.new.err)) l c.args.number c.args.message.items given
-    (h c.args.message.items c.in-Ok.ensures.ok))
+pub say_message-requires : goal.say_message-requires
+say_message-requires g c = ap are_allowed c.letters_for-letters.ensures ∙ allowed_for (filter_of c.args.filter.now) c.deref.result.now c.requires

@@ -1,7 +1,7 @@
 use Rattle.std.proofs.Common.{◌∙◌, ◌++◌, ◌∷◌, [], refl, sym, subst, inl, inr, arith}
 use Rattle.std.proofs.KnownBytes.{Consumes-nil, Consumes-trans}
 use Rattle.std.specs.Io.KnownBytes.{IsAtEnd}
-use Rattle.mk_mail.specs.LetterViews.{letters_of}
+use Rattle.mk_run.specs.FilterViews.{filter_of}
 use Rattle.mk_transfer.specs.RunClauses.{counts}
 use Rattle.mk_transfer.proofs.GivenUp.{not_reading}
 use Rattle.mk_run.proofs.FilterLemmas.{all_out, counted_on, known_between, long_on, no_silence, none_out, one_out, sending_blamed, stopped_between, stopped_here, stopped_within, too_many, turns_out}
@@ -9,7 +9,7 @@ use Rattle.mk_run.proofs.filtering.filter_each.Goals as goal
 
 pub loop-turn-init : goal.loop-turn-init
 loop-turn-init g c = record {
-  told = ([], [], Consumes-nil _, none_out (letters_of c.args.letters.now) _ _ c.new-mailbox.result c.new-mailbox.ensures.kept);
+  told = ([], [], Consumes-nil _, none_out (filter_of c.args.filter.now) _ _ c.new-mailbox.result c.new-mailbox.ensures.kept);
   ended = λ e. no_silence (sym e ∙ c.new-mailbox.ensures.ended);
   well = record { input = refl; output = refl; errors = refl };
   unfinished = refl;
@@ -22,7 +22,7 @@ returns-then-are_too_many-clause-leaves g c =
       t.0,
       t.2,
       record {
-        says = stopped_here (letters_of c.args.letters.now) _ _ t.0 t.1 c.loop-turn.mailbox _ _ _ _ t.3;
+        says = stopped_here (filter_of c.args.filter.now) _ _ t.0 t.1 c.loop-turn.mailbox _ _ _ _ t.3;
         silent = no_silence;
         known = λ _ _. inr (rw (c.reads.ensures, c.reads-before.ensures) at (too_many c.are_too_many.result c.reads-before.result c.reads.result c.are_too_many.ensures c.if-are_too_many.true));
       },
@@ -34,7 +34,7 @@ returns-clause-leaves g c =
       t.0,
       t.2,
       record {
-        says = stopped_here (letters_of c.args.letters.now) _ _ t.0 t.1 c.loop-turn.mailbox _ _ _ _ t.3;
+        says = stopped_here (filter_of c.args.filter.now) _ _ t.0 t.1 c.loop-turn.mailbox _ _ _ _ t.3;
         silent = no_silence;
         known = λ _ _. inr (turns_out c.loop-turn.turn _ _ _ (omega (arith, c.loop-turn-test.false)) c.loop-turn.invariant.count);
       },
@@ -42,7 +42,7 @@ returns-clause-leaves g c =
 
 pub returns-in-Err-ReadFault-clause-leaves : goal.returns-in-Err-ReadFault-clause-leaves
 returns-in-Err-ReadFault-clause-leaves g c =
-    let l = letters_of c.args.letters.now in
+    let l = filter_of c.args.filter.now in
     let t = c.loop-turn.invariant.told in
     let e = c.in-Err-ReadFault.ensures.exact in (
       t.0 ++ e.0,
@@ -64,7 +64,7 @@ returns-in-Err-Memory-clause-leaves g c =
       t.0 ++ e.0,
       Consumes-trans _ _ _ t.0 e.0 t.2 e.1,
       record {
-        says = stopped_between (letters_of c.args.letters.now) _ _ t.0 e.0 t.1 c.loop-turn.mailbox _ _ _ _ t.3 e.2;
+        says = stopped_between (filter_of c.args.filter.now) _ _ t.0 e.0 t.1 c.loop-turn.mailbox _ _ _ _ t.3 e.2;
         silent = no_silence;
         known = λ r. cc;
       },
@@ -80,7 +80,7 @@ returns-in-Ok-None-clause-leaves g c =
     ] in (
       t.0 ++ e.0,
       Consumes-trans _ _ _ t.0 e.0 t.2 e.1,
-      record { says = all_out (letters_of c.args.letters.now) _ c.loop-turn.refused t.0 e.0 t.1 c.loop-turn.mailbox c.next.new.self _ _ _ _ t.3 e.2 e.4; ended = ended },
+      record { says = all_out (filter_of c.args.filter.now) _ c.loop-turn.refused t.0 e.0 t.1 c.loop-turn.mailbox c.next.new.self _ _ _ _ t.3 e.2 e.4; ended = ended },
     )
 
 pub returns-in-Err-clause-leaves : goal.returns-in-Err-clause-leaves
@@ -90,7 +90,7 @@ returns-in-Err-clause-leaves g c =
       t.0 ++ e.0,
       Consumes-trans _ _ _ t.0 e.0 t.2 e.1,
       record {
-        says = stopped_within (letters_of c.args.letters.now) _ c.loop-turn.refused t.0 e.0 c.in-Ok-Some.message.items t.1 c.loop-turn.mailbox c.next.new.self _ _ _ _ _ _ t.3 e.2 e.4 c.in-Err.ensures.some;
+        says = stopped_within (filter_of c.args.filter.now) _ c.loop-turn.refused t.0 e.0 c.in-Ok-Some.message.items t.1 c.loop-turn.mailbox c.next.new.self _ _ _ _ _ _ t.3 e.2 e.4 c.in-Err.ensures.some;
         silent = no_silence;
         known = λ r. not_reading c.in-Err.stop c.writing.result c.writing.ensures r;
       },
@@ -115,7 +115,7 @@ loop-turn-preserved g c =
         t.0 ++ e.0,
         t.1 ++ m ∷ [],
         Consumes-trans _ _ _ t.0 e.0 t.2 e.1,
-        one_out (letters_of c.args.letters.now) c.loop-turn.turn c.loop-turn.refused c.in-Ok.told t.0 e.0 m t.1 c.loop-turn.mailbox c.next.new.self _ _ _ _ _ _ t.3 e.2 (λ o. (c.next.ensures.stays o).0) e.4 c.in-Ok.ensures.all,
+        one_out (filter_of c.args.filter.now) c.loop-turn.turn c.loop-turn.refused c.in-Ok.told t.0 e.0 m t.1 c.loop-turn.mailbox c.next.new.self _ _ _ _ _ _ t.3 e.2 (λ o. (c.next.ensures.stays o).0) e.4 c.in-Ok.ensures.all,
       );
       ended = λ n. elim (c.next.ensures.ended n) [
         | inl old ↦ subst IsAtEnd (sym (c.next.ensures.stays old).1) (c.loop-turn.invariant.ended old)

@@ -1,6 +1,6 @@
 use Rattle.std.proofs.Common.{refl, sym, subst}
 use Rattle.std.proofs.KnownBytes.{Keeps-refl}
-use Rattle.mk_mail.specs.LetterViews.{letters_of}
+use Rattle.mk_run.specs.FilterViews.{filter_of}
 use Rattle.mk_run.specs.FilterClauses.{SaysSome}
 use Rattle.mk_transfer.proofs.GivenUp.{not_reading}
 use Rattle.mk_transfer.specs.RunClauses.{counts}
@@ -16,7 +16,7 @@ returns-in-Err-clause-leaves g c =
 
 pub returns-in-Err-filter_message-clause-leaves : goal.returns-in-Err-filter_message-clause-leaves
 returns-in-Err-filter_message-clause-leaves g c =
-    let one = said_one (letters_of c.args.letters.now) 1 c.in-Ok.message.items in (
+    let one = said_one (filter_of c.args.filter.now) 1 c.in-Ok.message.items in (
       c.in-Ok.message.items,
       c.in-Ok.ensures.all,
       record {

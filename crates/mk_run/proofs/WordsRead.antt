@@ -1,0 +1,110 @@
+-- A value that was written in encoded words is read again.
+use Rattle.std.proofs.Common.{◌≡◌, ◌==◌, ◌||◌, ◌++◌, if◌then◌else◌, ℕ, Bool, true, false, not, List, [], ◌∷◌, Some, refl, ap, sym, ◌∙◌, map}
+use Rattle.std.specs.Prelude.{codes}
+use Rattle.std.specs.List.{list_all}
+use Rattle.std.specs.Str.{IsUtf8}
+use Rattle.std.proofs.lemmas.Bool.{and_parts, not-true}
+use Rattle.base64.specs.GeneralPurpose.{IsBytes}
+use Rattle.mk_line.specs.declared.cutting.Ending.{Ending}
+use Rattle.mk_line.specs.Ascii.{is_blank, is_name_byte}
+use Rattle.mk_line.specs.Lines.{is_nil}
+use Rattle.mk_line.specs.Marks.{trimmed, trimmed_before}
+use Rattle.mk_head.specs.Values.{stripped}
+use Rattle.mk_code.specs.EncodedWords.{Run, Gap, Word, has_pair, is_shown, run_before, runs, shown, unfolded, words_decoded, words_encoded}
+use Rattle.mk_code.proofs.OutputCuts.{differs}
+use Rattle.mk_code.proofs.WordsBack.{words_back}
+use Rattle.mk_code.proofs.WordsKept.{unfold_byte, words_kept}
+use Rattle.mk_script.specs.Paths.{parted}
+use Rattle.mk_script.proofs.PieceLemmas.{HoldsNo, parted-append}
+use Rattle.mk_run.specs.Filtering.{behind_colon, part_behind}
+use Rattle.mk_run.specs.Wording.{decoded_value, is_plain, line_byte, worded_by, worded_field, worded_parts}
+use Rattle.mk_run.proofs.Wordings.{needed, plain_stays}
+use Rattle.mk_run.specs.WordLaws.{WordedFieldsAreRead, is_one_line}
+
+-- a space before a value stays before what it says
+space_shown : (rs : List Run) → shown false (run_before 32 rs) ≡ 32 ∷ shown false rs
+space_shown [] = refl
+space_shown (Gap gap ∷ rs) = refl
+space_shown (Word word ∷ rs) = refl
+
+space_decoded : (value : List ℕ) → words_decoded (32 ∷ value) ≡ 32 ∷ words_decoded value
+space_decoded value = ap (λ bytes. shown false (runs bytes)) (unfold_byte 32 value refl refl) ∙ space_shown (runs (unfolded value))
+
+-- a text on one line stays as it is
+line_kept : (text : List ℕ) → is_one_line text ≡ true → map line_byte text ≡ text
+line_kept [] h = refl
+line_kept (x ∷ xs) h =
+    let both = and_parts (not (x == 13 || x == 10)) (is_one_line xs) h in
+    rw (not-true (x == 13 || x == 10) both.0) (ap (λ ys. x ∷ ys) (line_kept xs both.1))
+
+spaced_value : (value text : List ℕ) → words_decoded value ≡ text → is_one_line text ≡ true → stripped text ≡ text → decoded_value (32 ∷ value) ≡ text
+spaced_value value text d l s =
+    ap (λ bytes. stripped (map line_byte bytes)) (space_decoded value ∙ ap (λ bytes. 32 ∷ bytes) d)
+    ∙ (ap stripped (line_kept text l) ∙ s)
+
+-- a name holds no colon and no blank
+no_colon : (name : List ℕ) → list_all is_name_byte name ≡ true → HoldsNo 58 name
+no_colon [] h = tt
+no_colon (x ∷ xs) h =
+    let both = and_parts (is_name_byte x) (list_all is_name_byte xs) h in
+    (λ e. let bad : true ≡ false = sym both.0 ∙ ap is_name_byte e in absurd (cc bad), no_colon xs both.1)
+
+no_blank : (byte : ℕ) → is_name_byte byte ≡ true → is_blank byte ≡ false
+no_blank byte h = rw (differs is_name_byte byte 32 refl h, differs is_name_byte byte 9 refl h) refl
+
+name_kept : (name : List ℕ) → list_all is_name_byte name ≡ true → trimmed name ≡ name
+name_kept [] h = refl
+name_kept (x ∷ xs) h =
+    let both = and_parts (is_name_byte x) (list_all is_name_byte xs) h in
+    ap (trimmed_before x) (name_kept xs both.1) ∙ before_name x xs (no_blank x both.0)
+  where
+    before_name : (byte : ℕ) (bytes : List ℕ) → is_blank byte ≡ false → trimmed_before byte bytes ≡ byte ∷ bytes
+    before_name byte [] n = rw n refl
+    before_name byte (next ∷ bytes) n = refl
+
+-- a field is parted at its colon
+abbrev field : List ℕ → List ℕ → List ℕ
+field name value = name ++ (codes ": " ++ value)
+
+field_parted : (name value : List ℕ) → list_all is_name_byte name ≡ true → parted 58 (field name value) ≡ Some (name, 32 ∷ value)
+field_parted name value h = parted-append 58 name (32 ∷ value) (no_colon name h)
+
+value_behind : (name value : List ℕ) → list_all is_name_byte name ≡ true → behind_colon (field name value) ≡ 32 ∷ value
+value_behind name value h = ap part_behind (field_parted name value h)
+
+-- the field that is made of a name and a text
+field_worded : (eol : Ending) (name text : List ℕ) → list_all is_name_byte name ≡ true → stripped text ≡ text
+    → worded_field eol (field name text) ≡ worded_parts eol (field name text) name text
+field_worded eol name text h s =
+    ap (worded_by eol (field name text)) (field_parted name text h)
+    ∙ ((λ i. worded_parts eol (field name text) (name_kept name h i) (stripped text)) ∙ ap (worded_parts eol (field name text) name) s)
+
+-- what is read where the text stays, and where it goes in as encoded words
+plain_read : (name text : List ℕ) → list_all is_name_byte name ≡ true → is_plain text ≡ true → is_one_line text ≡ true → stripped text ≡ text
+    → decoded_value (behind_colon (field name text)) ≡ text
+plain_read name text h p l s =
+    let both = and_parts (list_all is_shown text) (not (has_pair 61 63 text)) p in
+    ap decoded_value (value_behind name text h)
+    ∙ spaced_value text text (words_kept text both.0 (not-true (has_pair 61 63 text) both.1)) l s
+
+words_read : (eol : Ending) (name text : List ℕ) → list_all is_name_byte name ≡ true → IsBytes text → is_one_line text ≡ true → stripped text ≡ text
+    → decoded_value (behind_colon (field name (words_encoded eol text))) ≡ text
+words_read eol name text h b l s =
+    ap decoded_value (value_behind name (words_encoded eol text) h)
+    ∙ spaced_value (words_encoded eol text) text (words_back eol text b) l s
+
+-- what is read of a field whose text needs encoded words or not
+abbrev made_by : Ending → List ℕ → List ℕ → Bool → List ℕ
+made_by eol name text needs = decoded_value (behind_colon (if needs then field name (words_encoded eol text) else field name text))
+
+-- what is read of the field that is made of a name and a text
+parts_read : (eol : Ending) (name text : List ℕ) (stays : Bool) → is_plain text ≡ stays → list_all is_name_byte name ≡ true → IsUtf8 text → IsBytes text → is_one_line text ≡ true
+    → stripped text ≡ text → decoded_value (behind_colon (worded_parts eol (field name text) name text)) ≡ text
+parts_read eol name text true e h u b l s = ap (made_by eol name text) (plain_stays text u e) ∙ plain_read name text h e l s
+parts_read eol name text false e h u b l s = ap (made_by eol name text) (needed text u e) ∙ words_read eol name text h b l s
+
+pub worded_read : WordedFieldsAreRead
+worded_read eol name text n u b l s =
+    let h = (and_parts (not (is_nil name)) (list_all is_name_byte name) n).1 in
+    ap (λ made. decoded_value (behind_colon made)) (field_worded eol name text h s)
+    ∙ parts_read eol name text (is_plain text) refl h u b l s

@@ -1,0 +1,17 @@
+use Rattle.mk_mail.specs.LetterViews.{letters_of}
+use Rattle.mk_run.specs.Asked.{words_of}
+use Rattle.mk_run.proofs.Wordings.{asked_in_words}
+use Rattle.mk_run.proofs.letters.LetterWords.letters_in_words.Goals as goal
+
+pub returns : goal.returns
+returns c = asked_in_words c.args.eol (words_of c.args.self.now) (letters_of c.in-Some.letters) _ (rw c.in-Some.is at c.in_ok-letters.ensures) (λ same. λ i. record {
+  rename = (same i).rename;
+  add_if = c.in_ok-letters-2.ensures i;
+  add = c.in_ok-letters-3.ensures i;
+  prefixed = c.in_ok-letters-4.ensures i;
+  only = c.in_ok-letters-5.ensures i;
+  first = (same i).first;
+  last = (same i).last;
+  take = (same i).take;
+  whole = (same i).whole;
+})

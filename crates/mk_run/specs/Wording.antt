@@ -1,0 +1,59 @@
+-- Values of fields as people write them: encoded words read and made (RFC 2047; where they are read and made is our own).
+use Rattle.std.specs.Prelude.{◌==◌, ◌&&◌, ◌||◌, ◌++◌, if◌then◌else◌, ℕ, Bool, not, Option, None, Some, List, [], ◌∷◌, codes, map}
+use Rattle.std.specs.List.{list_all}
+use Rattle.std.specs.Option.{option_map}
+use Rattle.std.specs.Str.{is_utf8}
+use Rattle.mk_line.specs.declared.cutting.Ending.{Ending}
+use Rattle.mk_line.specs.Ascii.{carriage_return, colon, equals_sign, line_feed, question_mark, space}
+use Rattle.mk_line.specs.Marks.{trimmed}
+use Rattle.mk_head.specs.Values.{stripped}
+use Rattle.mk_code.specs.EncodedWords.{has_pair, is_shown, words_decoded, words_encoded}
+use Rattle.mk_script.specs.Paths.{parted}
+use Rattle.mk_run.specs.Asked.{PlainWords}
+
+-- a byte of a line: a space in the place of a carriage return or a line feed
+abbrev pub line_byte : ℕ → ℕ
+line_byte byte = if byte == carriage_return || byte == line_feed then space else byte
+
+-- what a value says: its encoded words decoded, on one line, without the blanks at both ends
+abbrev pub decoded_value : List ℕ → List ℕ
+decoded_value value = stripped (map line_byte (words_decoded value))
+
+-- that as a line (`--decode`)
+abbrev pub decoded_line : List ℕ → List ℕ
+decoded_line value = decoded_value value ++ line_feed ∷ []
+
+-- a value that stays: it is printable ASCII, and nothing in it begins like an encoded word
+abbrev pub is_plain : List ℕ → Bool
+is_plain value = list_all is_shown value && not (has_pair equals_sign question_mark value)
+
+-- any other value needs encoded words, where it is UTF-8
+abbrev pub needs_words : List ℕ → Bool
+needs_words value = is_utf8 value && not (is_plain value)
+
+-- a field of a name and a value, or as it is given, where its value needs no encoded words
+abbrev pub worded_parts : Ending → List ℕ → List ℕ → List ℕ → List ℕ
+worded_parts eol field name value = if needs_words value then name ++ (codes ": " ++ words_encoded eol value) else field
+
+-- a field that was parted at its colon
+abbrev pub worded_by : Ending → List ℕ → Option (List ℕ × List ℕ) → List ℕ
+worded_by eol field None = field
+worded_by eol field (Some p) = worded_parts eol field (trimmed p.0) (stripped p.1)
+
+-- a field whose value is in encoded words, where it needs them (`--encode`)
+abbrev pub worded_field : Ending → List ℕ → List ℕ
+worded_field eol field = worded_by eol field (parted colon field)
+
+-- words of the command line of which those that are fields are worded
+abbrev pub worded : Ending → PlainWords → PlainWords
+worded eol w = record {
+  rename = w.rename;
+  add_if = option_map (worded_field eol) w.add_if;
+  add = option_map (worded_field eol) w.add;
+  prefixed = option_map (worded_field eol) w.prefixed;
+  only = option_map (worded_field eol) w.only;
+  first = w.first;
+  last = w.last;
+  take = w.take;
+  whole = w.whole;
+}

@@ -1,0 +1,131 @@
+//! Values of fields as people write them: encoded words read and made (RFC 2047).
+
+ghost use Rattle.std.specs.Prelude.{◌≡◌, ◌≢◌, ◌++◌, true, false, IfOk, MatchOption, OnOk, map};
+ghost use Rattle.std.specs.List.{list_all};
+ghost use Rattle.mk_line.specs.Ascii.{equals_sign, question_mark};
+ghost use Rattle.mk_head.specs.Values.{stripped};
+ghost use Rattle.mk_code.specs.EncodedWords.{has_pair, is_shown as shown};
+ghost use Rattle.mk_run.specs.Wording.{decoded_line, is_plain as stays_plain, line_byte as byte_of_line, needs_words, worded_field as field_in_words, worded_parts};
+
+use memchr::memmem;
+use mk_code::{words_decode, words_encode};
+use mk_line::{Ending, leading_blanks, trimmed};
+use mk_script::parted;
+use std::alloc::{AllocError, Global};
+
+const COLON: u8 = b':';
+
+const LINE_FEED: u8 = b'\n';
+
+const CARRIAGE_RETURN: u8 = b'\r';
+
+/// What an encoded word begins with.
+const MARK: &[u8; 2] = b"=?";
+
+/// Writes what a value says after a text, as a line: its encoded words decoded, without the blanks at both ends. A line
+/// break that an encoded word holds becomes a space.
+pub(crate) fn push_decoded(
+    alloc: Global,
+    text: &mut Vec<u8>,
+    value: &[u8],
+) -> Result<(), AllocError>
+    ensures { OnOk result (text.new.items ≡ text.old.items ++ decoded_line value.now) }
+{
+    let line = on_one_line(alloc, &words_decode(alloc, value)?)?;
+    text.extend_from_slice(strip(&line))?;
+    text.push(LINE_FEED)?;
+    Ok(())
+}
+
+// The text with spaces in the places of its line breaks.
+fn on_one_line(alloc: Global, text: &[u8]) -> Result<Vec<u8>, AllocError>
+    ensures { IfOk result (λ line. line.items ≡ map byte_of_line text.now) }
+{
+    text.iter().map(|byte| line_byte(*byte)).collect(alloc)
+}
+
+fn line_byte(byte: u8) -> u8
+    ensures { result ≡ byte_of_line byte }
+{
+    if byte == CARRIAGE_RETURN || byte == LINE_FEED {
+        b' '
+    } else {
+        byte
+    }
+}
+
+// The text without the blanks at both ends.
+fn strip(text: &[u8]) -> &[u8]
+    ensures { result.now ≡ stripped text.now }
+{
+    trimmed(&text[leading_blanks(text)..])
+}
+
+/// A field with its value in encoded words, with `eol` between two, where the value isn't printable ASCII or holds `=?`. Other
+/// fields stay as they are, and those whose value isn't UTF-8.
+pub(crate) fn worded_field(alloc: Global, field: &[u8], eol: Ending) -> Result<Vec<u8>, AllocError>
+    requires { eol ≢ Ending.Missing }
+    ensures { IfOk result (λ worded. worded.items ≡ field_in_words eol field.now) }
+{
+    match parted(field, COLON) {
+        Some((name, value)) => in_words(alloc, field, trimmed(name), strip(value), eol),
+        None => Vec::from_slice(alloc, field),
+    }
+}
+
+// The field of a name and a value in encoded words, or the field as it is given.
+fn in_words(
+    alloc: Global,
+    field: &[u8],
+    name: &[u8],
+    value: &[u8],
+    eol: Ending,
+) -> Result<Vec<u8>, AllocError>
+    requires { eol ≢ Ending.Missing }
+    ensures { IfOk result (λ worded. worded.items ≡ worded_parts eol field.now name.now value.now) }
+{
+    match text_for_words(value) {
+        Some(text) => {
+            let mut worded = Vec::from_slice(alloc, name)?;
+            worded.extend_from_slice(b": ")?;
+            worded.extend_from_slice(&words_encode(alloc, text, eol)?)?;
+            Ok(worded)
+        }
+        None => Vec::from_slice(alloc, field),
+    }
+}
+
+// The value as text, where it needs encoded words.
+fn text_for_words(value: &[u8]) -> Option<&str>
+    ensures { MatchOption result (needs_words value.now ≡ false) (λ text. (needs_words value.now ≡ true) × (text.now ≡ value.now)) }
+{
+    match std::str::from_utf8(value) {
+        Ok(text) if !is_plain(value) => Some(text),
+        _ => None,
+    }
+}
+
+// Whether a value is printable ASCII and holds no `=?`.
+fn is_plain(value: &[u8]) -> bool
+    ensures { result ≡ stays_plain value.now }
+{
+    are_shown(value) && !has_mark(value)
+}
+
+fn has_mark(value: &[u8]) -> bool
+    ensures { result ≡ has_pair equals_sign question_mark value.now }
+{
+    memmem::find(value, MARK).is_some()
+}
+
+fn are_shown(value: &[u8]) -> bool
+    ensures { result ≡ list_all shown value.now }
+{
+    value.iter().all(|byte| is_shown(*byte))
+}
+
+fn is_shown(byte: u8) -> bool
+    ensures { result ≡ shown byte }
+{
+    byte >= b' ' && byte <= b'~'
+}

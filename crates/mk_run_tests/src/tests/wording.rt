@@ -1,0 +1,267 @@
+//! Values of fields as people write them: what `--decode` prints, and what `--encode` puts in. The expected bytes are
+//! worked out by hand from RFC 2047.
+
+ghost use Rattle.std.specs.Prelude.{◌≡◌, true};
+ghost use Rattle.mk_mail.specs.LetterViews.{letters_of};
+ghost use Rattle.mk_mail.specs.Letters.{are_allowed};
+
+use super::check_left;
+use super::devices::{Page, Text};
+use super::memory::page;
+use mk_line::Ending;
+use mk_mail::Letters;
+use mk_rows::{Row, rows};
+use mk_run::{FieldFilter, LetterWords, Status, give_up, try_field};
+use std::alloc::Global;
+use std::process::Abort;
+use std::test::Fail;
+
+/// What the fields of a name say.
+const DECODED: &str = r#"
+== an encoded word
+take: Subject:
+message: Subject: =?utf-8?B?R3LDvMOfZQ==?=\n\n
+output: Grüße\n
+status: Well
+
+== two encoded words on two lines are one text
+take: Subject:
+message: Subject: =?utf-8?Q?a_?=\r\n\t=?ISO-8859-1?q?=E9?=\r\n\r\n
+output: a é\n
+status: Well
+
+== a value without encoded words is unfolded
+take: subject:
+message: Subject:  \ta\n b =x?= \t\n\n
+output: a b =x?=\n
+status: Well
+
+== each field of the name is a line
+take: A:
+message: A: 1\nB: 2\nA:3\n\nA: 4\n
+output: 1\n3\n
+status: Well
+
+== an open last line and an empty value
+take: A:
+message: A:\nA: 1
+output: \n1\n
+status: Well
+
+== a charset that isn't known
+take: A:
+message: A: =?koi8-r?B?8A==?= =?utf-8?Q?b?=\n
+output: =?koi8-r?B?8A==?= b\n
+status: Well
+
+== bytes that aren't UTF-8 stand as they are
+take: A:
+message: A: caf\xe9 =?utf-8?Q?=E9?=\n
+output: caf\xe9 \xe9\n
+status: Well
+
+== a line break in an encoded word is no line break
+take: A:
+message: A: =?utf-8?Q?a=0D=0Ab=0A?=\n
+output: a  b\n
+status: Well
+
+== no field of the name
+take: C:
+message: A: 1\n\n
+status: Well
+"#;
+
+/// What goes into fields.
+const ENCODED: &str = r#"
+== a text that isn't ASCII takes the place of another
+only: Subject: Grüße
+message: Subject: a\n\n
+output: Subject: =?utf-8?B?R3LDvMOfZQ==?=\n\n
+status: Well
+
+== a text that holds what encoded words begin with
+add: Subject:  a =? b?
+message: A: 1\n\n
+output: A: 1\nSubject: =?utf-8?B?YSA9PyBiPw==?=\n\n
+status: Well
+
+== a plain text goes in as it is given
+add: Subject :  a = b?
+message: A: 1\n\n
+output: A: 1\nSubject :  a = b?\n\n
+status: Well
+
+== a tab isn't printable
+add if: B: a\tb
+message: A: 1\n
+output: A: 1\nB: =?utf-8?B?YQli?=\n
+status: Well
+
+== a field of the name is there
+add if: A: ä
+message: A: 1\n\n
+output: A: 1\n\n
+status: Well
+
+== the fields of the name get a prefix
+prefixed: a : ä\t
+message: A: 1\n\n
+output: Old-A: 1\na: =?utf-8?B?w6Q=?=\n\n
+status: Well
+
+== a long text is folded as the lines of the message end: LF
+add: B: ééééééééééééééééééééééé
+message: A: 1\n\n
+output: A: 1\nB: =?utf-8?B?w6nDqcOpw6nDqcOpw6nDqcOpw6nDqcOpw6nDqcOpw6nDqcOpw6nDqcOpw6k=?=\n =?utf-8?B?w6k=?=\n\n
+status: Well
+
+== a long text is folded as the lines of the message end: CR LF
+add: B: ééééééééééééééééééééééé
+message: A: 1\r\n\r\n
+output: A: 1\r\nB: =?utf-8?B?w6nDqcOpw6nDqcOpw6nDqcOpw6nDqcOpw6nDqcOpw6nDqcOpw6nDqcOpw6k=?=\r\n =?utf-8?B?w6k=?=\r\n\r\n
+status: Well
+
+== a name and a colon alone
+only: A:
+message: A: 1\nB: 2\n\n
+output: B: 2\n\n
+status: Well
+"#;
+
+fn word<'a>(row: &'a Row, key: &str) -> Option<&'a str> {
+    let cell = row.get(key)?;
+    std::str::from_utf8(&cell.bytes).ok()
+}
+
+fn words_in(row: &Row) -> LetterWords<'_> {
+    LetterWords {
+        add_if: word(row, "add if"),
+        add: word(row, "add"),
+        prefixed: word(row, "prefixed"),
+        only: word(row, "only"),
+        take: word(row, "take"),
+        ..LetterWords::default()
+    }
+}
+
+// Runs the filter of a row over devices that give and take this many bytes a call.
+fn check_row(rt: &impl Abort, alloc: Global, row: &Row, size: usize) -> Result<(), Fail> {
+    let words = words_in(row);
+    let (Some(lf), Some(crlf)) = (
+        words.letters_in_words(alloc, Ending::Lf)?,
+        words.letters_in_words(alloc, Ending::Crlf)?,
+    ) else {
+        assert!(rt; false, "no letters: {row:?}");
+        return Ok(());
+    };
+    assert!(rt; lf.ok() && crlf.ok(), "{row:?}");
+    let filter = FieldFilter {
+        lf: &lf,
+        crlf: &crlf,
+        decodes: true,
+    };
+    let mut out = Page::new(alloc, size)?;
+    let mut err = Page::new(alloc, size)?;
+    let mut input = Text::new(row.bytes("message"), size);
+    let status = match try_field(alloc, &mut input, &mut out, &mut err, &filter, false) {
+        Ok(status) => status,
+        Err(cause) => give_up(&mut err, cause),
+    };
+    check_left(rt, alloc, row, status, &out, &err)
+}
+
+#[test]
+fn values_are_decoded(rt: HostRuntime) -> Result<(), Fail> {
+    for row in &rows(rt.alloc(), DECODED)? {
+        check_row(&rt, rt.alloc(), row, 1_000)?;
+    }
+    Ok(())
+}
+
+#[test]
+fn values_are_encoded(rt: HostRuntime) -> Result<(), Fail> {
+    for row in &rows(rt.alloc(), ENCODED)? {
+        check_row(&rt, rt.alloc(), row, 7)?;
+    }
+    Ok(())
+}
+
+#[test]
+fn memory_for_encoding(rt: HostRuntime) {
+    let alloc = rt.alloc();
+    let words = LetterWords {
+        only: Some("A: \u{e4}"),
+        ..LetterWords::default()
+    };
+    let letters = match words.letters_in_words(alloc, Ending::Lf) {
+        Err(_) => words.letters_in_words(alloc, Ending::Lf),
+        other => other,
+    };
+    match letters {
+        Ok(
+            Some(
+                Letters {
+                    only: Some(field),
+                    ..
+                },
+            ),
+        ) => assert_eq!(rt; field.as_slice(), b"A: =?utf-8?B?w6Q=?=".as_slice()),
+        _ => assert!(rt; false, "no letters"),
+    }
+}
+
+const WORDS: &[u8] = b"A: =?utf-8?Q?=C3=A4?=\nB: x\nA: 2\n\n";
+
+const SAID: &[u8] = b"\xc3\xa4\n2\n";
+
+// What the fields of a name say goes out, or a front of it.
+fn check_decoding(
+    rt: &impl Abort,
+    alloc: Global,
+    mut out: Page,
+    mut err: Page,
+    letters: &Letters,
+) -> Status
+    requires { are_allowed (letters_of letters.now) ≡ true }
+{
+    let filter = FieldFilter {
+        lf: letters,
+        crlf: letters,
+        decodes: true,
+    };
+    let mut input = Text::new(WORDS, 1_000);
+    match try_field(alloc, &mut input, &mut out, &mut err, &filter, false) {
+        Ok(status) => {
+            assert_eq!(rt; out.bytes(), SAID);
+            status
+        }
+        Err(cause) => {
+            assert!(rt; SAID.starts_with(out.bytes()));
+            give_up(&mut err, cause)
+        }
+    }
+}
+
+#[test]
+fn memory_for_decoding(rt: HostRuntime) {
+    let alloc = rt.alloc();
+    let words = LetterWords {
+        take: Some("A:"),
+        ..LetterWords::default()
+    };
+    let (Ok(Some(letters)), Ok(out), Ok(err)) = (
+        words.letters(alloc),
+        Page::new(alloc, 1_000),
+        Page::new(alloc, 1_000),
+    ) else {
+        return;
+    };
+    if letters.ok() && check_decoding(&rt, alloc, out, err, &letters) == Status::Memory {
+        let (out, err) = (page(&rt, alloc), page(&rt, alloc));
+        assert_eq!(rt;
+            check_decoding(&rt, alloc, out, err, &letters),
+            Status::Well
+        );
+    }
+}
