@@ -3,4 +3,4 @@
 
 mod listing;
 
-pub use listing::list;
+pub use listing::{list, list_in};

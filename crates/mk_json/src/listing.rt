@@ -1,7 +1,7 @@
 //! A JSON object for each section of a document.
 
 use mk_tree::{Children, Doc, Kind, Section};
-use mk_view::{Leaf, leaves, media_type, push_path, said_name};
+use mk_view::{Leaf, NameForm, leaves_in, media_type, said_name, text_name};
 use serde_json::Value;
 use std::alloc::{AllocError, Global};
 
@@ -30,11 +30,16 @@ const KEYS: [&str; 9] = [
 const WORDS: usize = 4;
 
 /// Lists the sections of a document as JSON, an object a line, in the order of `mk_view::list` and with its words and
-/// numbers. After those stand, where a section has them, its boundary, its charset, the name that its fields say and the one
-/// that it would be stored under. Bytes that aren't UTF-8 become U+FFFD. Own format.
+/// numbers. After those stand, where a section has them, its boundary, its charset, the name that its fields say, as a text and
+/// as it stands there, and the name that it would be stored under. Bytes that aren't UTF-8 become U+FFFD. Own format.
 pub fn list(alloc: Global, doc: &Doc) -> Result<Vec<u8>, AllocError> {
+    list_in(alloc, doc, NameForm::Plain)
+}
+
+/// The same, with the names for storing in a form.
+pub fn list_in(alloc: Global, doc: &Doc, form: NameForm) -> Result<Vec<u8>, AllocError> {
     let plain = mk_view::list(alloc, doc)?;
-    let stored = leaves(alloc, doc, true)?;
+    let stored = leaves_in(alloc, doc, form, true)?;
     let mut stored = stored.iter();
     let mut above = Vec::new(alloc);
     let mut text = Vec::new(alloc);
@@ -97,8 +102,7 @@ fn push_object(
     push_member(alloc, text, "boundary", section.boundary())?;
     let media = media_type(alloc, section)?;
     push_member(alloc, text, "charset", media.param(b"charset"))?;
-    let name = said_name(alloc, section)?;
-    push_member(alloc, text, "filename", name.as_deref())?;
+    push_names(alloc, text, section)?;
     push_member(
         alloc,
         text,
@@ -107,6 +111,16 @@ fn push_object(
     )?;
     text.extend_from_slice(b"}\n")?;
     Ok(())
+}
+
+// Writes the name that the fields of a section say: as a text, else as it stands there, and once more as it stands there.
+fn push_names(alloc: Global, text: &mut Vec<u8>, section: &Section<'_>) -> Result<(), AllocError> {
+    let raw = said_name(alloc, section)?;
+    match text_name(alloc, section)? {
+        Some(name) => push_member(alloc, text, "filename", Some(name.as_bytes()))?,
+        None => push_member(alloc, text, "filename", raw.as_deref())?,
+    }
+    push_member(alloc, text, "raw_filename", raw.as_deref())
 }
 
 // Writes the columns of a line of the listing after a text, as the first members of an object.

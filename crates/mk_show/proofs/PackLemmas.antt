@@ -1,5 +1,5 @@
 -- The last piece of a text, and the body after a head.
-use Rattle.std.proofs.Common.{◌≡◌, ◌≢◌, ◌++◌, ℕ, suc, Bool, true, false, Option, None, Some, List, [], ◌∷◌, ◌<◌, length, length-append, length-drop, drop, nat_lt, arith, sym, ap, ◌∙◌, refl, subst, inl, inr}
+use Rattle.std.proofs.Common.{◌≡◌, ◌≢◌, ◌++◌, ℕ, suc, Bool, true, false, Option, None, Some, List, [], ◌∷◌, ◌<◌, length, length-append, length-drop, drop, nat_lt, arith, sym, ap, ◌∙◌, refl, inl, inr}
 use Rattle.std.proofs.lemmas.Bool.{cases_Bool, le-ltb, lt-ltb}
 use Rattle.std.specs.Option.{option_map, unwrap_or}
 use Rattle.mk_line.specs.declared.cutting.Ending.{Ending}

@@ -6,8 +6,8 @@ use Rattle.mk_transfer.specs.declared.status.Status.TheVariants.{Well, Refused, 
 use Rattle.mk_transfer.specs.declared.status.Cause.{Cause}
 use Rattle.mk_transfer.specs.declared.status.Cause.TheVariants.{Read, Write, Memory as NoMemory}
 use Rattle.mk_transfer.specs.Said.{Run}
-use Rattle.mk_transfer.specs.RunClauses.{IsGivenUp, Reason, held, status_of}
-use Rattle.mk_show.specs.Shown.{EndsShown, Shows, ShowsSoFar, Writes}
+use Rattle.mk_transfer.specs.RunClauses.{Reason, held, status_of}
+use Rattle.mk_show.specs.Shown.{Shows, ShowsSoFar, Writes}
 
 -- an answer that was written, or partly
 pub ShowsSoFar-written : (R : Run → Type 0) (run : Run) (result : Result Status Cause) (input input_after out out_after err err_after : Option (List ℕ))

@@ -9,6 +9,7 @@ use Rattle.mk_tree.specs.Sections.{section_at}
 use Rattle.mk_view.specs.declared.extracting.ExtractError.{ExtractError}
 use Rattle.mk_view.specs.Extracts.{IsExtract, IsExtractRefused}
 use Rattle.mk_mailbox.specs.Devices.{AppendsFront}
+use Rattle.mk_view.specs.declared.text_names.NameForm.{NameForm}
 use Rattle.mk_view.specs.FileNames.{Named}
 use Rattle.mk_transfer.specs.declared.status.Cause.{Cause}
 use Rattle.mk_transfer.specs.declared.status.Cause.TheVariants.{Read, Write, Memory as NoMemory}
@@ -175,10 +176,10 @@ shown_status said b status h e = by_errors said.errors b status h e
     by_errors (byte ∷ bytes) b status h e = sym (e ∙ ap (λ (c : Bool). if c then Refused else Well) h)
 
 -- all leaves were unpacked, and the run ended by itself
-pub IsUnpacked-all : (manner : Manner) (texts : Bool) (t : Document) (leaves : List Named) (refused : Bool) (status : Status) (input left out sent err told : Option (List ℕ)) (old new : Option Files)
-    → AreLeaves texts t leaves → UnpackedAll manner t leaves refused (written out err old) (written sent told new) → status ≡ (if refused then Refused else Well) → IsAtEnd left
-    → IsUnpacked manner texts t status (held input out err) (held left sent told) old new
-IsUnpacked-all manner texts t leaves refused status input left out sent err told old new are u e end = record {
+pub IsUnpacked-all : (manner : Manner) (form : NameForm) (texts : Bool) (t : Document) (leaves : List Named) (refused : Bool) (status : Status) (input left out sent err told : Option (List ℕ)) (old new : Option Files)
+    → AreLeaves form texts t leaves → UnpackedAll manner t leaves refused (written out err old) (written sent told new) → status ≡ (if refused then Refused else Well) → IsAtEnd left
+    → IsUnpacked manner form texts t status (held input out err) (held left sent told) old new
+IsUnpacked-all manner form texts t leaves refused status input left out sent err told old new are u e end = record {
   leaves = leaves;
   are_leaves = are;
   said = u.said;
@@ -187,19 +188,19 @@ IsUnpacked-all manner texts t leaves refused status input left out sent err told
 }
 
 -- a run that ended by itself
-pub Stores-ended : (why : Reason) (manner : Manner) (texts : Bool) (t : Document) (status : Status) (before after : Held) (old new : Option Files)
-    → StoresSoFar manner texts t (Ok status) before after old new → Stores why manner texts t status before after old new
-Stores-ended why manner texts t Well before after old new s = s
-Stores-ended why manner texts t Refused before after old new s = s
-Stores-ended why manner texts t Usage before after old new s = s
-Stores-ended why manner texts t Fault before after old new s = absurd s
-Stores-ended why manner texts t Memory before after old new s = absurd s
+pub Stores-ended : (why : Reason) (manner : Manner) (form : NameForm) (texts : Bool) (t : Document) (status : Status) (before after : Held) (old new : Option Files)
+    → StoresSoFar manner form texts t (Ok status) before after old new → Stores why manner form texts t status before after old new
+Stores-ended why manner form texts t Well before after old new s = s
+Stores-ended why manner form texts t Refused before after old new s = s
+Stores-ended why manner form texts t Usage before after old new s = s
+Stores-ended why manner form texts t Fault before after old new s = absurd s
+Stores-ended why manner form texts t Memory before after old new s = absurd s
 
 -- some leaves were unpacked, and the run was given up
-IsBrokenOff-some : (why : Reason) (manner : Manner) (texts : Bool) (t : Document) (leaves : List Named) (cause : Cause) (status : Status) (input left out sent err between told : Option (List ℕ)) (old new : Option Files)
-    → AreLeaves texts t leaves → UnpackedSome manner t leaves (written out err old) (written sent between new) → status_of cause ≡ status → (cause ≡ Read → Keeps out sent) → why cause between told
-    → IsBrokenOff why manner texts t status (held input out err) (held left sent told) old new
-IsBrokenOff-some why manner texts t leaves cause status input left out sent err between told old new are u e silent line = record {
+IsBrokenOff-some : (why : Reason) (manner : Manner) (form : NameForm) (texts : Bool) (t : Document) (leaves : List Named) (cause : Cause) (status : Status) (input left out sent err between told : Option (List ℕ)) (old new : Option Files)
+    → AreLeaves form texts t leaves → UnpackedSome manner t leaves (written out err old) (written sent between new) → status_of cause ≡ status → (cause ≡ Read → Keeps out sent) → why cause between told
+    → IsBrokenOff why manner form texts t status (held input out err) (held left sent told) old new
+IsBrokenOff-some why manner form texts t leaves cause status input left out sent err between told old new are u e silent line = record {
   leaves = leaves;
   are_leaves = are;
   done = u.done;
@@ -219,18 +220,18 @@ not_read_either : {A : Type 0} → NoMemory ≡ Read → A
 not_read_either e = absurd cc
 
 -- what was left when a run stopped, and the line that says why
-pub Stores-given_up : (why : Reason) (manner : Manner) (texts : Bool) (t : Document) (cause : Cause) (input left out sent err between told : Option (List ℕ)) (old new : Option Files)
-    → StoresSoFar manner texts t (Err cause) (held input out err) (held left sent between) old new → why cause between told
-    → Stores why manner texts t (status_of cause) (held input out err) (held left sent told) old new
-Stores-given_up why manner texts t Read input left out sent err between told old new w line = elim w [
+pub Stores-given_up : (why : Reason) (manner : Manner) (form : NameForm) (texts : Bool) (t : Document) (cause : Cause) (input left out sent err between told : Option (List ℕ)) (old new : Option Files)
+    → StoresSoFar manner form texts t (Err cause) (held input out err) (held left sent between) old new → why cause between told
+    → Stores why manner form texts t (status_of cause) (held input out err) (held left sent told) old new
+Stores-given_up why manner form texts t Read input left out sent err between told old new w line = elim w [
   | inl u ↦ inl (record { cause = Read; status_is = refl; output = u.output; between = between; errors = u.errors; line = line }, u.files)
   | inr h ↦ absurd (h.writing refl)
 ]
-Stores-given_up why manner texts t Write input left out sent err between told old new w line = elim w [
+Stores-given_up why manner form texts t Write input left out sent err between told old new w line = elim w [
   | inl u ↦ inl (record { cause = Write; status_is = refl; output = u.output; between = between; errors = u.errors; line = line }, u.files)
-  | inr h ↦ inr (IsBrokenOff-some why manner texts t h.leaves Write Fault input left out sent err between told old new h.are_leaves h.some refl (λ r. not_read r) line)
+  | inr h ↦ inr (IsBrokenOff-some why manner form texts t h.leaves Write Fault input left out sent err between told old new h.are_leaves h.some refl (λ r. not_read r) line)
 ]
-Stores-given_up why manner texts t NoMemory input left out sent err between told old new w line = elim w [
+Stores-given_up why manner form texts t NoMemory input left out sent err between told old new w line = elim w [
   | inl u ↦ inl (record { cause = NoMemory; status_is = refl; output = u.output; between = between; errors = u.errors; line = line }, u.files)
-  | inr h ↦ inr (IsBrokenOff-some why manner texts t h.leaves NoMemory Memory input left out sent err between told old new h.are_leaves h.some refl (λ r. not_read_either r) line)
+  | inr h ↦ inr (IsBrokenOff-some why manner form texts t h.leaves NoMemory Memory input left out sent err between told old new h.are_leaves h.some refl (λ r. not_read_either r) line)
 ]

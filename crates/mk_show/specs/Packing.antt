@@ -5,10 +5,14 @@ use Rattle.mk_line.specs.Lines.{TextLine, cut, eol_of}
 use Rattle.mk_head.specs.Split.{behind_head, fields_from}
 use Rattle.mk_head.specs.Splits.{has_line}
 use Rattle.mk_head.specs.Fields.{fields_of}
+use Rattle.mk_build.specs.declared.attachment.Attach.{Attach}
 use Rattle.mk_build.specs.declared.building.BuildError.{BuildError}
 use Rattle.mk_build.specs.declared.building.BuildError.TheVariants as refused
+use Rattle.mk_build.specs.BuildViews.{attached_of, named_of}
 use Rattle.mk_build.specs.Building.{Attached, build_refusal, built, first_failing, is_free_field}
 use Rattle.mk_transfer.specs.Said.{Run, shown}
+use Rattle.mk_view.specs.declared.text_names.NameForm.{NameForm}
+use Rattle.mk_view.specs.declared.text_names.NameForm.TheVariants.{Plain, Utf8}
 
 -- the fields at the start of lines, each with all its bytes
 abbrev pub fields_in_front : List TextLine → List (List ℕ)
@@ -51,6 +55,11 @@ pack_line error = codes "pack: " ++ (build_name error ++ (behind_name (index_of 
 abbrev pub told : List ℕ → Option BuildError → Run
 told message None = shown message []
 told message (Some error) = shown [] (pack_line error)
+
+-- a part with its name in a form
+abbrev pub part_in : NameForm → Attach → Attached
+part_in Plain a = attached_of a
+part_in Utf8 a = named_of a
 
 -- the message of the fields that a text gives and of these parts, with the line ending of the text
 abbrev pub packed : List ℕ → List Attached → List ℕ → Run

@@ -38,7 +38,7 @@ is_text media = is_text_main (parted slash media)
 
 -- a file that holds these bytes as a part: under its name, texts as quoted-printable and all else as base64
 abbrev pub attached_file : Spec → List ℕ → Attached
-attached_file spec text = record { media = spec.media; name = Some (file_name spec.path); text = text; base64 = not (is_text spec.media) }
+attached_file spec text = record { media = spec.media; name = Some (file_name spec.path); said = None; text = text; base64 = not (is_text spec.media) }
 
 -- what is in memory
 abbrev pub spec_view : declared.Spec → Spec

@@ -6,6 +6,7 @@ use Rattle.mk_tree.specs.Documents.{Document, tree}
 use Rattle.mk_tree.specs.Sections.{section_at}
 use Rattle.mk_mailbox.specs.Devices.{AppendsFront, Rose}
 use Rattle.mk_view.specs.Extracts.{IsExtract}
+use Rattle.mk_view.specs.declared.text_names.NameForm.{NameForm}
 use Rattle.mk_view.specs.FileNames.{Named}
 use Rattle.mk_transfer.specs.declared.status.Status.{Status}
 use Rattle.mk_transfer.specs.declared.status.Status.TheVariants.{Well, Refused, Usage, Fault, Memory}
@@ -104,18 +105,18 @@ abbrev pub manner_of : Bool → Bool → Manner
 manner_of over silent = record { over = over; silent = silent }
 
 -- the run ended by itself: all leaves that are stored were unpacked
-pub record IsUnpacked (manner : Manner) (texts : Bool) (t : Document) (status : Status) (before after : Held) (old new : Option Files) : Type 0 where
+pub record IsUnpacked (manner : Manner) (form : NameForm) (texts : Bool) (t : Document) (status : Status) (before after : Held) (old new : Option Files) : Type 0 where
   pub leaves : List Named
-  pub are_leaves : AreLeaves texts t leaves
+  pub are_leaves : AreLeaves form texts t leaves
   pub said : Said
   pub unpacks : Unpacks manner t leaves said old new
   pub run : IsDone status (shown said.output said.errors) before after
 
 -- the run was given up: a front of the leaves was unpacked, a front of what is said of them went out, and of the next leaf at
 -- most a front was put
-pub record IsBrokenOff (why : Reason) (manner : Manner) (texts : Bool) (t : Document) (status : Status) (before after : Held) (old new : Option Files) : Type 0 where
+pub record IsBrokenOff (why : Reason) (manner : Manner) (form : NameForm) (texts : Bool) (t : Document) (status : Status) (before after : Held) (old new : Option Files) : Type 0 where
   pub leaves : List Named
-  pub are_leaves : AreLeaves texts t leaves
+  pub are_leaves : AreLeaves form texts t leaves
   pub done : List Named
   pub rest : List Named
   pub leaves_are : leaves ≡ done ++ rest
@@ -130,25 +131,25 @@ abbrev pub IsUnbegun : Reason → Status → Held → Held → Option Files → 
 IsUnbegun why status before after old new = IsSilent why status before after × (new ≡ old)
 
 -- what a run leaves that ended by itself
-abbrev pub EndsStored : Manner → Bool → Document → Status → Held → Held → Option Files → Option Files → Type 0
-EndsStored manner texts t Well before after old new = IsUnpacked manner texts t Well before after old new
-EndsStored manner texts t Refused before after old new = IsUnpacked manner texts t Refused before after old new
-EndsStored manner texts t Usage before after old new = ⊥
-EndsStored manner texts t Fault before after old new = ⊥
-EndsStored manner texts t Memory before after old new = ⊥
+abbrev pub EndsStored : Manner → NameForm → Bool → Document → Status → Held → Held → Option Files → Option Files → Type 0
+EndsStored manner form texts t Well before after old new = IsUnpacked manner form texts t Well before after old new
+EndsStored manner form texts t Refused before after old new = IsUnpacked manner form texts t Refused before after old new
+EndsStored manner form texts t Usage before after old new = ⊥
+EndsStored manner form texts t Fault before after old new = ⊥
+EndsStored manner form texts t Memory before after old new = ⊥
 
 -- what a run leaves that unpacks a document, by its status
-abbrev pub Stores : Reason → Manner → Bool → Document → Status → Held → Held → Option Files → Option Files → Type 0
-Stores why manner texts t Well before after old new = IsUnpacked manner texts t Well before after old new
-Stores why manner texts t Refused before after old new = IsUnpacked manner texts t Refused before after old new
-Stores why manner texts t Usage before after old new = ⊥
-Stores why manner texts t Fault before after old new = IsUnbegun why Fault before after old new ⊎ IsBrokenOff why manner texts t Fault before after old new
-Stores why manner texts t Memory before after old new = IsUnbegun why Memory before after old new ⊎ IsBrokenOff why manner texts t Memory before after old new
+abbrev pub Stores : Reason → Manner → NameForm → Bool → Document → Status → Held → Held → Option Files → Option Files → Type 0
+Stores why manner form texts t Well before after old new = IsUnpacked manner form texts t Well before after old new
+Stores why manner form texts t Refused before after old new = IsUnpacked manner form texts t Refused before after old new
+Stores why manner form texts t Usage before after old new = ⊥
+Stores why manner form texts t Fault before after old new = IsUnbegun why Fault before after old new ⊎ IsBrokenOff why manner form texts t Fault before after old new
+Stores why manner form texts t Memory before after old new = IsUnbegun why Memory before after old new ⊎ IsBrokenOff why manner form texts t Memory before after old new
 
 -- the same for the message that the run read
-abbrev pub LeavesUnpacked : Reason → Manner → Bool → Status → Held → Held → Option Files → Option Files → Type 0
-LeavesUnpacked why manner texts status before after old new =
-    (message : List ℕ) × Consumes before.input after.input message × Stores why manner texts (tree message) status before after old new
+abbrev pub LeavesUnpacked : Reason → Manner → NameForm → Bool → Status → Held → Held → Option Files → Option Files → Type 0
+LeavesUnpacked why manner form texts status before after old new =
+    (message : List ℕ) × Consumes before.input after.input message × Stores why manner form texts (tree message) status before after old new
 
 -- nothing was written before the run was given up
 pub record IsUntouched (before after : Held) (old new : Option Files) : Type 0 where
@@ -157,18 +158,18 @@ pub record IsUntouched (before after : Held) (old new : Option Files) : Type 0 w
   pub files : new ≡ old
 
 -- the run was given up after a front of the leaves, though not for a fault of reading
-pub record IsHalted (manner : Manner) (texts : Bool) (t : Document) (cause : Cause) (before after : Held) (old new : Option Files) : Type 0 where
+pub record IsHalted (manner : Manner) (form : NameForm) (texts : Bool) (t : Document) (cause : Cause) (before after : Held) (old new : Option Files) : Type 0 where
   pub leaves : List Named
-  pub are_leaves : AreLeaves texts t leaves
+  pub are_leaves : AreLeaves form texts t leaves
   pub some : UnpackedSome manner t leaves (written before.output before.errors old) (written after.output after.errors new)
   pub writing : cause ≡ Read → ⊥
 
 -- what a run leaves that unpacks a document, where it may be given up
-abbrev pub StoresSoFar : Manner → Bool → Document → Result Status Cause → Held → Held → Option Files → Option Files → Type 0
-StoresSoFar manner texts t (Ok status) before after old new = EndsStored manner texts t status before after old new
-StoresSoFar manner texts t (Err cause) before after old new = IsUntouched before after old new ⊎ IsHalted manner texts t cause before after old new
+abbrev pub StoresSoFar : Manner → NameForm → Bool → Document → Result Status Cause → Held → Held → Option Files → Option Files → Type 0
+StoresSoFar manner form texts t (Ok status) before after old new = EndsStored manner form texts t status before after old new
+StoresSoFar manner form texts t (Err cause) before after old new = IsUntouched before after old new ⊎ IsHalted manner form texts t cause before after old new
 
 -- the same for the message that the run read
-abbrev pub LeavesUnpackedSoFar : Manner → Bool → Result Status Cause → Held → Held → Option Files → Option Files → Type 0
-LeavesUnpackedSoFar manner texts result before after old new =
-    (message : List ℕ) × Consumes before.input after.input message × StoresSoFar manner texts (tree message) result before after old new
+abbrev pub LeavesUnpackedSoFar : Manner → NameForm → Bool → Result Status Cause → Held → Held → Option Files → Option Files → Type 0
+LeavesUnpackedSoFar manner form texts result before after old new =
+    (message : List ℕ) × Consumes before.input after.input message × StoresSoFar manner form texts (tree message) result before after old new

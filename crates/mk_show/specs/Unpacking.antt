@@ -5,7 +5,9 @@ use Rattle.mk_tree.specs.Documents.{Document}
 use Rattle.mk_tree.specs.Sections.{Placed, section_at}
 use Rattle.mk_view.specs.declared.extracting.ExtractError.{ExtractError}
 use Rattle.mk_view.specs.Extracts.{IsExtract, IsExtractRefused}
-use Rattle.mk_view.specs.FileNames.{Named, all_stored}
+use Rattle.mk_view.specs.FileNames.{Named}
+use Rattle.mk_view.specs.TextNames.{all_stored_in}
+use Rattle.mk_view.specs.declared.text_names.NameForm.{NameForm}
 use Rattle.mk_view.specs.GivenNames.{AreGiven, numbered}
 use Rattle.mk_view.specs.Listing.{type_of, type_text}
 use Rattle.mk_transfer.specs.Said.{Said, silence, said_behind}
@@ -87,6 +89,6 @@ Unpacks manner t (leaf ∷ leaves) said old new =
     × Unpacks manner t leaves more between new
     × (said ≡ said_behind first more)
 
--- the leaves of a document that are stored, each with its name
-abbrev pub AreLeaves : Bool → Document → List Named → Type 0
-AreLeaves texts t leaves = AreGiven [] (all_stored texts t) leaves
+-- the leaves of a document that are stored, each with its name in a form
+abbrev pub AreLeaves : NameForm → Bool → Document → List Named → Type 0
+AreLeaves form texts t leaves = AreGiven [] (all_stored_in form texts t) leaves

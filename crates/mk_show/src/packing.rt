@@ -1,19 +1,21 @@
 //! A message packed from fields and files, over any devices.
 
-ghost use Rattle.std.specs.Prelude.{◌≡◌, ◌⊎◌, true, map, IfOk, IfErr, OnOk};
-ghost use Rattle.mk_build.specs.BuildViews.{attached_of};
+ghost use Rattle.std.specs.Prelude.{◌≡◌, ◌≢◌, ◌⊎◌, None, true, map, IfOk, IfErr, OnOk};
+ghost use Rattle.mk_build.specs.BuildViews.{attached_of, IsBuildRefused};
+ghost use Rattle.mk_build.specs.Building.{build_refusal, built};
 ghost use Rattle.mk_transfer.specs.RunClauses.{held, counts, reason, IsBlamed, SameFailures, ReadFailed, WriteFailed, ends_itself};
 ghost use Rattle.mk_show.specs.Shown.{LeavesShown, LeavesShownSoFar, run_of_answer};
 ghost use Rattle.mk_line.specs.Lines.{cut as lines_of};
-ghost use Rattle.mk_show.specs.Packing.{IsPacked, build_name, fields_given, fields_in_front as fields_of_front, has_body as has_a_body, index_of as index_named, pack_line};
+ghost use Rattle.mk_show.specs.Packing.{IsPacked, part_in, build_name, fields_given, fields_in_front as fields_of_front, has_body as has_a_body, index_of as index_named, pack_line};
 
 use crate::answers::Answer;
 use crate::showing::print;
-use mk_build::{Attach, BuildError, build};
+use mk_build::{Attach, BuildError, build, build_in_utf8};
 use mk_head::{each_field, header};
-use mk_line::eol_of;
+use mk_line::{Ending, eol_of};
 use mk_mailbox::{Sink, Source};
 use mk_transfer::{Cause, Status, give_up, read_all, reading};
+use mk_view::NameForm;
 use std::alloc::{AllocError, Global};
 
 /// Builds the message of the fields that the input gives and of these parts, and prints it. The fields are read without an
@@ -65,11 +67,35 @@ pub fn try_pack<S: Source, O: Sink, E: Sink>(
         (counts (S.failures input.old) (S.read_count input.old) (O.failures out.old) (E.failures err.old))
         (counts (S.failures input.new) (S.read_count input.new) (O.failures out.new) (E.failures err.new))) }
 {
+    try_pack_in(alloc, input, out, err, NameForm::Plain, boundary, parts)
+}
+
+/// Does the same, with names in a form.
+pub fn try_pack_in<S: Source, O: Sink, E: Sink>(
+    alloc: Global,
+    input: &mut S,
+    out: &mut O,
+    err: &mut E,
+    form: NameForm,
+    boundary: &[u8],
+    parts: &[Attach],
+) -> Result<Status, Cause>
+    ensures leaves { LeavesShownSoFar (IsPacked boundary.now (map (part_in form) parts.now)) result
+        (held (S.remaining input.old) (O.contents out.old) (E.contents err.old))
+        (held (S.remaining input.new) (O.contents out.new) (E.contents err.new)) }
+    ensures ended { IfOk result (λ status. ends_itself status ≡ true) }
+    ensures blamed { IfErr result (λ cause. IsBlamed cause
+        (counts (S.failures input.old) (S.read_count input.old) (O.failures out.old) (E.failures err.old))
+        (counts (S.failures input.new) (S.read_count input.new) (O.failures out.new) (E.failures err.new))) }
+    ensures clean { OnOk result (SameFailures
+        (counts (S.failures input.old) (S.read_count input.old) (O.failures out.old) (E.failures err.old))
+        (counts (S.failures input.new) (S.read_count input.new) (O.failures out.new) (E.failures err.new))) }
+{
     let text = match read_all(alloc, input) {
         Ok(text) => text,
         Err(stop) => return Err(reading(stop)),
     };
-    match message(alloc, &text, boundary, parts) {
+    match message(alloc, &text, form, boundary, parts) {
         Ok(answer) => print(out, err, &answer),
         Err(_) => Err(Cause::Memory),
     }
@@ -79,13 +105,14 @@ pub fn try_pack<S: Source, O: Sink, E: Sink>(
 fn message(
     alloc: Global,
     text: &[u8],
+    form: NameForm,
     boundary: &[u8],
     parts: &[Attach],
 ) -> Result<Answer, AllocError>
-    ensures { IfOk result (λ a. IsPacked boundary.now (map attached_of parts.now) text.now (run_of_answer a)) }
+    ensures { IfOk result (λ a. IsPacked boundary.now (map (part_in form) parts.now) text.now (run_of_answer a)) }
 {
     let fields = fields(alloc, text)?;
-    match build(alloc, &fields, parts, boundary, eol_of(text)) {
+    match build_in(alloc, form, &fields, parts, boundary, eol_of(text)) {
         Ok(output) => Ok(Answer {
             output,
             errors: Vec::new(alloc),
@@ -95,6 +122,25 @@ fn message(
             output: Vec::new(alloc),
             errors: refusal(alloc, reason)?,
         }),
+    }
+}
+
+// The message of these fields and parts, with names in a form.
+fn build_in(
+    alloc: Global,
+    form: NameForm,
+    fields: &[Vec<u8>],
+    parts: &[Attach],
+    boundary: &[u8],
+    eol: Ending,
+) -> Result<Vec<u8>, BuildError>
+    requires { eol ≢ Ending.Missing }
+    ensures text { IfOk result (λ text. (build_refusal (map (λ f. f.items) fields.now) (map (part_in form) parts.now) boundary.now ≡ None) × (text.items ≡ built eol (map (λ f. f.items) fields.now) (map (part_in form) parts.now) boundary.now)) }
+    ensures refused { IfErr result (λ error. IsBuildRefused (map (λ f. f.items) fields.now) (map (part_in form) parts.now) boundary.now error) }
+{
+    match form {
+        NameForm::Plain => build(alloc, fields, parts, boundary, eol),
+        NameForm::Utf8 => build_in_utf8(alloc, fields, parts, boundary, eol),
     }
 }
 

@@ -16,7 +16,7 @@ use crate::showing::read_doc;
 use mk_mailbox::{Fault, Sink, Source};
 use mk_transfer::{Cause, Status, Stop, give_up, reading, send, writing};
 use mk_tree::Section;
-use mk_view::{ExtractError, Leaf, content, leaves, numbered, push_type};
+use mk_view::{ExtractError, Leaf, NameForm, content, leaves_in, numbered, push_type};
 use std::alloc::{AllocError, Global};
 
 /// How many names are tried for a leaf: its own, and that with the numbers from 1 on after it.
@@ -47,7 +47,7 @@ pub fn unpack<S: Source, O: Sink, E: Sink, F: Folder>(
 ) -> Status
     ensures leaves { let before = counts (S.failures input.old) (S.read_count input.old) (O.failures out.old) (E.failures err.old) in
         let after = counts (S.failures input.new) (S.read_count input.new) (O.failures out.new) (E.failures err.new) in
-        LeavesUnpacked (reason_with before after (F.failures dir.old) (F.failures dir.new)) (manner_of over silent) texts result
+        LeavesUnpacked (reason_with before after (F.failures dir.old) (F.failures dir.new)) (manner_of over silent) NameForm.Plain texts result
         (held (S.remaining input.old) (O.contents out.old) (E.contents err.old))
         (held (S.remaining input.new) (O.contents out.new) (E.contents err.new))
         (F.files dir.old) (F.files dir.new) }
@@ -77,7 +77,46 @@ pub fn try_unpack<S: Source, O: Sink, E: Sink, F: Folder>(
     over: bool,
     silent: bool,
 ) -> Result<Status, Cause>
-    ensures leaves { LeavesUnpackedSoFar (manner_of over silent) texts result
+    ensures leaves { LeavesUnpackedSoFar (manner_of over silent) NameForm.Plain texts result
+        (held (S.remaining input.old) (O.contents out.old) (E.contents err.old))
+        (held (S.remaining input.new) (O.contents out.new) (E.contents err.new))
+        (F.files dir.old) (F.files dir.new) }
+    ensures ended { IfOk result (λ status. ends_itself status ≡ true) }
+    ensures blamed { IfErr result (λ cause. IsBlamedWith cause
+        (counts (S.failures input.old) (S.read_count input.old) (O.failures out.old) (E.failures err.old))
+        (counts (S.failures input.new) (S.read_count input.new) (O.failures out.new) (E.failures err.new))
+        (F.failures dir.old) (F.failures dir.new)) }
+    ensures clean { OnOk result (SameFailures
+        (counts (S.failures input.old) (S.read_count input.old) (O.failures out.old) (E.failures err.old))
+        (counts (S.failures input.new) (S.read_count input.new) (O.failures out.new) (E.failures err.new))) }
+    ensures folder_clean { OnOk result (F.failures dir.new ≡ F.failures dir.old) }
+{
+    try_unpack_in(
+        alloc,
+        input,
+        out,
+        err,
+        dir,
+        NameForm::Plain,
+        texts,
+        over,
+        silent,
+    )
+}
+
+/// Does the same, with names in a form.
+pub fn try_unpack_in<S: Source, O: Sink, E: Sink, F: Folder>(
+    alloc: Global,
+    input: &mut S,
+    out: &mut O,
+    err: &mut E,
+    dir: &mut F,
+    form: NameForm,
+    texts: bool,
+    over: bool,
+    silent: bool,
+) -> Result<Status, Cause>
+    ensures leaves { LeavesUnpackedSoFar (manner_of over silent) form texts result
         (held (S.remaining input.old) (O.contents out.old) (E.contents err.old))
         (held (S.remaining input.new) (O.contents out.new) (E.contents err.new))
         (F.files dir.old) (F.files dir.new) }
@@ -95,7 +134,7 @@ pub fn try_unpack<S: Source, O: Sink, E: Sink, F: Folder>(
         Ok(doc) => doc,
         Err(stop) => return Err(reading(stop)),
     };
-    let stored = match leaves(alloc, &doc, texts) {
+    let stored = match leaves_in(alloc, &doc, form, texts) {
         Ok(stored) => stored,
         Err(_) => return Err(Cause::Memory),
     };

@@ -1,17 +1,22 @@
 //! The subcommands, over any devices.
 
+ghost use Rattle.std.specs.Prelude.{◌≡◌, ◌≢◌, true, IfOk, IfSome};
+ghost use Rattle.mk_mail.specs.LetterViews.{letters_of};
+ghost use Rattle.mk_mail.specs.Letters.{are_allowed};
+
 use crate::faults::{Problem, usage};
 use crate::files::{attachments, read, read_all};
 use crate::letters::letter_words;
 use crate::options::{
-    BOUNDARY, DIR, EACH, EDIT, EXTRACT, FIELD, JOURNAL, JSON, LINE, OVER, PACK, PATH, PIECE, REDO,
-    SCRIPT, SECTIONS, SILENT, SPEC, TEXTS, UNDO, UNPACK,
+    BOUNDARY, DECODE, DIR, EACH, EDIT, ENCODE, EXTRACT, FIELD, JOURNAL, JSON, LINE, OVER, PACK,
+    PATH, PIECE, REDO, SCRIPT, SECTIONS, SILENT, SPEC, TEXTS, UNDO, UNPACK, UTF8,
 };
 use clap::ArgMatches;
-use mk_mail::{Sink, Source};
+use mk_line::Ending;
+use mk_mail::{Letters, NameForm, Sink, Source};
 use mk_run::{
-    Cause, Journal, Status, Stop, read_doc, try_edit, try_extract, try_field, try_pack,
-    try_sections, try_unpack, write_all,
+    Cause, FieldFilter, Journal, Status, Stop, read_doc, try_edit, try_extract, try_field,
+    try_pack_in, try_sections, try_unpack_in, write_all,
 };
 use mk_script::numbers;
 use mk_system::{Directory, JournalFile, Output};
@@ -148,7 +153,7 @@ fn sections<R: AllocGlobal, S: Source, O: Sink, E: Sink>(
         Err(Stop::Fault) => return Err(Problem::Stopped(Cause::Read)),
         Err(Stop::Memory) => return Err(Problem::Stopped(Cause::Memory)),
     };
-    let listing = mk_json::list(alloc, &doc)?;
+    let listing = mk_json::list_in(alloc, &doc, name_form(matches))?;
     if write_all(out, &listing).is_ok() {
         Ok(Status::Well)
     } else {
@@ -182,11 +187,12 @@ fn unpack<R: Files<File = File> + AllocGlobal, S: Source, O: Sink, E: Sink>(
 ) -> Result<Status, Problem> {
     let alloc = rt.alloc();
     let path = matches.get_str(DIR).unwrap_or(WORKING_FOLDER);
+    let form = name_form(matches);
     let texts = matches.get_flag(TEXTS);
     let over = matches.get_flag(OVER);
     let silent = matches.get_flag(SILENT);
     let mut dir = Directory::new(rt, path);
-    let done = try_unpack(alloc, input, out, err, &mut dir, texts, over, silent);
+    let done = try_unpack_in(alloc, input, out, err, &mut dir, form, texts, over, silent);
     let unwritten = dir.close();
     match (done, unwritten) {
         (Ok(status), _) => Ok(status),
@@ -198,6 +204,15 @@ fn unpack<R: Files<File = File> + AllocGlobal, S: Source, O: Sink, E: Sink>(
             };
             Err(Problem::from(cause).blamed(alloc, Cause::Write, file, Some(unwritten.error)))
         }
+    }
+}
+
+// The form in which files are named.
+fn name_form(matches: &ArgMatches<'_>) -> NameForm {
+    if matches.get_flag(UTF8) {
+        NameForm::Utf8
+    } else {
+        NameForm::Plain
     }
 }
 
@@ -215,7 +230,8 @@ fn pack<R: Files + AllocGlobal, S: Source, O: Sink, E: Sink>(
     };
     let parts = attachments(rt, matches.get_strs(SPEC).unwrap_or(&[]))?;
     let boundary = boundary.as_bytes();
-    Ok(try_pack(alloc, input, out, err, boundary, &parts)?)
+    let form = name_form(matches);
+    Ok(try_pack_in(alloc, input, out, err, form, boundary, &parts)?)
 }
 
 // mimetool field
@@ -227,11 +243,38 @@ fn field<R: AllocGlobal, S: Source, O: Sink, E: Sink>(
     err: &mut E,
 ) -> Result<Status, Problem> {
     let alloc = rt.alloc();
-    if let Some(letters) = letter_words(matches).letters(alloc)? {
-        if letters.ok() {
-            let each = matches.get_flag(EACH);
-            return Ok(try_field(alloc, input, out, err, &letters, each)?);
-        }
+    let Some(lf) = letters_for(alloc, matches, Ending::Lf)? else {
+        return Ok(usage(err));
+    };
+    let Some(crlf) = letters_for(alloc, matches, Ending::Crlf)? else {
+        return Ok(usage(err));
+    };
+    let filter = FieldFilter {
+        lf: &lf,
+        crlf: &crlf,
+        decodes: matches.get_flag(DECODE),
+    };
+    let each = matches.get_flag(EACH);
+    Ok(try_field(alloc, input, out, err, &filter, each)?)
+}
+
+// What the letters ask for, for messages whose lines end with `eol`, where they may be asked for.
+fn letters_for(
+    alloc: Global,
+    matches: &ArgMatches<'_>,
+    eol: Ending,
+) -> Result<Option<Letters>, AllocError>
+    requires { eol ≢ Ending.Missing }
+    ensures allowed { IfOk result (λ letters. IfSome letters (λ l. are_allowed (letters_of l) ≡ true)) }
+{
+    let words = letter_words(matches);
+    let letters = if matches.get_flag(ENCODE) {
+        words.letters_in_words(alloc, eol)?
+    } else {
+        words.letters(alloc)?
+    };
+    match letters {
+        Some(letters) if letters.ok() => Ok(Some(letters)),
+        _ => Ok(None),
     }
-    Ok(usage(err))
 }

@@ -5,7 +5,9 @@ ghost use Rattle.clap.specs.Matches.{first_value, found_of};
 ghost use Rattle.mk_run.specs.Asked.{words_of};
 ghost use Rattle.mk_tool.specs.Found.{letter_words_found};
 
-use crate::options::{ADD, ADD_IF, FIRST, LAST, ONLY, PREFIXED, RENAME, TAKE, WHOLE};
+use crate::options::{
+    ADD, ADD_IF, DECODE, ENCODE, FIRST, LAST, ONLY, PREFIXED, RENAME, TAKE, WHOLE,
+};
 use clap::ArgMatches;
 use mk_run::LetterWords;
 use std::alloc::{AllocError, Global};
@@ -39,17 +41,10 @@ const A_NAME: &str = "write a name and a colon, as Subject:";
 
 const APART: &str = "-x and -X print fields, so neither stands beside another letter";
 
-const NO_WORDS: LetterWords<'static> = LetterWords {
-    rename: None,
-    add_if: None,
-    add: None,
-    prefixed: None,
-    only: None,
-    first: None,
-    last: None,
-    take: None,
-    whole: None,
-};
+/// What the options on encoded words want beside them.
+const DECODE_ALONE: &str = "--decode is for the values that -x prints";
+
+const ENCODE_ALONE: &str = "--encode is for the fields of -a, -A, -i and -I";
 
 // A letter alone, as it is written, with its word and what it takes.
 #[derive(Clone, Copy, Drop)]
@@ -77,6 +72,26 @@ pub fn why_refused(alloc: Global, words: &LetterWords<'_>) -> Result<Option<Stri
     Ok(Some(String::from_str(alloc, APART)?))
 }
 
+/// Why an option on encoded words is refused, if one is: it has no letter to work on.
+pub fn why_no_words(alloc: Global, matches: &ArgMatches<'_>) -> Result<Option<String>, AllocError> {
+    let words = letter_words(matches);
+    if matches.get_flag(DECODE) && words.take.is_none() {
+        return Ok(Some(String::from_str(alloc, DECODE_ALONE)?));
+    }
+    if matches.get_flag(ENCODE) && !gives_field(&words) {
+        return Ok(Some(String::from_str(alloc, ENCODE_ALONE)?));
+    }
+    Ok(None)
+}
+
+// Whether a letter is there that takes a field.
+fn gives_field(words: &LetterWords<'_>) -> bool {
+    words.add_if.is_some()
+        || words.add.is_some()
+        || words.prefixed.is_some()
+        || words.only.is_some()
+}
+
 // Whether these letters may be asked for.
 fn is_taken(alloc: Global, words: &LetterWords<'_>) -> Result<bool, AllocError> {
     match words.letters(alloc)? {
@@ -102,43 +117,82 @@ fn letters_alone<'a>(words: &LetterWords<'a>) -> [Alone<'a>; 9] {
         single(
             "--rename <OLD:NEW>",
             rename,
-            LetterWords { rename, ..NO_WORDS },
+            LetterWords {
+                rename,
+                ..LetterWords::default()
+            },
             A_PAIR,
         ),
         single(
             "-a <FIELD>",
             add_if,
-            LetterWords { add_if, ..NO_WORDS },
+            LetterWords {
+                add_if,
+                ..LetterWords::default()
+            },
             A_FIELD,
         ),
-        single("-A <FIELD>", add, LetterWords { add, ..NO_WORDS }, A_FIELD),
+        single(
+            "-A <FIELD>",
+            add,
+            LetterWords {
+                add,
+                ..LetterWords::default()
+            },
+            A_FIELD,
+        ),
         single(
             "-i <FIELD>",
             prefixed,
             LetterWords {
                 prefixed,
-                ..NO_WORDS
+                ..LetterWords::default()
             },
             A_FIELD_OR_NAME,
         ),
         single(
             "-I <FIELD>",
             only,
-            LetterWords { only, ..NO_WORDS },
+            LetterWords {
+                only,
+                ..LetterWords::default()
+            },
             A_FIELD_OR_NAME,
         ),
         single(
             "-u <NAME:>",
             first,
-            LetterWords { first, ..NO_WORDS },
+            LetterWords {
+                first,
+                ..LetterWords::default()
+            },
             A_NAME,
         ),
-        single("-U <NAME:>", last, LetterWords { last, ..NO_WORDS }, A_NAME),
-        single("-x <NAME:>", take, LetterWords { take, ..NO_WORDS }, A_NAME),
+        single(
+            "-U <NAME:>",
+            last,
+            LetterWords {
+                last,
+                ..LetterWords::default()
+            },
+            A_NAME,
+        ),
+        single(
+            "-x <NAME:>",
+            take,
+            LetterWords {
+                take,
+                ..LetterWords::default()
+            },
+            A_NAME,
+        ),
         single(
             "-X <NAME:>",
             whole,
-            LetterWords { whole, ..NO_WORDS },
+            LetterWords {
+                whole,
+                ..LetterWords::default()
+            },
             A_NAME,
         ),
     ]

@@ -21,6 +21,8 @@ pub const IN_PLACE: &str = "IN_PLACE";
 
 pub const JSON: &str = "json";
 
+pub const UTF8: &str = "utf8";
+
 pub const JOURNAL: &str = "JOURNAL";
 
 /// The subcommand that takes back the last step of an earlier run.
@@ -77,6 +79,10 @@ pub const TAKE: &str = "take";
 pub const WHOLE: &str = "whole";
 
 pub const EACH: &str = "each";
+
+pub const DECODE: &str = "decode";
+
+pub const ENCODE: &str = "encode";
 
 /// What a letter takes: a field, or a name and a colon.
 const A_FIELD: &str = "FIELD";
@@ -142,7 +148,7 @@ fn in_place<'a>(alloc: Global) -> Result<Arg<'a>, AllocError> {
         .conflicts_with(FROM)
 }
 
-// mimetool sections [--json]
+// mimetool sections [--json [--utf8]]
 fn sections_command<'a>(alloc: Global) -> Result<Command<'a>, AllocError> {
     Command::new(alloc, SECTIONS)
         .about("Lists the sections of the message, one a line")
@@ -150,7 +156,11 @@ fn sections_command<'a>(alloc: Global) -> Result<Command<'a>, AllocError> {
             "Examples:\n  mimetool sections < message\n  mimetool sections --json --from message",
         )
         .arg(from(alloc))?
-        .arg(flag(alloc, JSON, "Print a JSON object for each section").long(JSON))
+        .arg(flag(alloc, JSON, "Print a JSON object for each section").long(JSON))?
+        .arg(utf8(
+            alloc,
+            "With --json, give the names that unpack --utf8 gives",
+        ))
 }
 
 // mimetool extract -s PATH
@@ -170,7 +180,7 @@ fn extract_command<'a>(alloc: Global) -> Result<Command<'a>, AllocError> {
         .arg(path)
 }
 
-// mimetool unpack [-f] [-t] [--silent] [-C DIR]
+// mimetool unpack [-f] [-t] [--silent] [--utf8] [-C DIR]
 fn unpack_command<'a>(alloc: Global) -> Result<Command<'a>, AllocError> {
     let dir = Arg::new(alloc, DIR)
         .short('C')
@@ -186,10 +196,14 @@ fn unpack_command<'a>(alloc: Global) -> Result<Command<'a>, AllocError> {
         .arg(flag(alloc, OVER, "Overwrite existing files").short('f'))?
         .arg(flag(alloc, TEXTS, "Write texts without a name too").short('t'))?
         .arg(flag(alloc, SILENT, "Print no names").long(SILENT))?
+        .arg(utf8(
+            alloc,
+            "Name files in UTF-8, as the message says, not in ASCII alone",
+        ))?
         .arg(dir)
 }
 
-// mimetool pack -b BOUNDARY SPEC..
+// mimetool pack -b BOUNDARY [--utf8] SPEC..
 fn pack_command<'a>(alloc: Global) -> Result<Command<'a>, AllocError> {
     let boundary = Arg::new(alloc, BOUNDARY)
         .short('b')
@@ -207,19 +221,17 @@ fn pack_command<'a>(alloc: Global) -> Result<Command<'a>, AllocError> {
             "Examples:\n  mimetool pack -b =_b text/plain:letter image/gif:dot.gif < fields\n  printf 'Subject: report\\n' | mimetool pack -b =_b application/pdf:report.pdf",
         )
         .arg(boundary)?
+        .arg(utf8(
+            alloc,
+            "Write names of files that aren't ASCII as they are, too, for unpack --utf8",
+        ))?
         .arg(specs)
 }
 
-// mimetool field [-a FIELD] [-A FIELD] [-i FIELD] [-I FIELD] [-u NAME:] [-U NAME:] [-x NAME:] [-X NAME:] [--rename OLD:NEW] [-s]
+// mimetool field [-a FIELD] [-A FIELD] [-i FIELD] [-I FIELD] [-u NAME:] [-U NAME:] [-x NAME:] [-X NAME:] [--rename OLD:NEW] [--decode] [--encode] [-s]
 fn field_command<'a>(alloc: Global) -> Result<Command<'a>, AllocError> {
     let rename = letter(alloc, RENAME, "OLD:NEW", "Give the fields OLD the name NEW").long(RENAME);
-    let each = flag(
-        alloc,
-        EACH,
-        "Treat the input as a mailbox, message by message",
-    )
-    .short('s');
-    Command::new(alloc, FIELD)
+    let command = Command::new(alloc, FIELD)
         .about("Adds, renames and removes fields of a message, or prints those of a name")
         .after_help(
             "Examples:\n  mimetool field -I 'X-Seen: yes' --in-place message\n  mimetool field -s -x Subject: --from mailbox",
@@ -230,7 +242,15 @@ fn field_command<'a>(alloc: Global) -> Result<Command<'a>, AllocError> {
                 .conflicts_with(TAKE)?
                 .conflicts_with(WHOLE)?,
         )?
-        .arg(rename)?
+        .arg(rename)?;
+    let command = with_fields(alloc, command)?;
+    let command = with_names(alloc, command)?;
+    with_flags(alloc, command)
+}
+
+// The letters that take a field.
+fn with_fields<'a>(alloc: Global, command: Command<'a>) -> Result<Command<'a>, AllocError> {
+    command
         .arg(letter(
             alloc,
             ADD_IF,
@@ -252,12 +272,39 @@ fn field_command<'a>(alloc: Global) -> Result<Command<'a>, AllocError> {
             A_FIELD,
             "Remove the fields of its name, and add FIELD; a name and a colon alone add none",
         )
-        .short('I'))?
+        .short('I'))
+}
+
+// The letters that take a name.
+fn with_names<'a>(alloc: Global, command: Command<'a>) -> Result<Command<'a>, AllocError> {
+    command
         .arg(letter(alloc, FIRST, A_NAME, "Keep only the first field NAME").short('u'))?
         .arg(letter(alloc, LAST, A_NAME, "Keep only the last field NAME").short('U'))?
         .arg(letter(alloc, TAKE, A_NAME, "Print the values of the fields NAME").short('x'))?
-        .arg(letter(alloc, WHOLE, A_NAME, "Print the fields NAME").short('X'))?
-        .arg(each)
+        .arg(letter(alloc, WHOLE, A_NAME, "Print the fields NAME").short('X'))
+}
+
+// How values are read and written, and what the input is.
+fn with_flags<'a>(alloc: Global, command: Command<'a>) -> Result<Command<'a>, AllocError> {
+    command
+        .arg(flag(
+            alloc,
+            DECODE,
+            "With -x, print what each field says on one line, its encoded words decoded",
+        )
+        .long(DECODE))?
+        .arg(flag(
+            alloc,
+            ENCODE,
+            "Write values of FIELD that aren't plain ASCII as encoded words",
+        )
+        .long(ENCODE))?
+        .arg(flag(
+            alloc,
+            EACH,
+            "Treat the input as a mailbox, message by message",
+        )
+        .short('s'))
 }
 
 // An option with a value, which may begin with a hyphen.
@@ -272,6 +319,11 @@ fn letter<'a>(alloc: Global, name: &'a str, value: &'a str, help: &'a str) -> Ar
 // An option without a value.
 fn flag<'a>(alloc: Global, name: &'a str, help: &'a str) -> Arg<'a> {
     Arg::new(alloc, name).help(help).action(ArgAction::SetTrue)
+}
+
+// --utf8
+fn utf8<'a>(alloc: Global, help: &'a str) -> Arg<'a> {
+    flag(alloc, UTF8, help).long(UTF8)
 }
 
 // mimetool undo -j JOURNAL

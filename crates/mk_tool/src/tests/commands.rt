@@ -12,7 +12,10 @@ const MIXED: &[u8] =
 const NAMED: &[u8] =
     b"Content-Type: multipart/mixed; boundary=b\n\n--b\nContent-Type: text/plain; charset=\"utf-8\"; name=\"a\\\"b\"\n\none\n--b\nContent-Disposition: attachment; filename=\"n\xe9.txt\"\nContent-Type: text/plain; name=other\n\ntwo\n--b\n\n--b--\n";
 
-const ROWS: [Row; 9] = [
+/// A leaf whose name is said with a charset.
+const SAID: &[u8] = b"Content-Disposition: inline; filename*=iso-8859-1''caf%E9%20.txt\n\nx\n";
+
+const ROWS: [Row; 11] = [
     Row {
         shows: "the sections",
         words: &["sections"],
@@ -33,7 +36,23 @@ const ROWS: [Row; 9] = [
         shows: "names and charsets as JSON",
         words: &["sections", "--json"],
         message: NAMED,
-        output: b"{\"path\":\"1\",\"kind\":\"multi\",\"type\":\"multipart/mixed\",\"encoding\":\"identity\",\"start\":0,\"body\":43,\"end\":215,\"field_lines\":1,\"body_lines\":12,\"boundary\":\"b\"}\n{\"path\":\"1.1\",\"kind\":\"leaf\",\"type\":\"text/plain\",\"encoding\":\"identity\",\"start\":47,\"body\":103,\"end\":107,\"field_lines\":1,\"body_lines\":1,\"charset\":\"utf-8\",\"filename\":\"a\\\"b\",\"stored_as\":\"a_b\"}\n{\"path\":\"1.2\",\"kind\":\"leaf\",\"type\":\"text/plain\",\"encoding\":\"identity\",\"start\":111,\"body\":200,\"end\":204,\"field_lines\":2,\"body_lines\":1,\"filename\":\"n\xef\xbf\xbd.txt\",\"stored_as\":\"n_.txt\"}\n{\"path\":\"1.3\",\"kind\":\"leaf\",\"type\":\"text/plain\",\"encoding\":\"identity\",\"start\":208,\"body\":209,\"end\":209,\"field_lines\":0,\"body_lines\":0,\"stored_as\":\"part-1.3\"}\n",
+        output: b"{\"path\":\"1\",\"kind\":\"multi\",\"type\":\"multipart/mixed\",\"encoding\":\"identity\",\"start\":0,\"body\":43,\"end\":215,\"field_lines\":1,\"body_lines\":12,\"boundary\":\"b\"}\n{\"path\":\"1.1\",\"kind\":\"leaf\",\"type\":\"text/plain\",\"encoding\":\"identity\",\"start\":47,\"body\":103,\"end\":107,\"field_lines\":1,\"body_lines\":1,\"charset\":\"utf-8\",\"filename\":\"a\\\"b\",\"raw_filename\":\"a\\\"b\",\"stored_as\":\"a_b\"}\n{\"path\":\"1.2\",\"kind\":\"leaf\",\"type\":\"text/plain\",\"encoding\":\"identity\",\"start\":111,\"body\":200,\"end\":204,\"field_lines\":2,\"body_lines\":1,\"filename\":\"other\",\"raw_filename\":\"n\xef\xbf\xbd.txt\",\"stored_as\":\"n_.txt\"}\n{\"path\":\"1.3\",\"kind\":\"leaf\",\"type\":\"text/plain\",\"encoding\":\"identity\",\"start\":208,\"body\":209,\"end\":209,\"field_lines\":0,\"body_lines\":0,\"stored_as\":\"part-1.3\"}\n",
+        errors: b"",
+        status: Status::Well,
+    },
+    Row {
+        shows: "a name with a charset as JSON",
+        words: &["sections", "--json"],
+        message: SAID,
+        output: b"{\"path\":\"1\",\"kind\":\"leaf\",\"type\":\"text/plain\",\"encoding\":\"identity\",\"start\":0,\"body\":66,\"end\":68,\"field_lines\":1,\"body_lines\":1,\"filename\":\"caf\xc3\xa9 .txt\",\"stored_as\":\"part-1\"}\n",
+        errors: b"",
+        status: Status::Well,
+    },
+    Row {
+        shows: "the name that it gets in UTF-8",
+        words: &["sections", "--utf8", "--json"],
+        message: SAID,
+        output: b"{\"path\":\"1\",\"kind\":\"leaf\",\"type\":\"text/plain\",\"encoding\":\"identity\",\"start\":0,\"body\":66,\"end\":68,\"field_lines\":1,\"body_lines\":1,\"filename\":\"caf\xc3\xa9 .txt\",\"stored_as\":\"caf\xc3\xa9_.txt\"}\n",
         errors: b"",
         status: Status::Well,
     },

@@ -217,6 +217,49 @@ fn each_option_of_unpack_does_its_own(rt: HostRuntime) -> Result<(), Fail> {
 }
 
 #[test]
+fn names_are_kept_in_utf8(rt: HostRuntime) -> Result<(), Fail> {
+    let folder = "mimetool_utf8_test";
+    let message = b"Content-Disposition: inline; filename*=utf-8''d%2fcaf%C3%A9.txt\n\none";
+    let _ = fs::remove_dir_all(&rt, folder);
+    let found = obeyed(&rt, &["unpack", "--utf8", "-C", folder], message)?;
+    same(
+        &rt,
+        &found,
+        b"caf\xc3\xa9.txt (text/plain)\n",
+        b"",
+        Status::Well,
+    );
+    let text = fs::read_to_string(&rt, "mimetool_utf8_test/caf\u{e9}.txt")?;
+    assert_eq!(rt; text.as_str(), "one");
+    let found = obeyed(&rt, &["unpack", "-t", "-C", folder], message)?;
+    same(&rt, &found, b"part-1 (text/plain)\n", b"", Status::Well);
+    fs::remove_dir_all(&rt, folder)?;
+    Ok(())
+}
+
+#[test]
+fn files_are_packed_under_names_in_utf8(rt: HostRuntime) -> Result<(), Fail> {
+    let folder = "mimetool_packed_test";
+    let file = "mimetool_packed_test/caf\u{e9}.txt";
+    let word = "text/plain:mimetool_packed_test/caf\u{e9}.txt";
+    let _ = fs::remove_dir_all(&rt, folder);
+    fs::create_dir_all(&rt, folder)?;
+    fs::write(&rt, file, "hi\n")?;
+    let found = obeyed(&rt, &["pack", "--utf8", "-b", "b", word], b"")?;
+    same(
+        &rt,
+        &found,
+        b"MIME-Version: 1.0\nContent-Type: multipart/mixed; boundary=\"b\"\n\n--b\nContent-Type: text/plain; name=\"caf__.txt\"\nContent-Disposition: attachment; filename=\"caf__.txt\"; filename*=utf-8''caf%C3%A9.txt\nContent-Transfer-Encoding: quoted-printable\n\nhi\n\n--b--\n",
+        b"",
+        Status::Well,
+    );
+    let found = obeyed(&rt, &["pack", "-b", "b", word], b"")?;
+    same(&rt, &found, b"", b"pack: BadName 0\n", Status::Refused);
+    fs::remove_dir_all(&rt, folder)?;
+    Ok(())
+}
+
+#[test]
 fn files_go_to_the_working_folder(rt: HostRuntime) -> Result<(), Fail> {
     let name = "mimetool_working_test.txt";
     let message = b"Content-Type: text/plain; name=mimetool_working_test.txt\n\none\n";

@@ -11,7 +11,7 @@ const MAILBOX: &[u8] = b"From a\nA: 1\n\nx\n\nFrom b\nA: 2\n\ny\nFrom z\n\nFrom 
 const MIXED: &[u8] = b"Content-Type: multipart/mixed; boundary=b\n\n--b\n\none\n--b--\n";
 
 /// What is asked of the message, and what comes out where all is well.
-const WELL: [(&[&str], &[u8]); 17] = [
+const WELL: [(&[&str], &[u8]); 20] = [
     (&["field"], MESSAGE),
     (&["field", "-a", "A: 9"], MESSAGE),
     (&["field", "-a", "C: 9"], b"A: 1\nB: 2\nA: 3\nC: 9\n\nx\n"),
@@ -35,6 +35,12 @@ const WELL: [(&[&str], &[u8]); 17] = [
     ),
     (&["field", "-I", "B:", "-U", "A:"], b"A: 3\n\nx\n"),
     (&["field", "-s"], MESSAGE),
+    (&["field", "--decode", "-x", "A:"], b"1\n3\n"),
+    (
+        &["field", "--encode", "-I", "A: \u{e4}"],
+        b"B: 2\nA: =?utf-8?B?w6Q=?=\n\nx\n",
+    ),
+    (&["field", "-I", "A: \u{e4}"], b"B: 2\nA: \xc3\xa4\n\nx\n"),
 ];
 
 #[test]
@@ -73,7 +79,7 @@ fn other_words_are_refused(rt: HostRuntime) -> Result<(), Fail> {
     Ok(())
 }
 
-const ROWS: [Row; 4] = [
+const ROWS: [Row; 6] = [
     Row {
         shows: "each message of a mailbox",
         words: &["field", "-s", "-I", "A: 9"],
@@ -97,6 +103,22 @@ const ROWS: [Row; 4] = [
         output: MIXED,
         errors: b"message 1: Recut\n",
         status: Status::Refused,
+    },
+    Row {
+        shows: "an encoded word, decoded",
+        words: &["field", "--decode", "-s", "-x", "a:"],
+        message: b"From a\nA: =?utf-8?Q?=C3=A4?=\n\nFrom b\nA: 2\n",
+        output: b"\xc3\xa4\n2\n",
+        errors: b"",
+        status: Status::Well,
+    },
+    Row {
+        shows: "an encoded word as it stands",
+        words: &["field", "-x", "A:"],
+        message: b"A: =?utf-8?Q?=C3=A4?=\n",
+        output: b" =?utf-8?Q?=C3=A4?=\n",
+        errors: b"",
+        status: Status::Well,
     },
     Row {
         shows: "a field that begins with a hyphen",

@@ -97,7 +97,7 @@ fn invalid_values_are_named(rt: HostRuntime) -> Result<(), Fail> {
 }
 
 /// A command line, and the first line of what is said of it.
-const SENTENCES: [(&[&str], &str); 16] = [
+const SENTENCES: [(&[&str], &str); 20] = [
     (
         &["field", "-x", "A:", "-X", "A:"],
         "error: -x and -X print fields, so neither stands beside another letter\n",
@@ -105,6 +105,18 @@ const SENTENCES: [(&[&str], &str); 16] = [
     (
         &["field", "-x", "A:", "-I", "A: 9"],
         "error: -x and -X print fields, so neither stands beside another letter\n",
+    ),
+    (
+        &["field", "--decode", "-X", "A:"],
+        "error: --decode is for the values that -x prints\n",
+    ),
+    (
+        &["field", "--encode", "-u", "A:"],
+        "error: --encode is for the fields of -a, -A, -i and -I\n",
+    ),
+    (
+        &["field", "--encode", "--decode", "-x", "A:"],
+        "error: --encode is for the fields of -a, -A, -i and -I\n",
     ),
     (
         &["field", "-a"],
@@ -153,13 +165,21 @@ const SENTENCES: [(&[&str], &str); 16] = [
         "error: the argument '--in-place <FILE>' cannot be used with '-X <NAME:>'\n",
     ),
     (
+        &["sections", "--utf8"],
+        "error: --utf8 goes only with --json: the plain listing has no names\n",
+    ),
+    (
         &["sections", "--in-place", "a"],
         "error: unexpected argument '--in-place' found\n",
     ),
 ];
 
 /// Command lines that name a file that isn't there, and what is said of their words before that.
-const BESIDE_FILES: [(&[&str], &str); 7] = [
+const BESIDE_FILES: [(&[&str], &str); 8] = [
+    (
+        &["sections", "--utf8", "--from", "mimetool_none"],
+        "error: --utf8 goes only with --json: ",
+    ),
     (
         &["extract", "-s", ".1", "--from", "mimetool_none"],
         "error: invalid value '.1' for '-s <PATH>': ",

@@ -3,35 +3,35 @@ use Rattle.mk_tree.specs.Documents.{tree}
 use Rattle.mk_view.specs.LeafViews.{leaf_view}
 use Rattle.mk_transfer.proofs.GivenUp.{not_reading}
 use Rattle.mk_show.proofs.UnpackLemmas.{IsUnpacked-all}
-use Rattle.mk_show.proofs.unpacking.try_unpack.Goals as goal
+use Rattle.mk_show.proofs.unpacking.try_unpack_in.Goals as goal
 
 pub returns-in-Ok-true-clause-leaves : goal.returns-in-Ok-true-clause-leaves
 returns-in-Ok-true-clause-leaves g c =
     let t = tree c.in-Ok.doc in
-    let all = (rw c.in-Ok-true.field-0-test at c.in-Ok-true.ensures.all) t c.in-Ok-leaves.ensures.placed in (
+    let all = (rw c.in-Ok-true.field-0-test at c.in-Ok-true.ensures.all) t c.in-Ok-leaves_in.ensures.placed in (
       c.in-Ok.doc,
       c.in-Ok.ensures.all,
-      IsUnpacked-all _ c.args.texts t (map leaf_view c.in-Ok-leaves.stored.items) _ _ _ _ _ _ _ _ _ _ c.in-Ok-leaves.ensures.given all refl c.in-Ok.ensures.ended,
+      IsUnpacked-all _ c.args.form c.args.texts t (map leaf_view c.in-Ok-leaves_in.stored.items) _ _ _ _ _ _ _ _ _ _ c.in-Ok-leaves_in.ensures.given all refl c.in-Ok.ensures.ended,
     )
 
 pub returns-in-Ok-false-clause-leaves : goal.returns-in-Ok-false-clause-leaves
 returns-in-Ok-false-clause-leaves g c =
     let t = tree c.in-Ok.doc in
-    let all = (rw c.in-Ok-false.field-0-test at c.in-Ok-false.ensures.all) t c.in-Ok-leaves.ensures.placed in (
+    let all = (rw c.in-Ok-false.field-0-test at c.in-Ok-false.ensures.all) t c.in-Ok-leaves_in.ensures.placed in (
       c.in-Ok.doc,
       c.in-Ok.ensures.all,
-      IsUnpacked-all _ c.args.texts t (map leaf_view c.in-Ok-leaves.stored.items) _ _ _ _ _ _ _ _ _ _ c.in-Ok-leaves.ensures.given all refl c.in-Ok.ensures.ended,
+      IsUnpacked-all _ c.args.form c.args.texts t (map leaf_view c.in-Ok-leaves_in.stored.items) _ _ _ _ _ _ _ _ _ _ c.in-Ok-leaves_in.ensures.given all refl c.in-Ok.ensures.ended,
     )
 
 pub returns-clause-leaves : goal.returns-clause-leaves
 returns-clause-leaves g c =
     let t = tree c.in-Ok.doc in
-    let some = c.in-Err-unpack_all.ensures.some t c.in-Ok-leaves.ensures.placed in (
+    let some = c.in-Err-unpack_all.ensures.some t c.in-Ok-leaves_in.ensures.placed in (
       c.in-Ok.doc,
       c.in-Ok.ensures.all,
       inr (record {
-        leaves = map leaf_view c.in-Ok-leaves.stored.items;
-        are_leaves = c.in-Ok-leaves.ensures.given;
+        leaves = map leaf_view c.in-Ok-leaves_in.stored.items;
+        are_leaves = c.in-Ok-leaves_in.ensures.given;
         some = some;
         writing = λ r. not_reading c.in-Err-unpack_all.stop c.writing.result c.writing.ensures r;
       }),
