@@ -3,6 +3,7 @@
 //! local tests.
 mod agreeing;
 mod checks;
+mod counted;
 mod fields;
 mod flat;
 mod groups;
@@ -13,6 +14,9 @@ mod levels;
 mod long_groups;
 mod looks;
 mod memory;
+mod memory_decisions;
+mod memory_histories;
+mod memory_splices;
 mod meter;
 mod named;
 mod names;
@@ -44,6 +48,8 @@ pub enum TableError {
     Word(&'static str),
     /// A table that is to have one row has none, or this many more.
     Rows(usize),
+    /// An edit that a table begins with is refused.
+    Refused(EditError),
 }
 
 impl From<AllocError> for TableError {
@@ -55,6 +61,15 @@ impl From<AllocError> for TableError {
 impl<T: Drop> From<AllocFailed<T>> for TableError {
     fn from(_error: AllocFailed<T>) -> TableError {
         TableError::Memory
+    }
+}
+
+impl From<EditError> for TableError {
+    fn from(error: EditError) -> TableError {
+        match error {
+            EditError::Memory => TableError::Memory,
+            error => TableError::Refused(error),
+        }
     }
 }
 

@@ -3,9 +3,11 @@
 ghost use Rattle.std.specs.Prelude.{◌≡◌};
 
 mod changes;
+mod memory;
 mod rows;
 
-use mk_tree::{Doc, Kind, Section};
+use mk_head::Encoding;
+use mk_tree::{Described, Doc, Kind, Section, describe};
 use rows::{MIXED, Place, ROWS};
 use std::alloc::{AllocError, Global};
 use std::process::Abort;
@@ -194,19 +196,26 @@ fn odd_texts_are_kept(rt: HostRuntime) -> Result<(), Fail> {
 }
 
 #[test]
-fn memory_read(rt: HostRuntime) {
-    let Ok(text) = Vec::from_slice(rt.alloc(), MIXED) else {
-        return;
-    };
-    let doc = match Doc::read(rt.alloc(), text) {
-        Err((text, _)) => {
-            assert_eq!(rt; text.as_slice(), MIXED);
-            Doc::read(rt.alloc(), text)
+fn what_fields_say(rt: HostRuntime) -> Result<(), Fail> {
+    let alloc = rt.alloc();
+    let head = b"Subject: s\n t\nContent-Transfer-Encoding: (c) Base64\n";
+    let doc = read(&rt, alloc, head);
+    let root = doc.root();
+    let value = root.value(alloc, b"subject")?;
+    same(&rt, &value.expect(&rt, "a value"), b" s t");
+    assert!(rt; root.value(alloc, b"date")?.is_none());
+    assert_eq!(rt; root.encoding(alloc)?, Encoding::Base64);
+    match describe(
+        alloc,
+        b"Content-Type: multipart/digest; boundary=b\n",
+        false,
+    )? {
+        Described::Multi(boundary, digest) => {
+            same(&rt, &boundary, b"b");
+            assert!(rt; digest);
         }
-        read => read,
-    };
-    match doc {
-        Ok(doc) => assert_eq!(rt; (doc.text(), doc.root().parts()), (MIXED, 2)),
-        Err(_) => assert!(rt; false, "memory"),
+        _ => assert!(rt; false, "no multipart"),
     }
+    assert!(rt; matches!(describe(alloc, head, false)?, Described::Leaf));
+    Ok(())
 }

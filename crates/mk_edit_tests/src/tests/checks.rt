@@ -139,6 +139,12 @@ pub fn check_state(
     check_text(rt, alloc, session, state.text, shows)
 }
 
+/// A session has a text and so many steps. Unlike the other checks of a state, this takes no memory.
+pub fn check_bare(rt: &impl Abort, session: &Session, state: State<'_>, shows: &str) {
+    check_count(rt, session, state.done, state.undone, shows);
+    same(rt, session.text(), state.text, shows);
+}
+
 /// A session has the state after a step; the step is taken back and made again.
 pub fn check_round(
     rt: &impl Abort,

@@ -8,11 +8,12 @@ use std::alloc::Global;
 use std::process::Abort;
 use std::test::Fail;
 
-// Two sections and those at most so many levels below them.
-fn same_sections(rt: &impl Abort, one: &Section<'_>, other: &Section<'_>, levels: u8) {
+/// Two sections and those at most so many levels below them.
+pub fn same_sections(rt: &impl Abort, one: &Section<'_>, other: &Section<'_>, levels: u8) {
     assert_eq!(rt; one.kind(), other.kind());
     assert_eq!(rt; one.start(), other.start());
     assert_eq!(rt; one.body_start(), other.body_start());
+    assert_eq!(rt; one.head(), other.head());
     assert_eq!(rt; one.raw(), other.raw());
     assert_eq!(rt; one.boundary(), other.boundary());
     assert_eq!(rt; one.parts(), other.parts());
