@@ -3,14 +3,17 @@
 ALBUM = """\
 {"path":"1","kind":"multi","type":"multipart/mixed","encoding":"identity","start":0,"body":120,"end":529,"field_lines":4,"body_lines":20,"boundary":"cut here"}
 {"path":"1.1","kind":"leaf","type":"text/plain","encoding":"quoted-printable","start":159,"body":244,"end":267,"field_lines":2,"body_lines":2,"charset":"utf-8","stored_as":"part-1.1"}
-{"path":"1.2","kind":"leaf","type":"image/gif","encoding":"base64","start":278,"body":353,"end":402,"field_lines":2,"body_lines":1,"filename":"dot.gif","stored_as":"dot.gif"}
+{"path":"1.2","kind":"leaf","type":"image/gif","encoding":"base64","start":278,"body":353,"end":402,"field_lines":2,"body_lines":1,"filename":"dot.gif","raw_filename":"dot.gif","stored_as":"dot.gif"}
 {"path":"1.3","kind":"message","type":"message/rfc822","encoding":"identity","start":413,"body":443,"end":516,"field_lines":1,"body_lines":4}
 {"path":"1.3.1","kind":"leaf","type":"text/plain","encoding":"identity","start":443,"body":498,"end":516,"field_lines":2,"body_lines":1,"stored_as":"part-1.3.1"}
 """
 
 
 def leaf(**said):
-    return {"kind": "leaf", **said}
+    """A leaf; the name as it is written is `filename` unless it is said."""
+    if "filename" in said:
+        said = {"raw_filename": said["filename"], **said}
+    return {"kind": "leaf", **{key: value for key, value in said.items() if value is not None}}
 
 
 def of(fields, **said):
@@ -76,8 +79,9 @@ ROWS = [
     ("a byte that isn't UTF-8", *disposed(b'inline; filename="caf\xe9.gif"', "caf\ufffd.gif", "caf_.gif")),
     ("bytes that can't be UTF-8", *disposed(b'inline; filename="\xff\xfe"', "\ufffd\ufffd", "__")),
     ("a charset that isn't UTF-8", *of(b"Content-Type: text/plain; charset=\xff", charset="\ufffd", stored_as=PART)),
-    ("an encoded word", *disposed(b'inline; filename="=?utf-8?q?a=C3=A4.gif?="', "=?utf-8?q?a=C3=A4.gif?=", "__utf-8_q_a_C3_A4.gif__")),
-    ("an extended parameter", *of(b"Content-Disposition: inline; filename*=utf-8''a%20b", stored_as=PART)),
+    ("an encoded word", *of(b'Content-Disposition: inline; filename="=?utf-8?q?a=C3=A4.gif?="', filename="a\u00e4.gif",
+                            raw_filename="=?utf-8?q?a=C3=A4.gif?=", stored_as="__utf-8_q_a_C3_A4.gif__")),
+    ("an extended parameter", *of(b"Content-Disposition: inline; filename*=utf-8''a%20b", filename="a b", raw_filename=None, stored_as=PART)),
     ("a long file name", *disposed(b"inline; filename=" + b"n" * 300, "n" * 300, "n" * 100)),
     ("an unclosed file name", *disposed(b'inline; filename="a; b', "a; b", "a__b")),
     ("a comment in a file name", *disposed(b"inline; filename=a(b)c", "ac", "ac")),
@@ -92,19 +96,34 @@ ROWS = [
     ("names of other case", multi(b"b", GIF, GIF.replace(b"a.gif", b"A.gif")), [
         {"boundary": "b"}, leaf(filename="a.gif", stored_as="a.gif"), leaf(filename="A.gif", stored_as="A.gif")]),
     ("a message in a message", b"Content-Type: message/rfc822; name=m\n\nContent-Type: message/rfc822\n\n" + GIF, [
-        {"kind": "message", "filename": "m"}, {"kind": "message"}, leaf(filename="a.gif", stored_as="a.gif")]),
+        {"kind": "message", "filename": "m", "raw_filename": "m"}, {"kind": "message"}, leaf(filename="a.gif", stored_as="a.gif")]),
     ("a message in base64", *of(b"Content-Type: message/rfc822\nContent-Transfer-Encoding: base64", type="message/rfc822", encoding="base64", stored_as=PART)),
     ("an unknown encoding", *of(b"Content-Transfer-Encoding: x", encoding="other", stored_as=PART)),
     ("a digest", DIGEST, [
         {"type": "multipart/digest", "boundary": "d"}, {"kind": "message", "type": "message/rfc822"}, leaf(stored_as="part-1.1.1"),
         leaf(type="text/plain", charset="koi8-r", stored_as="part-1.2")]),
     ("a multipart with a name and a charset", multi(b"b", b"\nx", fields=b"Content-Type: multipart/mixed; name=n; charset=c; boundary=b"), [
-        {"kind": "multi", "boundary": "b", "charset": "c", "filename": "n"}, leaf(stored_as="part-1.1")]),
+        {"kind": "multi", "boundary": "b", "charset": "c", "filename": "n", "raw_filename": "n"}, leaf(stored_as="part-1.1")]),
     ("a multipart without parts", b"Content-Type: multipart/mixed; boundary=b\n\nx\n", [{"kind": "multi", "boundary": "b"}]),
     ("a boundary with blanks at its end", multi(b"b", b"\nx", fields=b'Content-Type: multipart/mixed; boundary="b \t"'), [
         {"kind": "multi", "boundary": "b"}, leaf(stored_as="part-1.1")]),
     ("a boundary with quotes and other bytes", multi(b'a"\\\xff', b"\nx", fields=b'Content-Type: multipart/mixed; boundary="a\\"\\\\\xff"'), [
         {"kind": "multi", "boundary": 'a"\\\ufffd'}, leaf(stored_as="part-1.1")]),
+]
+
+# A disposition, and with `--utf8` the name that it says and the one of its file.
+IN_UTF8 = [
+    (b"attachment; filename*=UTF-8''na%C3%AFve%20r%C3%A9sum%C3%A9.pdf", "na\u00efve r\u00e9sum\u00e9.pdf", "na\u00efve_r\u00e9sum\u00e9.pdf"),
+    (b"attachment; filename*0*=utf-8''%e2%82; filename*1*=%ac%20; filename*2=\"rates.txt\"", "\u20ac rates.txt", "__rates.txt"),
+    (b"attachment; filename*=utf-8'en'%zz; filename=\"x.txt\"", "x.txt", "x.txt"),
+    (b"attachment; filename=\"=?iso-8859-1?Q?caf=E9.txt?=\"", "caf\u00e9.txt", "caf\u00e9.txt"),
+    (b"attachment; filename*=utf-8''%e2%80%aetxt.exe", "\u202etxt.exe", "_txt.exe"),
+    (b"attachment; filename*=utf-8''..%2f..%2fetc%2fpasswd", "../../etc/passwd", "passwd"),
+    (b"attachment; filename*1=\"b\"; filename*0=\"a\"", "ab", "ab"),
+    (b"attachment; filename=" + "\u00e9".encode() * 60, "\u00e9" * 60, "\u00e9" * 50),
+    (b"attachment; filename=a" + "\u00e9".encode() * 60, "a" + "\u00e9" * 60, "a" + "\u00e9" * 49),
+    (b"attachment; filename*=utf-8''" + b"%c3%a9" * 170_000, "\u00e9" * 170_000, "\u00e9" * 50),
+    (b"".join(b"; filename*%d=%s" % (number, b"x" * 100) for number in range(9_999, -1, -1)), "x" * 1_000_000, "x" * 100),
 ]
 
 

@@ -1,6 +1,8 @@
-"""Long command lines, little memory and few descriptors."""
+"""Long command lines, little memory and few descriptors; and how much memory many steps take."""
 
+import re
 import resource
+import subprocess
 
 from common import make, names, read, read_fault, write_fault
 from file_rows import DONE, EDITED, MESSAGE, journal
@@ -128,4 +130,34 @@ def check_descriptors(program):
     program.ended("a run without files, with few descriptors", found, output=EDITED)
 
 
-CHECKS = [check_long_words, check_memory, check_descriptors]
+LONG = b"Subject: 0\n\n" + b"a line of the body\n" * (10_000_000 // 19)
+STEPS = 1_000
+
+
+def peak_memory(process):
+    """The most memory that a process has had in RAM, in bytes; 0 where it has ended. Unlike the usage that the system reports at
+    its end, this counts nothing of the process that started it."""
+    with open(f"/proc/{process.pid}/status") as file:
+        found = re.search(r"^VmHWM:\s+(\d+) kB$", file.read(), re.M)
+    return int(found.group(1)) * 1024 if found else 0
+
+
+def check_steps(program):
+    """A thousand edits of one field of a message of 10 MB, each a step that can be taken back. The program keeps the message and
+    the bytes that each step replaced: with its own few MB, less than the message twice."""
+    folder = program.folder()
+    script = b"".join(b"set 1 Subject 1 Subject: %d\n" % number for number in range(1, STEPS + 1))
+    make(folder, {"f": LONG, "s": script})
+    # So that a program that keeps far more doesn't take all memory of the system.
+    limit = limited(resource.RLIMIT_AS, 20 * len(LONG))
+    process = program.start(["edit", "s", "--from", "f"], folder, bufsize=0, preexec_fn=limit)
+    # The first byte goes out after the last step. The rest of 10 MB waits for a reader.
+    output = process.stdout.read(1)
+    peak = peak_memory(process)
+    rest, errors = process.communicate()
+    found = subprocess.CompletedProcess(process.args, process.returncode, output + rest, errors)
+    program.ended("a thousand steps", found, output=LONG.replace(b"0", b"%d" % STEPS, 1))
+    program.expect(f"a thousand steps: {peak} bytes of memory", within=(True, 0 < peak < 2 * len(LONG)))
+
+
+CHECKS = [check_long_words, check_memory, check_descriptors, check_steps]

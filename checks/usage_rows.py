@@ -37,7 +37,7 @@ for command in WITH_FROM:
 for command in IN_PLACE:
     OPTIONS[command]["--in-place <FILE>"] = "f"
 
-FLAGS = {"sections": ["--json"], "unpack": ["-f", "-t", "--silent"], "field": ["-s"]}
+FLAGS = {"sections": ["--json"], "unpack": ["-f", "-t", "--silent", "--utf8"], "field": ["-s"]}
 
 # Values that a command's argument doesn't take: the words, the argument, the value, and what should stand there.
 VALUES = [
@@ -87,6 +87,7 @@ SAID = [
     ("a piece that begins with a hyphen", ["edit", "-e", "undo", "-n"], ["unexpected argument '-n' found", "Usage: mimetool edit"]),
     ("--json with a value", ["sections", "--json=1"], ["--json", "Usage: mimetool sections"]),
     ("--json of another command", ["unpack", "--json"], ["unexpected argument '--json' found", "Usage: mimetool unpack"]),
+    ("--utf8 without --json", ["sections", "--utf8"], ["--utf8 goes only with --json", "Usage: mimetool sections"]),
     ("a letter in capitals", ["field", "--Rename", "A:B"], ["unexpected argument '--Rename' found", "Usage: mimetool field"]),
 ]
 

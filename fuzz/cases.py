@@ -7,11 +7,13 @@ from plain.program import Run
 
 FIELDS = [b"A: 9", b"A:", b"A: ", b"B: 2", b"subject: x", b"SUBJECT:", b"Content-Type: text/html", b"Content-Type:", b"MIME-Version: 1.0",
           b"From: z", b"--b: c", b"A: b\n c", b"A : 9", b"X:\n ", b"Content-Transfer-Encoding: base64", b"content-type: message/rfc822",
-          "X: \u00e9".encode(), b"A: b\r", b"From : q"]
+          "X: \u00e9".encode(), b"A: b\r", b"From : q", b"A: =?", "Subject : \u00e4 \u20ac\t".encode(), "A: b\n \u00e9".encode(),
+          ("B: " + "\u00e9" * 23).encode(), ("A:" + "a\u20ac\U0001d11e" * 12).encode(), b"A: " + b"long " * 50, b"X: a\tb"]
 FAULTY_FIELDS = [b"", b"A", b"A: b\n", b" A: b", b"A: b\nB: c", b": x", b"A b: c", b"A: b\n\n", b"\n", b"-x"]
 NAMES = [b"A", b"a", b"Subject", b"SUBJECT", b"Content-Type", b"From", b"--b", b"Old-A", b"Z", b"MIME-Version", b"Content-X", b"!"]
 FAULTY_NAMES = [b"A", b"", b":", b"A::", b"A b:", b"A :", "\u00e9:".encode(), b"A:b"]
-FILES = [b"n.txt", b"d/n.txt", b"a b", b"x:y", b"n" * 100, b"d/d/x", b"-f", b'q"r', b"c\\d", "\u00e9".encode(), b"n" * 101, b"t\tx", b"~"]
+FILES = [b"n.txt", b"d/n.txt", b"a b", b"x:y", b"n" * 100, b"d/d/x", b"-f", b'q"r', b"c\\d", "\u00e9".encode(), b"n" * 101, b"t\tx", b"~",
+         ("\u00e9" * 60).encode(), ("\u00e9" * 127 + "a").encode(), ("d/\u65e5\u672c (1)%*'.txt").encode()]
 MEDIA = [b"text/plain", b"Text/html", b"image/gif", b"application/octet-stream", b"message/rfc822", b"multipart/mixed", b"Message/x",
          b"text", b"", b"a/b/c", b"text /plain", b"x/" + b"y" * 98, b"x/" + b"y" * 99, b"text/plain;charset=x", b"TEXT/x"]
 CONTENTS = [b"", b"hi\n", b"hi", b"-- \n", b"From here\n", b".\r\n..\n", b"x\t\n \n", b"a" * 75 + b" b\n", b"=\n", b"\r\n", b"\r", bytes(range(256)),
@@ -58,7 +60,7 @@ def unpack(chooser):
     folder = chooser.choice([b"", b"d", b"d", b"d/e"])
     files = there_before(chooser, message, folder + b"/" if folder else b"") if chooser.maybe(0.6) else {}
     words = [b"unpack"] + ([b"-C", folder] if folder else [])
-    for flag, chance in ((b"-t", 0.6), (b"-f", 0.3), (b"--silent", 0.2)):
+    for flag, chance in ((b"-t", 0.6), (b"-f", 0.3), (b"--silent", 0.2), (b"--utf8", 0.5)):
         words += [flag] if chooser.maybe(chance) else []
     yield Run(words, message, files)
 
@@ -95,8 +97,9 @@ def field(chooser):
         every = [b"--rename", b"-a", b"-A", b"-i", b"-I", b"-u", b"-U"]
         chosen = chooser.sample(every, chooser.choice([0, 1, 1, 1, 2, 2, 3, 7])) + chooser.some(every, 1)[:chooser.maybe(0.02)]
     words = [b"field"] + [word for name in chosen for word in letter(chooser, name, there)]
-    if each:
-        words.insert(chooser.choice([1, len(words)]), b"-s")
+    for flag, chance in ((b"-s", each), (b"--decode", 0.5 if b"-x" in chosen else 0.02), (b"--encode", 0.3 if chosen else 0.02)):
+        if chooser.maybe(chance):
+            words.insert(chooser.choice([1, len(words)]), flag)
     yield from_file(chooser, Run(words, text, {}))
 
 
@@ -166,13 +169,14 @@ def pack(chooser):
     head += chooser.weighted([([], 8), ([b""], 6), ([b"", b""], 1), ([b"", b"x"], 1)])
     ending = chooser.choice([b"\n", b"\r\n"])
     text = ending.join(head) + chooser.choice([b"", ending])
-    names_of_files = FILES[:7] if chooser.maybe(0.85) else FILES
+    names_of_files = FILES[:7] if chooser.maybe(0.6) else FILES
     files = {chooser.choice(names_of_files): content(chooser) for _ in range(chooser.randint(1, 3))}
     media = MEDIA[:4] if chooser.maybe(0.85) else MEDIA
     specs = [chooser.choice(media) + b":" + chooser.choice(list(files)) for _ in range(chooser.choice([0] + [1, 2, 3] * 5))]
     specs += [b"text/plain:none"] if chooser.maybe(0.02) else []
     boundary = chooser.choice([b"b", b"=_b", b"a b"] if chooser.maybe(0.8) else messages.BOUNDARIES + [b"-b", b"y" * 71])
-    yield Run([b"pack", b"-b", boundary, b"--"] + specs, text, files)
+    flags = [b"--utf8"] if chooser.maybe(0.5) else []
+    yield Run([b"pack"] + flags + [b"-b", boundary, b"--"] + specs, text, files)
 
 
 KINDS = {kind.__name__: kind for kind in (sections, extract, unpack, field, edit, deep, journal, pack)}

@@ -4,11 +4,16 @@ BOUNDARIES = [b"b", b"b", b"b", b"b-", b"b-", b"b--", b"bb", b"-b", b"--", b"a:b
               b"b\r", b"", b"y" * 70, b"\xc3\xa9", b"(b)", b"b;c", b"b=c"]
 FIELDS = [b"A: b", b"a: c", b"A : b", b"A\t: b", b"A:", b"A: ", b"Subject: t", b"subject:x", b"From: y", b"From : y",
           b"MIME-Version: 1.0", b"mime-version :1", b"Content-X: y", b"content-: z", b"--b: c", b"--a:b", b"--b--:", b"Old-A: z",
-          b"X-Y:z\x80\xff", b"A:b\rc", b"A: b:c", b"!: #", b"Content-Type-: x"]
+          b"X-Y:z\x80\xff", b"Subject: =?utf-8?B?w6Q=?= =?Iso-8859-1?q?=e9_b?= c", b"A: =?utf-8?Q?a=0Ab?=\t=?us-ascii?B?/w==?=",
+          b"A:\t=?x?q?a?= =?utf-8?b?YQ==?= =?utf-8?b?YR==?= =?utf-8?q?=?=", b"A:=?utf-8?q??= =?UTF-8?B?=E9?= =?utf-8*en?q?a?=", b"A:b\rc", b"A: b:c", b"!: #", b"Content-Type-: x"]
 ENCODINGS = [b"base64", b"base64", b"quoted-printable", b"quoted-printable", b"7bit", b"8BIT", b"binary", b"", b" Base64 (x)",
              b"x-uuencode", b"(7bit)", b"base(x)64", b"base64;", b"quoted-printable (x", b'"base64"', b"7bit 8bit"]
 NAMES = [b"a.txt", b"a b.pdf", b"../x", b"c:\\d\\e", b".x", b"-x", b"", b"a_b.pdf", b"a_b.pdf.1", b"a.txt.1", b"\xc3\xa9", b"a/",
-         b"part-1", b"part-1.2", b"n" * 101, b"/" + b"m" * 99, b"N" * 98 + b".gif", b"..", b"=?utf-8?Q?a?=", b"a\rb", b"a%20b"]
+         b"part-1", b"part-1.2", b"n" * 101, b"/" + b"m" * 99, b"N" * 98 + b".gif", b"..", b"=?utf-8?Q?a?=", b"a\rb", b"a%20b", b"=?iso-8859-1?Q?caf=E9.txt?=", b"\xff", b"\xd7\xa9\xe2\x80\xae.x", b"=?utf-8?b?w6k=?= =?utf-8?q?=2F=2D?="]
+EXTENDED = [b"utf-8''NAME", b"UTF-8'en'%e2%82%acx", b"iso-8859-1''caf%E9.txt", b"us-ascii''%41", b"us-ascii''%e9", b"koi8-r''%f0", b"''a", b"utf-8'a",
+            b"utf-8''%zz", b"utf-8''%4", b"utf-8''%E2%80%AEtxt.exe", b"utf-8''..%2f..%5c%2e%2D", b"utf-8''" + b"%C3%A9" * 51, b"x" + b"'" * 3,
+            b"utf-8''%ff", b"utf-8''%F0%9D%94%B8%CC%81%C2%BD"]
+SEGMENTS = [b"*0=a", b"*0*=utf-8''%e2%82", b"*1*=%ac%20", b"*1=\xc3\xa9", b"*2=\"rates.txt\"", b"*0*=''x", b"*01=n", b"*2*=%2", b"*1=b", b"*3=c", b"*0=/", b"*"]
 JUNK = [b"", b"", b"", b" ", b"\t", b" x", b"\tx", b"x", b"y ", b"From a", b"From ", b"From", b"From x: y", b">From a", b":", b" :",
         b"a b: c", b"a\r", b"\r", b"a\rb", b"\x00\xff", b"\xc3\xa9: x", b".", b"--", b"-- ", b"----", b"---", b"A", b"\x7f: x"]
 ENCODED = [b"aGk=", b"aGk", b"aGl=", b"aGkA", b"aGkAa", b"a G\tk=zz", b"=", b"=3D", b"=3d=", b"=zz", b"a= ", b"a\t", b"a=\t", b"==41",
@@ -53,13 +58,24 @@ def multipart_field(chooser, boundary):
     return type_field(chooser, value)
 
 
+def disposition(chooser):
+    """The value of a Content-Disposition, with names of any kind."""
+    value = chooser.choice(DISPOSITIONS).replace(b"NAME", chooser.choice(NAMES))
+    if chooser.maybe(0.3):
+        value += b"; filename*=" + chooser.choice(EXTENDED).replace(b"NAME", chooser.choice(NAMES))
+    if chooser.maybe(0.2):
+        value += b"".join(b"; filename" + chooser.choice(SEGMENTS) for _ in range(chooser.randint(1, 4)))
+    return value
+
+
 def leaf_fields(chooser):
     """The lines of fields that describe a leaf."""
     found = []
     if chooser.maybe(0.6):
-        found.append(type_field(chooser, chooser.choice(LEAVES).replace(b"NAME", chooser.choice(NAMES))))
+        more = b"; name*=" + chooser.choice(EXTENDED) if chooser.maybe(0.1) else b""
+        found.append(type_field(chooser, chooser.choice(LEAVES).replace(b"NAME", chooser.choice(NAMES)) + more))
     if chooser.maybe(0.3):
-        found.append([b"Content-Disposition: " + chooser.choice(DISPOSITIONS).replace(b"NAME", chooser.choice(NAMES))])
+        found.append([b"Content-Disposition: " + disposition(chooser)])
     if chooser.maybe(0.5):
         found.append([b"Content-Transfer-Encoding:" + chooser.choice([b"", b" "]) + chooser.choice(ENCODINGS)])
     return found

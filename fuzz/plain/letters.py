@@ -1,9 +1,10 @@
 """The letters of `field`, and mailboxes."""
 
-from . import edits, fields, lines, session, tree, values
+from . import edits, fields, lines, session, tree, values, wording
 
 EDITING = ("--rename", "-a", "-A", "-i", "-I", "-u", "-U")
 PRINTING = ("-x", "-X")
+WITH_FIELDS = ("-a", "-A", "-i", "-I")
 
 
 def messages(text):
@@ -75,37 +76,40 @@ def letter_edits(letter, word, head, ending):
     return [edits.Edit("del", (1,), name=name, number=2 if letter == "-u" else 1)] * (len(there) - 1)
 
 
-def filtered(message, letters):
+def filtered(message, letters, encode):
     """A message after its letters, or as it came with the reason where an edit is refused (own): text, reason."""
     history, ending = session.Session(message), lines.ending_of(message)
     for letter in EDITING:
         if letter in letters:
-            for edit in letter_edits(letter, letters[letter], head_of(history), ending):
+            word = letters[letter]
+            word = wording.worded(word, ending) if encode and letter in WITH_FIELDS else word
+            for edit in letter_edits(letter, word, head_of(history), ending):
                 reason = history.edit(edit)
                 if reason:
                     return message, reason
     return history.text(), None
 
 
-def shown(message, letters):
-    """`-X` prints fields of a name whole, `-x` what stands behind their colons (own)."""
+def shown(message, letters, decode):
+    """`-X` prints fields of a name whole, `-x` what stands behind their colons, or what that says on a line (own)."""
     found = b""
     for letter, word in letters.items():
         for field in tree.document(message).root.fields:
             if fields.is_named(field, word[:-1]):
                 raw = lines.printed(field)
-                found += raw if letter == "-X" else raw.partition(b":")[2]
+                value = raw.partition(b":")[2]
+                found += raw if letter == "-X" else wording.said(value) + b"\n" if decode else value
     return found
 
 
-def run(text, letters, each):
+def run(text, letters, each, decode=False, encode=False):
     """The whole input, or each message of a mailbox, goes through the letters (own): output, errors, status."""
     output, errors = b"", b""
     for number, message in enumerate(messages(text) if each else [text], 1):
         if any(letter in PRINTING for letter in letters):
-            output += shown(message, letters)
+            output += shown(message, letters, decode)
             continue
-        result, reason = filtered(message, letters)
+        result, reason = filtered(message, letters, encode)
         output += result
         errors += b"message %d: %s\n" % (number, reason.encode()) if reason else b""
     return output, errors, 1 if errors else 0

@@ -1,6 +1,6 @@
 """Names of files for leaves, and what `unpack` makes."""
 
-from . import encodings, fields, listing, tree, values
+from . import encodings, extended, fields, listing, tree, values
 
 
 def raw_name(section):
@@ -10,6 +10,15 @@ def raw_name(section):
     if name is None:
         name = values.parameter(tree.type_of(section.entity.fields, section.default), b"name")
     return name
+
+
+def text_name(section):
+    """What the names say as text: first that of Content-Disposition, then that of Content-Type (RFC 2231; own)."""
+    value = fields.first_value(section.entity.fields, b"Content-Disposition")
+    text = None if value is None else extended.text_of(values.content_type(value), b"filename")
+    if text is None:
+        text = extended.text_of(tree.type_of(section.entity.fields, section.default), b"name")
+    return text
 
 
 def is_kept(byte):
@@ -34,15 +43,16 @@ def given_name(wanted, earlier):
                 if name not in earlier)
 
 
-def names(document, texts):
+def names(document, texts, utf8=False):
     """Each leaf has a name, texts without one only where they are asked for (own)."""
     found = []
     for section in tree.sections(document):
-        raw = raw_name(section)
+        raw, said = raw_name(section), text_name(section) if utf8 else None
         text = tree.type_of(section.entity.fields, section.default).main == b"text"
-        if not isinstance(section.entity.body, tree.Leaf) or (raw is None and text and not texts):
+        if not isinstance(section.entity.body, tree.Leaf) or (raw is None and said is None and text and not texts):
             continue
-        wanted = cleaned(raw or b"") or b"part-" + listing.written(section.path)
+        safe = cleaned(raw or b"") if said is None else extended.cleaned(said)
+        wanted = safe or b"part-" + listing.written(section.path)
         found.append((section, given_name(wanted, [name for _, name in found])))
     return found
 
@@ -53,11 +63,11 @@ def free_name(name, there, over):
     return next((one for one in wanted if over or one not in there), None)
 
 
-def unpack(text, there, texts, over, silent):
+def unpack(text, there, texts, over, silent, utf8=False):
     """Each leaf is written to a file of its name (own): output, errors, status, and the files afterwards."""
     document, there = tree.document(text), dict(there)
     output, errors = b"", b""
-    for section, name in names(document, texts):
+    for section, name in names(document, texts, utf8):
         try:
             content = listing.content(document, section)
         except encodings.Refused as reason:

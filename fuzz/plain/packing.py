@@ -1,8 +1,10 @@
 """Messages that are built of fields and files."""
 
-from . import encodings, fields, lines, values
+from . import encodings, fields, lines, values, wording
 
 MOST = 100
+MOST_SAID = 255
+SAID = b"!#$&+-.^_`{|}~"
 
 
 def is_good_field(text):
@@ -25,10 +27,24 @@ def is_good_name(name):
     return 1 <= len(name) <= MOST and all(32 <= byte <= 126 and byte not in b'"\\' for byte in name)
 
 
+def is_said(name):
+    """A name in UTF-8 that isn't printable ASCII, of at most 255 bytes, is also written as it is (own)."""
+    return len(name) <= MOST_SAID and wording.is_utf8(name) and not all(32 <= byte <= 126 for byte in name)
+
+
+def names_of(name, utf8):
+    """The name in quotes, and the parameter that has the name as it is (RFC 2231, 4)."""
+    if not (utf8 and is_said(name)):
+        return name, b""
+    plain = bytes(byte if is_good_name(bytes([byte])) else ord("_") for byte in name)[:MOST]
+    said = b"".join(bytes([byte]) if bytes([byte]).isalnum() or byte in SAID else b"%%%02X" % byte for byte in name)
+    return plain, b"; filename*=utf-8''" + said
+
+
 def refusal(given, parts, boundary):
     """The first reason against a message: fields, types, names, the boundary, each by its least number (own)."""
     tests = [("BadField", is_good_field, given), ("BadType", is_good_type, [media for media, _, _ in parts]),
-             ("BadName", is_good_name, [name for _, name, _ in parts])]
+             ("BadName", is_good_name, [name for _, (name, _), _ in parts])]
     for reason, is_good, items in tests:
         for number, item in enumerate(items):
             if not is_good(item):
@@ -36,11 +52,11 @@ def refusal(given, parts, boundary):
     return None if values.is_boundary(boundary) else "BadBoundary"
 
 
-def part(media, name, text, ending):
+def part(media, names, text, ending):
     """A part has a type, a disposition, an encoding and the encoded bytes (RFC 2045, 5 and 6; RFC 2183)."""
-    is_text = media.partition(b"/")[0].lower() == b"text"
+    (name, said), is_text = names, media.partition(b"/")[0].lower() == b"text"
     encode = encodings.quoted_printable_encoded if is_text else encodings.base64_encoded
-    head = [b'Content-Type: %s; name="%s"' % (media, name), b'Content-Disposition: attachment; filename="%s"' % name,
+    head = [b'Content-Type: %s; name="%s"' % (media, name), b'Content-Disposition: attachment; filename="%s"%s' % (name, said),
             b"Content-Transfer-Encoding: " + (b"quoted-printable" if is_text else b"base64"), b""]
     return b"".join(line + ending for line in head) + encode(text, ending)
 
@@ -50,15 +66,16 @@ def built(given, parts, boundary, ending):
     message = b"".join(field if field.endswith(b"\n") else field + ending for field in given)
     message += b"MIME-Version: 1.0" + ending
     message += b'Content-Type: multipart/mixed; boundary="%s"' % boundary + ending + ending
-    for media, name, text in parts:
-        message += b"--" + boundary + ending + part(media, name, text, ending) + ending
+    for media, names, text in parts:
+        message += b"--" + boundary + ending + part(media, names, text, ending) + ending
     return message + b"--" + boundary + b"--" + ending
 
 
-def run(text, boundary, parts):
+def run(text, boundary, parts, utf8=False):
     """The input gives the fields and the ending; all but one empty line behind them is refused (own): output, errors, status."""
     head, _, body = fields.split(lines.cut(text))
     given = [lines.printed(field) for field in head] + ([b""] if body else [])
+    parts = [(media, names_of(name, utf8), content) for media, name, content in parts]
     reason = refusal(given, parts, boundary)
     if reason:
         return b"", b"pack: " + reason.encode() + b"\n", 1

@@ -12,7 +12,8 @@ OPTIONS = {
     b"field": (b"--rename", b"-a", b"-A", b"-i", b"-I", b"-u", b"-U", b"-x", b"-X", b"--from"),
     b"edit": (b"-j", b"-e", b"--from"), b"undo": (b"-j", b"--from"), b"redo": (b"-j", b"--from"), b"pack": (b"-b",),
 }
-FLAGS = {b"unpack": (b"-f", b"-t", b"--silent"), b"field": (b"-s",)}
+FLAGS = {b"unpack": (b"-f", b"-t", b"--silent", b"--utf8"), b"field": (b"-s", b"--decode", b"--encode"),
+         b"pack": (b"--utf8",)}
 NEEDED = {b"extract": b"-s", b"undo": b"-j", b"redo": b"-j", b"pack": b"-b"}
 
 
@@ -61,6 +62,13 @@ def letters_given(found):
     return {letter: found[letter.encode()] for letter in letters.EDITING + letters.PRINTING if letter.encode() in found}
 
 
+def are_letters_valid(found):
+    """`--decode` is for `-x`, `--encode` for letters that take a field (own)."""
+    given = letters_given(found)
+    decodes, encodes = b"--decode" not in found or "-x" in given, any(letter in given for letter in letters.WITH_FIELDS)
+    return letters.are_allowed(given) and decodes and (b"--encode" not in found or encodes)
+
+
 def are_valid(command, found, others):
     """Whether the words of a command are what it takes; this is asked before any file is read (own)."""
     if command == b"edit":
@@ -69,7 +77,7 @@ def are_valid(command, found, others):
         return bool(others) and all(b":" in word for word in others)
     if command == b"extract" and listing.path_of(found[b"-s"]) is None:
         return False
-    if command == b"field" and not letters.are_allowed(letters_given(found)):
+    if command == b"field" and not are_letters_valid(found):
         return False
     return not others
 
@@ -93,7 +101,7 @@ def run_unpack(found, message, files):
     folder = found[b"-C"] + b"/" if b"-C" in found else b""
     there = {name[len(folder):]: text for name, text in files.items()
              if name.startswith(folder) and b"/" not in name[len(folder):]}
-    output, errors, status, left = names.unpack(message, there, b"-t" in found, b"-f" in found, b"--silent" in found)
+    output, errors, status, left = names.unpack(message, there, b"-t" in found, b"-f" in found, b"--silent" in found, b"--utf8" in found)
     return output, errors, status, {**files, **{folder + name: text for name, text in left.items()}}
 
 
@@ -101,7 +109,7 @@ def run_pack(found, others, message, files):
     """Each part is a type, a colon and a file, whose name is what follows its last slash (own)."""
     specs = [word.partition(b":") for word in others]
     parts = [(media, name.split(b"/")[-1], file_of(files, name)) for media, _, name in specs]
-    return packing.run(message, found[b"-b"], parts)
+    return packing.run(message, found[b"-b"], parts, b"--utf8" in found)
 
 
 def obeyed(run):
@@ -119,7 +127,7 @@ def obeyed(run):
     elif command == b"extract":
         plain = listing.extract(message, found[b"-s"])
     elif command == b"field":
-        plain = letters.run(message, letters_given(found), b"-s" in found)
+        plain = letters.run(message, letters_given(found), b"-s" in found, b"--decode" in found, b"--encode" in found)
     else:
         plain = run_pack(found, others, message, run.files)
     return *plain, run.files

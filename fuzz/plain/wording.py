@@ -1,0 +1,111 @@
+"""Encoded words (RFC 2047), and values of fields as people write them."""
+
+from . import encodings, lines
+
+BLANKS = b" \t"
+DIGITS = b"0123456789ABCDEFabcdef"
+ROOM = 45
+
+
+def is_utf8(text):
+    """Whether bytes are a text in UTF-8 (RFC 3629)."""
+    try:
+        text.decode("utf-8")
+    except UnicodeDecodeError:
+        return False
+    return True
+
+
+def in_utf8(charset, text):
+    """Three charsets are known, in any case (own)."""
+    if charset.lower() == b"utf-8":
+        return text
+    if charset.lower() == b"us-ascii":
+        return text if text.isascii() else None
+    return text.decode("latin-1").encode() if charset.lower() == b"iso-8859-1" else None
+
+
+def b_text(text):
+    """Letters of base64 with at most two `=` after them (RFC 2047, 4.1; own)."""
+    letters = text.rstrip(b"=")
+    if len(text) - len(letters) > 2 or any(letter not in encodings.LETTERS for letter in letters):
+        return None
+    try:
+        return encodings.base64_decoded(letters)
+    except encodings.Refused:
+        return None
+
+
+def q_text(text):
+    """`_` is a space, `=` and two digits are a byte, other printable bytes stand for themselves (RFC 2047, 4.2)."""
+    found, at = b"", 0
+    while at < len(text):
+        byte, digits = text[at:at + 1], text[at + 1:at + 3]
+        if byte == b"=" and len(digits) == 2 and all(digit in DIGITS for digit in digits):
+            found, at = found + bytes([int(digits, 16)]), at + 3
+        elif byte == b"=" or not 33 <= byte[0] <= 126:
+            return None
+        else:
+            found, at = found + (b" " if byte == b"_" else byte), at + 1
+    return found
+
+
+def word_text(word):
+    """An encoded word has five parts between question marks (RFC 2047, 2)."""
+    parts = word.split(b"?")
+    if len(parts) != 5 or parts[0] != b"=" or parts[4] != b"=":
+        return None
+    text = {b"b": b_text, b"q": q_text}.get(parts[2].lower(), lambda text: None)(parts[3])
+    return None if text is None else in_utf8(parts[1], text)
+
+
+def runs(text):
+    """Words, and the blanks before, between and behind them."""
+    found = []
+    for byte in text:
+        blank = byte in BLANKS
+        if not found or found[-1][0] != blank:
+            found.append((blank, b""))
+        found[-1] = blank, found[-1][1] + bytes([byte])
+    return found
+
+
+def decoded(value):
+    """Line endings go, encoded words are decoded, and blanks between two of them go (RFC 2047, 6.2)."""
+    found, all_runs = b"", runs(b"".join(line.content for line in lines.cut(value)))
+    texts = [None if blank else word_text(run) for blank, run in all_runs]
+    for at, (blank, run) in enumerate(all_runs):
+        between = blank and 0 < at < len(texts) - 1 and texts[at - 1] is not None and texts[at + 1] is not None
+        found += b"" if between else run if texts[at] is None else texts[at]
+    return found
+
+
+def said(value):
+    """What a value says is one line without blanks at its ends (own)."""
+    return decoded(value).replace(b"\r", b" ").replace(b"\n", b" ").strip(BLANKS)
+
+
+def pieces(text):
+    """As many whole characters as go into 45 bytes each (own; RFC 2047, 5 (3))."""
+    found = [b""]
+    for character in text.decode("utf-8"):
+        if found[-1] and len(found[-1] + character.encode()) > ROOM:
+            found.append(b"")
+        found[-1] += character.encode()
+    return found
+
+
+def encoded(text, ending):
+    """A word for each piece, an ending and a space between two (RFC 2047, 2)."""
+    words = [b"=?utf-8?B?" + encodings.base64_encoded(piece, b"") + b"?=" for piece in pieces(text)]
+    return (ending + b" ").join(words)
+
+
+def worded(field, ending):
+    """A value that isn't printable ASCII or holds `=?` goes in as encoded words (own)."""
+    name, _, value = field.partition(b":")
+    value = value.strip(BLANKS)
+    plain = all(32 <= byte <= 126 for byte in value) and b"=?" not in value
+    if plain or not is_utf8(value):
+        return field
+    return name.rstrip(BLANKS) + b": " + encoded(value, ending)
