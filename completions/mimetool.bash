@@ -6,11 +6,11 @@ _mimetool_options() {
         edit) options='--from --in-place -j -e -h --help' ;;
         undo) options='--from --in-place -j -h --help' ;;
         redo) options='--from --in-place -j -h --help' ;;
-        sections) options='--from --json -h --help' ;;
+        sections) options='--from --json --utf8 -h --help' ;;
         extract) options='--from -s -h --help' ;;
-        unpack) options='--from -f -t --silent -C -h --help' ;;
-        pack) options='-b -h --help' ;;
-        field) options='--from --in-place --rename -a -A -i -I -u -U -x -X -s -h --help' ;;
+        unpack) options='--from -f -t --silent --utf8 -C -h --help' ;;
+        pack) options='-b --utf8 -h --help' ;;
+        field) options='--from --in-place --rename -a -A -i -I -u -U -x -X --decode --encode -s -h --help' ;;
         help) options='' ;;
         '') options='-h --help -V --version' ;;
     esac
