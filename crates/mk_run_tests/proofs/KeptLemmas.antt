@@ -6,7 +6,7 @@ use Rattle.std.specs.Cmp.Lexicographic.{slice_cmp}
 use Rattle.std.specs.Global.{Vec}
 use Rattle.std.specs.Ordering.{nat_cmp}
 use Rattle.std.specs.Str.{bytes_eq}
-use Rattle.mk_view.proofs.Taken.{kept_by_name}
+use Rattle.mk_param.proofs.Kept.{kept_by_name}
 use Rattle.mk_show.specs.Folders.{Gets}
 use Rattle.mk_run_tests.specs.Kept.{texts_in}
 
