@@ -3,6 +3,7 @@
 
 mod commands;
 mod faults;
+mod field_options;
 mod files;
 mod letters;
 mod options;

@@ -1,5 +1,6 @@
 //! The command line.
 
+use crate::field_options::field_command;
 use clap::{Arg, ArgAction, Command};
 use std::alloc::{AllocError, Global};
 
@@ -84,11 +85,6 @@ pub const DECODE: &str = "decode";
 
 pub const ENCODE: &str = "encode";
 
-/// What a letter takes: a field, or a name and a colon.
-const A_FIELD: &str = "FIELD";
-
-const A_NAME: &str = "NAME:";
-
 /// The subcommands, in the order in which help lists them.
 const SUBCOMMANDS: [&str; 8] = [EDIT, UNDO, REDO, SECTIONS, EXTRACT, UNPACK, PACK, FIELD];
 
@@ -127,8 +123,8 @@ pub fn subcommand<'a>(alloc: Global, name: &str) -> Result<Command<'a>, AllocErr
     }
 }
 
-// --from FILE
-fn from<'a>(alloc: Global) -> Arg<'a> {
+/// --from FILE
+pub fn from<'a>(alloc: Global) -> Arg<'a> {
     Arg::new(alloc, FROM)
         .long("from")
         .value_name("FILE")
@@ -137,8 +133,8 @@ fn from<'a>(alloc: Global) -> Arg<'a> {
         .action(ArgAction::Set)
 }
 
-// --in-place FILE
-fn in_place<'a>(alloc: Global) -> Result<Arg<'a>, AllocError> {
+/// --in-place FILE
+pub fn in_place<'a>(alloc: Global) -> Result<Arg<'a>, AllocError> {
     Arg::new(alloc, IN_PLACE)
         .long("in-place")
         .value_name("FILE")
@@ -228,96 +224,8 @@ fn pack_command<'a>(alloc: Global) -> Result<Command<'a>, AllocError> {
         .arg(specs)
 }
 
-// mimetool field [-a FIELD] [-A FIELD] [-i FIELD] [-I FIELD] [-u NAME:] [-U NAME:] [-x NAME:] [-X NAME:] [--rename OLD:NEW] [--decode] [--encode] [-s]
-fn field_command<'a>(alloc: Global) -> Result<Command<'a>, AllocError> {
-    let rename = letter(alloc, RENAME, "OLD:NEW", "Give the fields OLD the name NEW").long(RENAME);
-    let command = Command::new(alloc, FIELD)
-        .about("Adds, renames and removes fields of a message, or prints those of a name")
-        .after_help(
-            "Examples:\n  mimetool field -I 'X-Seen: yes' --in-place message\n  mimetool field -s -x Subject: --from mailbox",
-        )
-        .arg(from(alloc))?
-        .arg(
-            in_place(alloc)?
-                .conflicts_with(TAKE)?
-                .conflicts_with(WHOLE)?,
-        )?
-        .arg(rename)?;
-    let command = with_fields(alloc, command)?;
-    let command = with_names(alloc, command)?;
-    with_flags(alloc, command)
-}
-
-// The letters that take a field.
-fn with_fields<'a>(alloc: Global, command: Command<'a>) -> Result<Command<'a>, AllocError> {
-    command
-        .arg(letter(
-            alloc,
-            ADD_IF,
-            A_FIELD,
-            "Add FIELD if there is no field of its name",
-        )
-        .short('a'))?
-        .arg(letter(alloc, ADD, A_FIELD, "Add FIELD").short('A'))?
-        .arg(letter(
-            alloc,
-            PREFIXED,
-            A_FIELD,
-            "Put Old- before the fields of its name, and add FIELD; a name and a colon alone add none",
-        )
-        .short('i'))?
-        .arg(letter(
-            alloc,
-            ONLY,
-            A_FIELD,
-            "Remove the fields of its name, and add FIELD; a name and a colon alone add none",
-        )
-        .short('I'))
-}
-
-// The letters that take a name.
-fn with_names<'a>(alloc: Global, command: Command<'a>) -> Result<Command<'a>, AllocError> {
-    command
-        .arg(letter(alloc, FIRST, A_NAME, "Keep only the first field NAME").short('u'))?
-        .arg(letter(alloc, LAST, A_NAME, "Keep only the last field NAME").short('U'))?
-        .arg(letter(alloc, TAKE, A_NAME, "Print the values of the fields NAME").short('x'))?
-        .arg(letter(alloc, WHOLE, A_NAME, "Print the fields NAME").short('X'))
-}
-
-// How values are read and written, and what the input is.
-fn with_flags<'a>(alloc: Global, command: Command<'a>) -> Result<Command<'a>, AllocError> {
-    command
-        .arg(flag(
-            alloc,
-            DECODE,
-            "With -x, print what each field says on one line, its encoded words decoded",
-        )
-        .long(DECODE))?
-        .arg(flag(
-            alloc,
-            ENCODE,
-            "Write values of FIELD that aren't plain ASCII as encoded words",
-        )
-        .long(ENCODE))?
-        .arg(flag(
-            alloc,
-            EACH,
-            "Treat the input as a mailbox, message by message",
-        )
-        .short('s'))
-}
-
-// An option with a value, which may begin with a hyphen.
-fn letter<'a>(alloc: Global, name: &'a str, value: &'a str, help: &'a str) -> Arg<'a> {
-    Arg::new(alloc, name)
-        .value_name(value)
-        .help(help)
-        .allow_hyphen_values(true)
-        .action(ArgAction::Set)
-}
-
-// An option without a value.
-fn flag<'a>(alloc: Global, name: &'a str, help: &'a str) -> Arg<'a> {
+/// An option without a value.
+pub fn flag<'a>(alloc: Global, name: &'a str, help: &'a str) -> Arg<'a> {
     Arg::new(alloc, name).help(help).action(ArgAction::SetTrue)
 }
 
