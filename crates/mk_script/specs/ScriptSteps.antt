@@ -1,4 +1,4 @@
--- The steps of a script: its lines, those between `begin` and `end` together; and its faults (own).
+-- The steps of a script: its lines, those between `begin` and `end` together, or all lines together; and its faults (own).
 use Rattle.std.specs.Prelude.{◌||◌, ◌++◌, if◌then◌else◌, not, ℕ, Bool, true, false, List, [], ◌∷◌, Option, None, Some, Result, Ok, Err}
 use Rattle.mk_script.specs.Script.{ScriptWord, ScriptLine, Edits, Undoes, Redoes, Begins, Ends, NumberedLine, lines_of}
 
@@ -71,3 +71,23 @@ unless_fault (Some number) steps = Err number
 -- the steps of a script that is given so many pieces, or the number of its first fault
 abbrev pub script_of : ℕ → List ℕ → Result (List ScriptStep) ℕ
 script_of count script = unless_fault (first_fault false (lines_of count script)) (steps_from None (lines_of count script))
+
+-- the number of the first line that is no edit
+abbrev pub first_other : List NumberedLine → Option ℕ
+first_other [] = None
+first_other ((number, Some (Edits word)) ∷ lines) = first_other lines
+first_other (line ∷ lines) = Some line.0
+
+-- the edits of lines, with their numbers
+abbrev pub edits_in : List NumberedLine → List (ℕ × ScriptWord)
+edits_in [] = []
+edits_in ((number, Some (Edits word)) ∷ lines) = (number, word) ∷ edits_in lines
+edits_in (line ∷ lines) = edits_in lines
+
+-- lines of edits as one group, where each is one
+abbrev pub lines_as_one : List NumberedLine → Result (List ScriptStep) ℕ
+lines_as_one lines = unless_fault (first_other lines) (Groups (edits_in lines) ∷ [])
+
+-- a script all of which is one group (`edit --all`), or the number of its first fault
+abbrev pub script_as_one : ℕ → List ℕ → Result (List ScriptStep) ℕ
+script_as_one count script = lines_as_one (lines_of count script)

@@ -1,9 +1,9 @@
-//! The steps of scripts: the edits between `begin` and `end` are one (own).
+//! The steps of scripts: the edits between `begin` and `end` are one, or those of the whole script (own).
 
-ghost use Rattle.std.specs.Prelude.{◌≡◌, false, None, map, Ok, IfOk, IfErr};
+ghost use Rattle.std.specs.Prelude.{◌≡◌, ◌∷◌, [], false, None, map, Ok, IfOk, IfErr};
 ghost use Rattle.std.specs.Option.{option_map};
-ghost use Rattle.mk_script.specs.ScriptSteps.{first_fault as fault_of, has_end as ends, is_fault as faulty, script_of, steps_from};
-ghost use Rattle.mk_script.specs.ScriptViews.{line_by, line_in, step_by, Explains};
+ghost use Rattle.mk_script.specs.ScriptSteps.{first_fault as fault_of, has_end as ends, is_fault as faulty, lines_as_one, script_as_one, script_of, steps_from, Groups};
+ghost use Rattle.mk_script.specs.ScriptViews.{line_by, line_in, numbered, step_by, Explains};
 ghost use Rattle.mk_script.specs.declared.groups.ScriptError.TheVariants.{Memory};
 
 use crate::script::{NumberedLine, NumberedWord, Said, lines};
@@ -124,4 +124,32 @@ fn grouped(alloc: Global, lines: Vec<NumberedLine>) -> Result<Vec<Step>, AllocEr
         }
     }
     Ok(all)
+}
+
+/// Reads a script that is given so many pieces as one group of edits. A line that is no edit is a fault: there, nothing is
+/// undone or made again, and no group begins.
+pub fn steps_as_one(alloc: Global, script: &[u8], pieces: usize) -> Result<Vec<Step>, ScriptError>
+    ensures read { IfOk result (λ all. script_as_one pieces script.now ≡ Ok (map step_by all.items)) }
+    ensures refused { IfErr result (λ e. Explains e (script_as_one pieces script.now)) }
+{
+    let words = edits(alloc, lines(alloc, script, pieces)?)?;
+    let mut all = Vec::new(alloc);
+    all.push(Step::Group(words))?;
+    Ok(all)
+}
+
+// The edits that lines are, where each is one.
+fn edits(alloc: Global, lines: Vec<NumberedLine>) -> Result<Vec<NumberedWord>, ScriptError>
+    ensures read { IfOk result (λ words. lines_as_one (map line_in lines.items) ≡ Ok (Groups (map numbered words.items) ∷ [])) }
+    ensures refused { IfErr result (λ e. Explains e (lines_as_one (map line_in lines.items))) }
+{
+    let mut words = Vec::new(alloc);
+    for line in lines {
+        let NumberedLine { number, said } = line;
+        match said {
+            Some(Said::Edit(word)) => words.push(NumberedWord { number, word })?,
+            _ => return Err(ScriptError::Syntax(number)),
+        }
+    }
+    Ok(words)
 }

@@ -8,7 +8,7 @@ mod pieces;
 mod script;
 mod targets;
 
-pub use groups::{ScriptError, Step, steps};
+pub use groups::{ScriptError, Step, steps, steps_as_one};
 pub use paths::{numbers, parted, path};
 pub use script::{NumberedWord, Word};
 pub use targets::{SPACE, Target};
