@@ -31,6 +31,7 @@ use Rattle.mk_transfer.specs.declared.status.Cause.TheVariants.{Read, Write, Mem
 use Rattle.mk_transfer.specs.declared.transfer.Stop.{Stop}
 use Rattle.mk_transfer.specs.declared.transfer.Stop.TheVariants.{Fault as Stopped, Memory as Wanting}
 use Rattle.mk_run.specs.FilterClauses.{EndsFiltered, Filters, GivesKnown, IsBroken, IsEdited, IsFiltered, IsReason, SaysAll, SaysSome}
+use Rattle.mk_run.specs.declared.filters.ValueForm.{ValueForm}
 use Rattle.mk_run.specs.FilterViews.{is_allowed}
 use Rattle.mk_run.specs.Filtering.{PlainFilter, given_by, letters_for, message_line, report_of, said_by, said_from, said_of, said_of_edits, said_or}
 use Rattle.mk_transfer.specs.RunClauses.{Counts, Held, IsBlamed, IsSent, IsStopped, Reason, WriteFailed, cause_of_writing, held, status_of}
@@ -286,17 +287,17 @@ stopped_so (Some reason) number stop err err_after before after n s = s.fault
 -- ---- what is said of one message
 
 -- what letters give of it goes out
-pub given_all : (decodes : Bool) (l : PlainLetters) (number : ℕ) (text given : List ℕ) (out out_after err : Option (List ℕ)) → Some given ≡ given_by decodes l.take l.whole text → Appends out out_after given → SaysAll (said_by decodes l number text) false out out_after err err
-given_all decodes l number text given out out_after err e o =
+pub given_all : (form : ValueForm) (l : PlainLetters) (number : ℕ) (text given : List ℕ) (out out_after err : Option (List ℕ)) → Some given ≡ given_by form l.take l.whole text → Appends out out_after given → SaysAll (said_by form l number text) false out out_after err err
+given_all form l number text given out out_after err e o =
     subst (λ x. SaysAll (said_or x (said_of_edits l number text)) false out out_after err err) e (record { output = o; errors = Appends-nil err; refused_is = refl })
 
-pub given_some : (decodes : Bool) (l : PlainLetters) (number : ℕ) (text given : List ℕ) (out out_after err : Option (List ℕ)) → Some given ≡ given_by decodes l.take l.whole text → AppendsFront out out_after given → SaysSome (said_by decodes l number text) out out_after err err
-given_some decodes l number text given out out_after err e o =
+pub given_some : (form : ValueForm) (l : PlainLetters) (number : ℕ) (text given : List ℕ) (out out_after err : Option (List ℕ)) → Some given ≡ given_by form l.take l.whole text → AppendsFront out out_after given → SaysSome (said_by form l number text) out out_after err err
+given_some form l number text given out out_after err e o =
     subst (λ x. SaysSome (said_or x (said_of_edits l number text)) out out_after err err) e (record { output = o; errors = AppendsFront-none err [] })
 
 -- where they give nothing, it is what their edits leave
-pub given_none : (P : Said → Type 0) (decodes : Bool) (l : PlainLetters) (number : ℕ) (text : List ℕ) → None ≡ given_by decodes l.take l.whole text → P (said_of_edits l number text) → P (said_by decodes l number text)
-given_none P decodes l number text e h = subst (λ x. P (said_or x (said_of_edits l number text))) e h
+pub given_none : (P : Said → Type 0) (form : ValueForm) (l : PlainLetters) (number : ℕ) (text : List ℕ) → None ≡ given_by form l.take l.whole text → P (said_of_edits l number text) → P (said_by form l number text)
+given_none P form l number text e h = subst (λ x. P (said_or x (said_of_edits l number text))) e h
 
 pub on_err : {A E : Type 0} (r : Result A E) (P Q : Type 0) → OnErr r P → (P → Q) → OnErr r Q
 on_err (Ok x) P Q h f = tt

@@ -7,7 +7,7 @@ use Rattle.mk_run.specs.declared.filters.FieldFilter.{FieldFilter}
 
 -- a filter as it is
 abbrev pub filter_of : FieldFilter → PlainFilter
-filter_of f = record { lf = letters_of f.lf.now; crlf = letters_of f.crlf.now; decodes = f.decodes }
+filter_of f = record { lf = letters_of f.lf.now; crlf = letters_of f.crlf.now; form = f.form }
 
 -- both its letters may be asked for
 abbrev pub is_allowed : PlainFilter → Bool

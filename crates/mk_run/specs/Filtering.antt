@@ -13,19 +13,21 @@ use Rattle.mk_mail.specs.Letters.{PlainLetters, root_path}
 use Rattle.mk_mailbox.specs.Pieces.{mailbox_pieces}
 use Rattle.mk_script.specs.Paths.{parted}
 use Rattle.mk_run.specs.Reports.{behind_name, reason_name}
-use Rattle.mk_run.specs.Wording.{decoded_line}
+use Rattle.mk_run.specs.declared.filters.ValueForm.{ValueForm}
+use Rattle.mk_run.specs.declared.filters.ValueForm.TheVariants.{AsWritten}
+use Rattle.mk_run.specs.Wording.{printed_value}
 use Rattle.mk_transfer.specs.Said.{Run, shown, Said, said_behind, silence}
 
--- what a filter is asked for: letters for a message whose lines end with LF, those for one whose lines end with CR LF, and whether
--- values are printed as people read them
+-- what a filter is asked for: letters for a message whose lines end with LF, those for one whose lines end with CR LF, and how
+-- values are printed
 pub record PlainFilter : Type 0 where
   pub lf : PlainLetters
   pub crlf : PlainLetters
-  pub decodes : Bool
+  pub form : ValueForm
 
 -- letters alone: they are the same for each message
 abbrev pub of_letters : PlainLetters → PlainFilter
-of_letters l = record { lf = l; crlf = l; decodes = false }
+of_letters l = record { lf = l; crlf = l; form = AsWritten }
 
 -- the letters for a message, by its ending
 abbrev pub letters_for : PlainFilter → List ℕ → PlainLetters
@@ -44,17 +46,9 @@ part_behind (Some p) = p.1
 abbrev pub behind_colon : List ℕ → List ℕ
 behind_colon raw = part_behind (parted colon raw)
 
--- what the fields of a name hold, one after another (`-x`)
-abbrev pub contents_named : List ℕ → List ℕ → List ℕ
-contents_named name text = flat_map (λ f. behind_colon f.raw) (fields_named name text)
-
--- what the fields of a name say, a line for each (`-x --decode`)
-abbrev pub values_named : List ℕ → List ℕ → List ℕ
-values_named name text = flat_map (λ f. decoded_line (behind_colon f.raw)) (fields_named name text)
-
--- what `-x` gives: values as they stand, or as people read them
-abbrev pub taken : Bool → List ℕ → List ℕ → List ℕ
-taken decodes name text = if decodes then values_named name text else contents_named name text
+-- the values of the fields of a name, one after another (`-x`)
+abbrev pub values_named : ValueForm → List ℕ → List ℕ → List ℕ
+values_named form name text = flat_map (λ f. printed_value form (behind_colon f.raw)) (fields_named name text)
 
 -- the fields of a name, one after another (`-X`)
 abbrev pub wholes_named : List ℕ → List ℕ → List ℕ
@@ -70,10 +64,10 @@ report_of number (Ok p) = []
 report_of number (Err q) = message_line number q.1
 
 -- what letters give of a message that ask for fields of a name; nothing where none does
-abbrev pub given_by : Bool → Option (List ℕ) → Option (List ℕ) → List ℕ → Option (List ℕ)
-given_by decodes (Some name) whole text = Some (taken decodes name text)
-given_by decodes None (Some name) text = Some (wholes_named name text)
-given_by decodes None None text = None
+abbrev pub given_by : ValueForm → Option (List ℕ) → Option (List ℕ) → List ℕ → Option (List ℕ)
+given_by form (Some name) whole text = Some (values_named form name text)
+given_by form None (Some name) text = Some (wholes_named name text)
+given_by form None None text = None
 
 -- what is said of a message of which letters give nothing: what they leave of it, and the reason where an edit is refused
 abbrev pub said_of_edits : PlainLetters → ℕ → List ℕ → Said
@@ -85,12 +79,12 @@ said_or None edits = edits
 said_or (Some given) edits = record { output = given; errors = [] }
 
 -- what these letters say of a message of a number
-abbrev pub said_by : Bool → PlainLetters → ℕ → List ℕ → Said
-said_by decodes l number text = said_or (given_by decodes l.take l.whole text) (said_of_edits l number text)
+abbrev pub said_by : ValueForm → PlainLetters → ℕ → List ℕ → Said
+said_by form l number text = said_or (given_by form l.take l.whole text) (said_of_edits l number text)
 
 -- what a filter says of a message of a number
 abbrev pub said_of : PlainFilter → ℕ → List ℕ → Said
-said_of f number text = said_by f.decodes (letters_for f text) number text
+said_of f number text = said_by f.form (letters_for f text) number text
 
 -- what is said of messages in turn, where the first has this number
 abbrev pub said_from : PlainFilter → ℕ → List (List ℕ) → Said

@@ -2,6 +2,7 @@ pub mod Reports
 pub mod Journaling
 pub mod JournalRuns
 pub mod Runs
+pub mod Scripts
 pub mod Asked
 pub mod Wording
 pub mod Filtering

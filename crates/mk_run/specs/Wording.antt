@@ -1,4 +1,5 @@
--- Values of fields as people write them: encoded words read and made (RFC 2047; where they are read and made is our own).
+-- Values of fields as people write them: on one line (RFC 5322, 2.2.3), encoded words read and made (RFC 2047; where they are read and
+-- made is our own).
 use Rattle.std.specs.Prelude.{◌==◌, ◌&&◌, ◌||◌, ◌++◌, if◌then◌else◌, ℕ, Bool, not, Option, None, Some, List, [], ◌∷◌, codes, map}
 use Rattle.std.specs.List.{list_all}
 use Rattle.std.specs.Option.{option_map}
@@ -7,21 +8,33 @@ use Rattle.mk_line.specs.declared.cutting.Ending.{Ending}
 use Rattle.mk_line.specs.Ascii.{carriage_return, colon, equals_sign, line_feed, question_mark, space}
 use Rattle.mk_line.specs.Marks.{trimmed}
 use Rattle.mk_head.specs.Values.{stripped}
-use Rattle.mk_code.specs.EncodedWords.{has_pair, is_shown, words_decoded, words_encoded}
+use Rattle.mk_code.specs.EncodedWords.{has_pair, is_shown, unfolded, words_decoded, words_encoded}
 use Rattle.mk_script.specs.Paths.{parted}
 use Rattle.mk_run.specs.Asked.{PlainWords}
+use Rattle.mk_run.specs.declared.filters.ValueForm.{ValueForm}
+use Rattle.mk_run.specs.declared.filters.ValueForm.TheVariants.{AsWritten, Unfolded, Decoded}
 
 -- a byte of a line: a space in the place of a carriage return or a line feed
 abbrev pub line_byte : ℕ → ℕ
 line_byte byte = if byte == carriage_return || byte == line_feed then space else byte
 
--- what a value says: its encoded words decoded, on one line, without the blanks at both ends
-abbrev pub decoded_value : List ℕ → List ℕ
-decoded_value value = stripped (map line_byte (words_decoded value))
+-- a text without line breaks and without the blanks at both ends
+abbrev pub unbroken : List ℕ → List ℕ
+unbroken text = stripped (map line_byte text)
 
--- that as a line (`--decode`)
-abbrev pub decoded_line : List ℕ → List ℕ
-decoded_line value = decoded_value value ++ line_feed ∷ []
+-- that as a line
+abbrev pub one_line : List ℕ → List ℕ
+one_line text = unbroken text ++ line_feed ∷ []
+
+-- what a value says: its encoded words decoded, on one line
+abbrev pub decoded_value : List ℕ → List ℕ
+decoded_value value = unbroken (words_decoded value)
+
+-- a value as it is printed: as it is written, unfolded (`--unfold`), or with its encoded words decoded besides (`--decode`)
+abbrev pub printed_value : ValueForm → List ℕ → List ℕ
+printed_value AsWritten value = value
+printed_value Unfolded value = one_line (unfolded value)
+printed_value Decoded value = one_line (words_decoded value)
 
 -- a value that stays: it is printable ASCII, and nothing in it begins like an encoded word
 abbrev pub is_plain : List ℕ → Bool

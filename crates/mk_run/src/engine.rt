@@ -3,21 +3,22 @@
 ghost use Rattle.std.specs.Prelude.{◌≡◌, ◌≢◌, ◌⊎◌, true, false, [], length, map, Ok, IfOk, IfErr, OnOk, OnErr};
 ghost use Rattle.std.specs.Io.KnownBytes.{Appends, Keeps};
 ghost use Rattle.mk_mailbox.specs.Devices.{AppendsFront, Rose};
-ghost use Rattle.mk_script.specs.ScriptSteps.{script_of};
 ghost use Rattle.mk_script.specs.ScriptViews.{step_by, texts_of};
 ghost use Rattle.mk_run.specs.Journaling.{journaling_of};
 ghost use Rattle.mk_run.specs.JournalRuns.{LeavesRun, LeavesSteps, Prints, SinkFailed};
 ghost use Rattle.mk_run.specs.Runs.{run_from};
+ghost use Rattle.mk_run.specs.Scripts.{steps_asked};
 ghost use Rattle.mk_transfer.specs.RunClauses.{held, counts, reason_with, IsBlamedWith, SameFailures, ReadFailed, ends_itself};
 ghost use Rattle.mk_run.specs.inner.Keeping.{bytes_kept};
 ghost use Rattle.mk_run.specs.inner.Sessions.{LeavesSession, sunk};
 
 use crate::journaling::{Journal, begin, is_memory, journal_of};
 use crate::report::{report_journal, report_syntax};
+use crate::scripts::Script;
 use crate::steps::do_steps;
 use mk_edit::Session;
 use mk_mail::{Sink, Source};
-use mk_script::{ScriptError, Step, steps};
+use mk_script::{ScriptError, Step};
 use mk_transfer::{Cause, Status, Stop, finish, give_up, read_all, reading, send, writing};
 use std::alloc::{AllocError, Global};
 
@@ -59,25 +60,29 @@ pub fn run_edit<S: Source, O: Sink, E: Sink, J: Sink>(
         (held (S.remaining input.new) (O.contents out.new) (E.contents err.new)) (O.finished out.old) (O.finished out.new) }
     ensures unfinished { ends_itself result ≡ false → (O.finished out.new ≡ O.finished out.old) ⊎ Rose (J.failures jout.old) (J.failures jout.new) }
 {
+    let script = Script {
+        text: script,
+        as_one: false,
+    };
     match try_edit(alloc, input, out, err, script, pieces, journal, jout) {
         Ok(status) => status,
         Err(cause) => give_up(err, cause),
     }
 }
 
-/// Does the same, and leaves it to the caller to say why the run is given up. The whole script is read before any of the
-/// message.
+/// Does the same by a script of either kind, and leaves it to the caller to say why the run is given up. The whole script
+/// is read before any of the message.
 pub fn try_edit<S: Source, O: Sink, E: Sink, J: Sink>(
     alloc: Global,
     input: &mut S,
     out: &mut O,
     err: &mut E,
-    script: &[u8],
+    script: Script<'_>,
     pieces: &[Vec<u8>],
     journal: Journal<'_>,
     jout: &mut J,
 ) -> Result<Status, Cause>
-    ensures leaves { LeavesSteps result (texts_of pieces.now) (journaling_of journal.entry) (script_of (length pieces.now) script.now)
+    ensures leaves { LeavesSteps result (texts_of pieces.now) (journaling_of journal.entry) (steps_asked script.entry.as_one (length pieces.now) script.entry.text.now)
         (held (S.remaining input.old) (O.contents out.old) (E.contents err.old))
         (held (S.remaining input.new) (O.contents out.new) (E.contents err.new))
         (J.contents jout.old) (J.contents jout.new) (J.finished jout.new) }
@@ -95,7 +100,7 @@ pub fn try_edit<S: Source, O: Sink, E: Sink, J: Sink>(
         (held (S.remaining input.new) (O.contents out.new) (E.contents err.new)) (O.finished out.old) (O.finished out.new)) }
     ensures unfinished { OnErr result ((O.finished out.new ≡ O.finished out.old) ⊎ Rose (J.failures jout.old) (J.failures jout.new)) }
 {
-    match steps(alloc, script, pieces.len()) {
+    match script.steps(alloc, pieces.len()) {
         Ok(steps) => run_steps(alloc, input, out, err, steps, pieces, journal, jout),
         Err(ScriptError::Syntax(number)) => match report_syntax(alloc, err, number) {
             Ok(()) => Ok(Status::Usage),

@@ -8,11 +8,11 @@ ghost use Rattle.mk_mail.specs.LetterViews.{bytes_in, letters_of};
 ghost use Rattle.mk_mail.specs.Letters.{are_allowed};
 ghost use Rattle.mk_run.specs.FilterClauses.{IsEdited, SaysAll, SaysSome};
 ghost use Rattle.mk_run.specs.FilterViews.{filter_of, is_allowed};
-ghost use Rattle.mk_run.specs.Filtering.{behind_colon as is_behind_colon, contents_named, given_by, said_by, said_of, said_of_edits, taken, values_named, wholes_named};
+ghost use Rattle.mk_run.specs.Filtering.{behind_colon as is_behind_colon, given_by, said_by, said_of, said_of_edits, values_named, wholes_named};
 
-use crate::filters::FieldFilter;
+use crate::filters::{FieldFilter, ValueForm};
 use crate::report::report_message;
-use crate::wording::push_decoded;
+use crate::wording::push_value;
 use mk_edit::{EditError, GroupError, Session};
 use mk_head::each_field;
 use mk_line::Meter;
@@ -48,23 +48,23 @@ pub fn filter_message<O: Sink, E: Sink>(
     ensures unfinished { O.finished out.new ≡ O.finished out.old }
 {
     let letters = filter.letters_for(&message);
-    say_message(alloc, letters, filter.decodes, number, message, out, err)
+    say_message(alloc, letters, filter.form, number, message, out, err)
 }
 
 // Prints what letters give or leave of a message.
 fn say_message<O: Sink, E: Sink>(
     alloc: Global,
     letters: &Letters,
-    decodes: bool,
+    form: ValueForm,
     number: u64,
     message: Vec<u8>,
     out: &mut O,
     err: &mut E,
 ) -> Result<bool, Stop>
     requires { are_allowed (letters_of letters.now) ≡ true }
-    ensures all { IfOk result (λ refused. SaysAll (said_by decodes (letters_of letters.now) number message.items) refused
+    ensures all { IfOk result (λ refused. SaysAll (said_by form (letters_of letters.now) number message.items) refused
         (O.contents out.old) (O.contents out.new) (E.contents err.old) (E.contents err.new)) }
-    ensures some { OnErr result (SaysSome (said_by decodes (letters_of letters.now) number message.items)
+    ensures some { OnErr result (SaysSome (said_by form (letters_of letters.now) number message.items)
         (O.contents out.old) (O.contents out.new) (E.contents err.old) (E.contents err.new)) }
     ensures failed { IfErr result (λ stop. stop ≡ Stop.Fault
         → Rose (O.failures out.old) (O.failures out.new) ⊎ Rose (E.failures err.old) (E.failures err.new)) }
@@ -78,7 +78,7 @@ fn say_message<O: Sink, E: Sink>(
         Ok(session) => session,
         Err(_) => return Err(Stop::Memory),
     };
-    match given(alloc, letters, decodes, session.doc()) {
+    match given(alloc, letters, form, session.doc()) {
         Ok(Some(text)) => {
             send(out, &text)?;
             Ok(false)
@@ -146,13 +146,13 @@ fn edit(
 fn given(
     alloc: Global,
     letters: &Letters,
-    decodes: bool,
+    form: ValueForm,
     doc: &Doc,
 ) -> Result<Option<Vec<u8>>, AllocError>
-    ensures { IfOk result (λ text. bytes_in text ≡ given_by decodes (letters_of letters.now).take (letters_of letters.now).whole doc.now) }
+    ensures { IfOk result (λ text. bytes_in text ≡ given_by form (letters_of letters.now).take (letters_of letters.now).whole doc.now) }
 {
     match &letters.take {
-        Some(name) => Ok(Some(take(alloc, doc, name, decodes)?)),
+        Some(name) => Ok(Some(values(alloc, doc, name, form)?)),
         None => match &letters.whole {
             Some(name) => Ok(Some(wholes(alloc, doc, name)?)),
             None => Ok(None),
@@ -160,38 +160,14 @@ fn given(
     }
 }
 
-// What `-x` gives of a document.
-fn take(alloc: Global, doc: &Doc, name: &[u8], decodes: bool) -> Result<Vec<u8>, AllocError>
-    ensures { IfOk result (λ text. text.items ≡ taken decodes name.now doc.now) }
-{
-    if decodes {
-        values(alloc, doc, name)
-    } else {
-        contents(alloc, doc, name)
-    }
-}
-
-// What the fields of a name say, a line for each.
-fn values(alloc: Global, doc: &Doc, name: &[u8]) -> Result<Vec<u8>, AllocError>
-    ensures { IfOk result (λ text. text.items ≡ values_named name.now doc.now) }
+// What `-x` gives of a document: the values of the fields of a name, one after another.
+fn values(alloc: Global, doc: &Doc, name: &[u8], form: ValueForm) -> Result<Vec<u8>, AllocError>
+    ensures { IfOk result (λ text. text.items ≡ values_named form name.now doc.now) }
 {
     let mut text = Vec::new(alloc);
     for field in each_field(doc.root().head()) {
         if field.is_named(name) {
-            push_decoded(alloc, &mut text, behind_colon(field.raw))?;
-        }
-    }
-    Ok(text)
-}
-
-// What the fields of a name hold, one after another.
-fn contents(alloc: Global, doc: &Doc, name: &[u8]) -> Result<Vec<u8>, AllocError>
-    ensures { IfOk result (λ text. text.items ≡ contents_named name.now doc.now) }
-{
-    let mut text = Vec::new(alloc);
-    for field in each_field(doc.root().head()) {
-        if field.is_named(name) {
-            text.extend_from_slice(behind_colon(field.raw))?;
+            push_value(alloc, &mut text, behind_colon(field.raw), form)?;
         }
     }
     Ok(text)

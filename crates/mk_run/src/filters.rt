@@ -5,6 +5,18 @@ ghost use Rattle.std.specs.Prelude.{◌≡◌};
 use mk_line::{Ending, eol_of};
 use mk_mail::Letters;
 
+/// How `-x` prints the values of fields.
+#[derive(Clone, Copy, Debug, Default, PartialEq, Eq)]
+pub enum ValueForm {
+    /// All that follows the colon, byte for byte.
+    #[default]
+    AsWritten,
+    /// A line for each: the value on one line, without the blanks at both ends (RFC 5322, 2.2.3).
+    Unfolded,
+    /// A line for each: the same of the value with its encoded words decoded (RFC 2047).
+    Decoded,
+}
+
 /// What a run that filters fields is asked for. The letters may depend on how the lines of a message end, since a field
 /// that they add may have more than one line.
 #[derive(Clone, Copy, Debug)]
@@ -13,8 +25,8 @@ pub struct FieldFilter<'a> {
     pub lf: &'a Letters,
     /// Those for a message whose lines end with CR LF.
     pub crlf: &'a Letters,
-    /// Whether `-x` prints what values say, a line for each, and not their bytes.
-    pub decodes: bool,
+    /// How `-x` prints values.
+    pub form: ValueForm,
 }
 
 impl<'a> FieldFilter<'a> {
@@ -30,7 +42,7 @@ impl<'a> FieldFilter<'a> {
         FieldFilter {
             lf: letters,
             crlf: letters,
-            decodes: false,
+            form: ValueForm::AsWritten,
         }
     }
 

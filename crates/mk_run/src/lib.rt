@@ -8,13 +8,14 @@ mod filters;
 mod journaling;
 mod letters;
 mod report;
+mod scripts;
 mod steps;
 pub mod word_laws;
 mod wording;
 
 pub use engine::{run_edit, try_edit};
 pub use filtering::{run_field, try_field};
-pub use filters::FieldFilter;
+pub use filters::{FieldFilter, ValueForm};
 pub use journaling::Journal;
 pub use letters::LetterWords;
 pub use mk_show::{
@@ -22,3 +23,4 @@ pub use mk_show::{
     try_pack_in, try_sections, try_unpack, try_unpack_in, unpack,
 };
 pub use mk_transfer::{Cause, Status, Stop, give_up, read_all, write_all};
+pub use scripts::Script;

@@ -5,10 +5,12 @@ ghost use Rattle.std.specs.List.{list_all};
 ghost use Rattle.mk_line.specs.Ascii.{equals_sign, question_mark};
 ghost use Rattle.mk_head.specs.Values.{stripped};
 ghost use Rattle.mk_code.specs.EncodedWords.{has_pair, is_shown as shown};
-ghost use Rattle.mk_run.specs.Wording.{decoded_line, is_plain as stays_plain, line_byte as byte_of_line, needs_words, worded_field as field_in_words, worded_parts};
+ghost use Rattle.mk_run.specs.Wording.{is_plain as stays_plain, line_byte as byte_of_line, needs_words, one_line as text_on_one_line, printed_value, worded_field as field_in_words, worded_parts};
 
+use crate::filters::ValueForm;
 use memchr::memmem;
 use mk_code::{words_decode, words_encode};
+use mk_head::without_endings;
 use mk_line::{Ending, leading_blanks, trimmed};
 use mk_script::parted;
 use std::alloc::{AllocError, Global};
@@ -22,16 +24,27 @@ const CARRIAGE_RETURN: u8 = b'\r';
 /// What an encoded word begins with.
 const MARK: &[u8; 2] = b"=?";
 
-/// Writes what a value says after a text, as a line: its encoded words decoded, without the blanks at both ends. A line
-/// break that an encoded word holds becomes a space.
-pub(crate) fn push_decoded(
+/// Writes a value after a text, in one of its forms. A line break that an encoded word holds becomes a space.
+pub(crate) fn push_value(
     alloc: Global,
     text: &mut Vec<u8>,
     value: &[u8],
+    form: ValueForm,
 ) -> Result<(), AllocError>
-    ensures { OnOk result (text.new.items ≡ text.old.items ++ decoded_line value.now) }
+    ensures { OnOk result (text.new.items ≡ text.old.items ++ printed_value form value.now) }
 {
-    let line = on_one_line(alloc, &words_decode(alloc, value)?)?;
+    match form {
+        ValueForm::AsWritten => Ok(text.extend_from_slice(value)?),
+        ValueForm::Unfolded => push_line(alloc, text, &without_endings(alloc, value)?),
+        ValueForm::Decoded => push_line(alloc, text, &words_decode(alloc, value)?),
+    }
+}
+
+// Writes a value after a text as a line, without the blanks at both ends.
+fn push_line(alloc: Global, text: &mut Vec<u8>, value: &[u8]) -> Result<(), AllocError>
+    ensures { OnOk result (text.new.items ≡ text.old.items ++ text_on_one_line value.now) }
+{
+    let line = on_one_line(alloc, value)?;
     text.extend_from_slice(strip(&line))?;
     text.push(LINE_FEED)?;
     Ok(())

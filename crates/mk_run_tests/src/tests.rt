@@ -1,5 +1,6 @@
 //! Runs of scripts on messages, over devices in memory. The expected bytes are worked out by hand.
 
+mod as_one;
 mod devices;
 mod failing;
 mod fields;

@@ -1,5 +1,5 @@
-//! Values of fields as people write them: what `--decode` prints, and what `--encode` puts in. The expected bytes are
-//! worked out by hand from RFC 2047.
+//! Values of fields as people write them: what `--unfold` and `--decode` print, and what `--encode` puts in. The expected
+//! bytes are worked out by hand from RFC 5322 and RFC 2047.
 
 ghost use Rattle.std.specs.Prelude.{◌≡◌, true};
 ghost use Rattle.mk_mail.specs.LetterViews.{letters_of};
@@ -11,10 +11,61 @@ use super::memory::page;
 use mk_line::Ending;
 use mk_mail::Letters;
 use mk_rows::{Row, rows};
-use mk_run::{FieldFilter, LetterWords, Status, give_up, try_field};
+use mk_run::{FieldFilter, LetterWords, Status, ValueForm, give_up, try_field};
 use std::alloc::Global;
 use std::process::Abort;
 use std::test::Fail;
+
+/// The values of the fields of a name, unfolded.
+const UNFOLDED: &str = r#"
+== a value of one line
+take: Subject:
+message: Subject: a b\nB: 2\n\n
+output: a b\n
+status: Well
+
+== lines are joined, and the blanks between them stay
+take: subject:
+message: Subject: a\r\n\t b \r\n  c\r\n\r\n
+output: a\t b   c\n
+status: Well
+
+== the blanks at both ends are left out
+take: A:
+message: A: \t a \t\n \n\n
+output: a\n
+status: Well
+
+== an encoded word stays as it is
+take: A:
+message: A: =?utf-8?Q?=C3=A4?=\n =?utf-8?Q?b?=\n
+output: =?utf-8?Q?=C3=A4?= =?utf-8?Q?b?=\n
+status: Well
+
+== each field of the name is a line, those of the body are none
+take: A:
+message: A: 1\nB: 2\nA:3\n\nA: 4\n
+output: 1\n3\n
+status: Well
+
+== an open last line and an empty value
+take: A:
+message: A:\nA: 1
+output: \n1\n
+status: Well
+
+== a carriage return within a line becomes a space
+take: A:
+message: A: a\rb\r\n\r\n
+output: a b\n
+status: Well
+
+== bytes that aren't UTF-8 stand as they are
+take: A:
+message: A: caf\xe9\n
+output: caf\xe9\n
+status: Well
+"#;
 
 /// What the fields of a name say.
 const DECODED: &str = r#"
@@ -146,7 +197,13 @@ fn words_in(row: &Row) -> LetterWords<'_> {
 }
 
 // Runs the filter of a row over devices that give and take this many bytes a call.
-fn check_row(rt: &impl Abort, alloc: Global, row: &Row, size: usize) -> Result<(), Fail> {
+fn check_row(
+    rt: &impl Abort,
+    alloc: Global,
+    row: &Row,
+    form: ValueForm,
+    size: usize,
+) -> Result<(), Fail> {
     let words = words_in(row);
     let (Some(lf), Some(crlf)) = (
         words.letters_in_words(alloc, Ending::Lf)?,
@@ -159,7 +216,7 @@ fn check_row(rt: &impl Abort, alloc: Global, row: &Row, size: usize) -> Result<(
     let filter = FieldFilter {
         lf: &lf,
         crlf: &crlf,
-        decodes: true,
+        form,
     };
     let mut out = Page::new(alloc, size)?;
     let mut err = Page::new(alloc, size)?;
@@ -172,9 +229,17 @@ fn check_row(rt: &impl Abort, alloc: Global, row: &Row, size: usize) -> Result<(
 }
 
 #[test]
+fn values_are_unfolded(rt: HostRuntime) -> Result<(), Fail> {
+    for row in &rows(rt.alloc(), UNFOLDED)? {
+        check_row(&rt, rt.alloc(), row, ValueForm::Unfolded, 3)?;
+    }
+    Ok(())
+}
+
+#[test]
 fn values_are_decoded(rt: HostRuntime) -> Result<(), Fail> {
     for row in &rows(rt.alloc(), DECODED)? {
-        check_row(&rt, rt.alloc(), row, 1_000)?;
+        check_row(&rt, rt.alloc(), row, ValueForm::Decoded, 1_000)?;
     }
     Ok(())
 }
@@ -182,7 +247,7 @@ fn values_are_decoded(rt: HostRuntime) -> Result<(), Fail> {
 #[test]
 fn values_are_encoded(rt: HostRuntime) -> Result<(), Fail> {
     for row in &rows(rt.alloc(), ENCODED)? {
-        check_row(&rt, rt.alloc(), row, 7)?;
+        check_row(&rt, rt.alloc(), row, ValueForm::AsWritten, 7)?;
     }
     Ok(())
 }
@@ -213,39 +278,42 @@ fn memory_for_encoding(rt: HostRuntime) {
 
 const WORDS: &[u8] = b"A: =?utf-8?Q?=C3=A4?=\nB: x\nA: 2\n\n";
 
-const SAID: &[u8] = b"\xc3\xa4\n2\n";
+const DECODED_VALUES: &[u8] = b"\xc3\xa4\n2\n";
 
-// What the fields of a name say goes out, or a front of it.
-fn check_decoding(
+const UNFOLDED_VALUES: &[u8] = b"=?utf-8?Q?=C3=A4?=\n2\n";
+
+// The values of the fields of a name go out, or a front of them.
+fn check_values(
     rt: &impl Abort,
     alloc: Global,
     mut out: Page,
     mut err: Page,
     letters: &Letters,
+    form: ValueForm,
+    values: &[u8],
 ) -> Status
     requires { are_allowed (letters_of letters.now) ≡ true }
 {
     let filter = FieldFilter {
         lf: letters,
         crlf: letters,
-        decodes: true,
+        form,
     };
     let mut input = Text::new(WORDS, 1_000);
     match try_field(alloc, &mut input, &mut out, &mut err, &filter, false) {
         Ok(status) => {
-            assert_eq!(rt; out.bytes(), SAID);
+            assert_eq!(rt; out.bytes(), values);
             status
         }
         Err(cause) => {
-            assert!(rt; SAID.starts_with(out.bytes()));
+            assert!(rt; values.starts_with(out.bytes()));
             give_up(&mut err, cause)
         }
     }
 }
 
-#[test]
-fn memory_for_decoding(rt: HostRuntime) {
-    let alloc = rt.alloc();
+// Asks for the values of the fields of a name, and again where memory was refused.
+fn check_memory(rt: &impl Abort, alloc: Global, form: ValueForm, values: &[u8]) {
     let words = LetterWords {
         take: Some("A:"),
         ..LetterWords::default()
@@ -257,11 +325,21 @@ fn memory_for_decoding(rt: HostRuntime) {
     ) else {
         return;
     };
-    if letters.ok() && check_decoding(&rt, alloc, out, err, &letters) == Status::Memory {
-        let (out, err) = (page(&rt, alloc), page(&rt, alloc));
+    if letters.ok() && check_values(rt, alloc, out, err, &letters, form, values) == Status::Memory {
+        let (out, err) = (page(rt, alloc), page(rt, alloc));
         assert_eq!(rt;
-            check_decoding(&rt, alloc, out, err, &letters),
+            check_values(rt, alloc, out, err, &letters, form, values),
             Status::Well
         );
     }
+}
+
+#[test]
+fn memory_for_decoding(rt: HostRuntime) {
+    check_memory(&rt, rt.alloc(), ValueForm::Decoded, DECODED_VALUES);
+}
+
+#[test]
+fn memory_for_unfolding(rt: HostRuntime) {
+    check_memory(&rt, rt.alloc(), ValueForm::Unfolded, UNFOLDED_VALUES);
 }

@@ -1,8 +1,0 @@
-use Rattle.std.proofs.Common.{◌≡◌, ◌++◌, filter}
-use Rattle.std.specs.List.{flat_map}
-use Rattle.mk_head.specs.Fields.{is_named}
-use Rattle.mk_run.specs.Filtering.{behind_colon, contents_named}
-use Rattle.mk_run.proofs.fields.contents.Given as goal
-
-abbrev pub invariant-loop-field : goal.invariant-loop-field
-invariant-loop-field l = l.text.items ++ flat_map (λ f. behind_colon f.raw) (filter (is_named l.name) l.field-iterator) ≡ contents_named l.name l.fn.doc
