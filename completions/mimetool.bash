@@ -3,14 +3,14 @@
 _mimetool_options() {
     local options=''
     case $1 in
-        edit) options='--from --in-place -j -e -h --help' ;;
+        edit) options='--from --in-place -j --all -e -h --help' ;;
         undo) options='--from --in-place -j -h --help' ;;
         redo) options='--from --in-place -j -h --help' ;;
         sections) options='--from --json --utf8 -h --help' ;;
         extract) options='--from -s -h --help' ;;
         unpack) options='--from -f -t --silent --utf8 -C -h --help' ;;
         pack) options='-b --utf8 -h --help' ;;
-        field) options='--from --in-place --rename -a -A -i -I -u -U -x -X --decode --encode -s -h --help' ;;
+        field) options='--from --in-place --rename -a -A -i -I -u -U -x -X --unfold --decode --encode --refused-ok -s -h --help' ;;
         help) options='' ;;
         '') options='-h --help -V --version' ;;
     esac

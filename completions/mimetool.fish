@@ -20,6 +20,7 @@ complete -c mimetool -n '__fish_seen_subcommand_from edit undo redo sections ext
 complete -c mimetool -n '__fish_seen_subcommand_from edit undo redo field' -l in-place -r -F -d 'Read the message from a file, and replace the file'
 complete -c mimetool -n '__fish_seen_subcommand_from sections' -l json -d 'Print each section as a JSON object'
 complete -c mimetool -n '__fish_seen_subcommand_from sections' -l utf8 -d 'With --json, give the names of unpack --utf8'
+complete -c mimetool -n '__fish_seen_subcommand_from edit' -l all -d 'Make all edits as one step, or none'
 complete -c mimetool -n '__fish_seen_subcommand_from edit' -s e -x -d 'A line of the script'
 complete -c mimetool -n '__fish_seen_subcommand_from edit' -F
 complete -c mimetool -n '__fish_seen_subcommand_from extract' -s s -x -d 'The path of the section'
@@ -40,7 +41,9 @@ complete -c mimetool -n '__fish_seen_subcommand_from field' -s u -x -d 'Keep the
 complete -c mimetool -n '__fish_seen_subcommand_from field' -s U -x -d 'Keep the last field'
 complete -c mimetool -n '__fish_seen_subcommand_from field' -s x -x -d 'Print what the fields hold'
 complete -c mimetool -n '__fish_seen_subcommand_from field' -s X -x -d 'Print the fields'
+complete -c mimetool -n '__fish_seen_subcommand_from field' -l unfold -d 'With -x, print the value of each field on one line'
 complete -c mimetool -n '__fish_seen_subcommand_from field' -l decode -d 'With -x, print what each field says on one line'
 complete -c mimetool -n '__fish_seen_subcommand_from field' -l encode -d 'Write values as encoded words where they need it'
+complete -c mimetool -n '__fish_seen_subcommand_from field' -l refused-ok -d 'Exit with 0 where an edit is refused'
 complete -c mimetool -n '__fish_seen_subcommand_from field' -s s -d 'Take the input as a mailbox'
 complete -c mimetool -n '__fish_seen_subcommand_from help' -a 'edit undo redo sections extract unpack pack field'

@@ -8,15 +8,16 @@ use crate::faults::{Problem, usage};
 use crate::files::{attachments, read, read_all};
 use crate::letters::letter_words;
 use crate::options::{
-    BOUNDARY, DECODE, DIR, EACH, EDIT, ENCODE, EXTRACT, FIELD, JOURNAL, JSON, LINE, OVER, PACK,
-    PATH, PIECE, REDO, SCRIPT, SECTIONS, SILENT, SPEC, TEXTS, UNDO, UNPACK, UTF8,
+    ALL, BOUNDARY, DECODE, DIR, EACH, EDIT, ENCODE, EXTRACT, FIELD, JOURNAL, JSON, LINE, OVER,
+    PACK, PATH, PIECE, REDO, REFUSED_OK, SCRIPT, SECTIONS, SILENT, SPEC, TEXTS, UNDO, UNFOLD,
+    UNPACK, UTF8,
 };
 use clap::ArgMatches;
 use mk_line::Ending;
 use mk_mail::{Letters, NameForm, Sink, Source};
 use mk_run::{
-    Cause, FieldFilter, Journal, Status, Stop, read_doc, try_edit, try_extract, try_field,
-    try_pack_in, try_sections, try_unpack_in, write_all,
+    Cause, FieldFilter, Journal, Script, Status, Stop, ValueForm, read_doc, try_edit, try_extract,
+    try_field, try_pack_in, try_sections, try_unpack_in, write_all,
 };
 use mk_script::numbers;
 use mk_system::{Directory, JournalFile, Output};
@@ -45,9 +46,9 @@ pub fn run_command<R: Files<File = File> + AllocGlobal, S: Source, O: Sink, E: S
     if name == EDIT {
         edit(rt, matches, input, out, err)
     } else if name == UNDO {
-        edit_by(rt, matches, input, out, err, UNDO_SCRIPT, &[])
+        edit_by(rt, matches, input, out, err, alone(UNDO_SCRIPT), &[])
     } else if name == REDO {
-        edit_by(rt, matches, input, out, err, REDO_SCRIPT, &[])
+        edit_by(rt, matches, input, out, err, alone(REDO_SCRIPT), &[])
     } else if name == EXTRACT {
         extract(rt, matches, input, out, err)
     } else if name == UNPACK {
@@ -73,6 +74,7 @@ fn edit<R: Files<File = File> + AllocGlobal, S: Source, O: Sink, E: Sink>(
 ) -> Result<Status, Problem> {
     let alloc = rt.alloc();
     let paths = matches.get_strs(PIECE).unwrap_or(&[]);
+    let as_one = matches.get_flag(ALL);
     if let Some(lines) = matches.get_strs(LINE) {
         // Each word that is no line is a piece; the first of them stands where the script would.
         let script = joined(alloc, lines)?;
@@ -83,14 +85,30 @@ fn edit<R: Files<File = File> + AllocGlobal, S: Source, O: Sink, E: Sink>(
         for path in paths {
             pieces.push(read(rt, *path)?)?;
         }
-        return edit_by(rt, matches, input, out, err, &script, &pieces);
+        let script = Script {
+            text: &script,
+            as_one,
+        };
+        return edit_by(rt, matches, input, out, err, script, &pieces);
     }
     let Some(path) = matches.get_str(SCRIPT) else {
         return Ok(usage(err));
     };
     let script = read(rt, path)?;
     let pieces = read_all(rt, paths)?;
-    edit_by(rt, matches, input, out, err, &script, &pieces)
+    let script = Script {
+        text: &script,
+        as_one,
+    };
+    edit_by(rt, matches, input, out, err, script, &pieces)
+}
+
+// A script that is done line by line.
+fn alone(text: &[u8]) -> Script<'_> {
+    Script {
+        text,
+        as_one: false,
+    }
 }
 
 // The lines of a script, each ended.
@@ -110,7 +128,7 @@ fn edit_by<R: Files<File = File> + AllocGlobal, S: Source, O: Sink, E: Sink>(
     input: &mut S,
     out: &mut O,
     err: &mut E,
-    script: &[u8],
+    script: Script<'_>,
     pieces: &[Vec<u8>],
 ) -> Result<Status, Problem> {
     let alloc = rt.alloc();
@@ -252,10 +270,24 @@ fn field<R: AllocGlobal, S: Source, O: Sink, E: Sink>(
     let filter = FieldFilter {
         lf: &lf,
         crlf: &crlf,
-        decodes: matches.get_flag(DECODE),
+        form: value_form(matches),
     };
     let each = matches.get_flag(EACH);
-    Ok(try_field(alloc, input, out, err, &filter, each)?)
+    match try_field(alloc, input, out, err, &filter, each)? {
+        Status::Refused if matches.get_flag(REFUSED_OK) => Ok(Status::Well),
+        status => Ok(status),
+    }
+}
+
+// How `-x` prints values.
+fn value_form(matches: &ArgMatches<'_>) -> ValueForm {
+    if matches.get_flag(DECODE) {
+        ValueForm::Decoded
+    } else if matches.get_flag(UNFOLD) {
+        ValueForm::Unfolded
+    } else {
+        ValueForm::AsWritten
+    }
 }
 
 // What the letters ask for, for messages whose lines end with `eol`, where they may be asked for.

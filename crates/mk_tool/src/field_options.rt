@@ -1,8 +1,8 @@
 //! The words of `field`.
 
 use crate::options::{
-    ADD, ADD_IF, DECODE, EACH, ENCODE, FIELD, FIRST, LAST, ONLY, PREFIXED, RENAME, TAKE, WHOLE,
-    flag, from, in_place,
+    ADD, ADD_IF, DECODE, EACH, ENCODE, FIELD, FIRST, LAST, ONLY, PREFIXED, REFUSED_OK, RENAME,
+    TAKE, UNFOLD, WHOLE, flag, from, in_place,
 };
 use clap::{Arg, ArgAction, Command};
 use std::alloc::{AllocError, Global};
@@ -12,7 +12,7 @@ const A_FIELD: &str = "FIELD";
 
 const A_NAME: &str = "NAME:";
 
-/// mimetool field [-a FIELD] [-A FIELD] [-i FIELD] [-I FIELD] [-u NAME:] [-U NAME:] [-x NAME:] [-X NAME:] [--rename OLD:NEW] [--decode] [--encode] [-s]
+/// mimetool field [-a FIELD] [-A FIELD] [-i FIELD] [-I FIELD] [-u NAME:] [-U NAME:] [-x NAME:] [-X NAME:] [--rename OLD:NEW] [--unfold] [--decode] [--encode] [--refused-ok] [-s]
 pub fn field_command<'a>(alloc: Global) -> Result<Command<'a>, AllocError> {
     let rename = letter(alloc, RENAME, "OLD:NEW", "Give the fields OLD the name NEW").long(RENAME);
     let command = Command::new(alloc, FIELD)
@@ -73,6 +73,12 @@ fn with_flags<'a>(alloc: Global, command: Command<'a>) -> Result<Command<'a>, Al
     command
         .arg(flag(
             alloc,
+            UNFOLD,
+            "With -x, print the value of each field on one line",
+        )
+        .long(UNFOLD))?
+        .arg(flag(
+            alloc,
             DECODE,
             "With -x, print what each field says on one line, its encoded words decoded",
         )
@@ -83,6 +89,12 @@ fn with_flags<'a>(alloc: Global, command: Command<'a>) -> Result<Command<'a>, Al
             "Write values of FIELD that aren't plain ASCII as encoded words",
         )
         .long(ENCODE))?
+        .arg(flag(
+            alloc,
+            REFUSED_OK,
+            "Exit with 0 where an edit is refused; it is reported all the same",
+        )
+        .long(REFUSED_OK))?
         .arg(flag(
             alloc,
             EACH,

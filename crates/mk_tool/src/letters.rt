@@ -6,7 +6,7 @@ ghost use Rattle.mk_run.specs.Asked.{words_of};
 ghost use Rattle.mk_tool.specs.Found.{letter_words_found};
 
 use crate::options::{
-    ADD, ADD_IF, DECODE, ENCODE, FIRST, LAST, ONLY, PREFIXED, RENAME, TAKE, WHOLE,
+    ADD, ADD_IF, DECODE, ENCODE, FIRST, LAST, ONLY, PREFIXED, RENAME, TAKE, UNFOLD, WHOLE,
 };
 use clap::ArgMatches;
 use mk_run::LetterWords;
@@ -41,7 +41,9 @@ const A_NAME: &str = "write a name and a colon, as Subject:";
 
 const APART: &str = "-x and -X print fields, so neither stands beside another letter";
 
-/// What the options on encoded words want beside them.
+/// What the options on values want beside them.
+const UNFOLD_ALONE: &str = "--unfold is for the values that -x prints";
+
 const DECODE_ALONE: &str = "--decode is for the values that -x prints";
 
 const ENCODE_ALONE: &str = "--encode is for the fields of -a, -A, -i and -I";
@@ -72,9 +74,15 @@ pub fn why_refused(alloc: Global, words: &LetterWords<'_>) -> Result<Option<Stri
     Ok(Some(String::from_str(alloc, APART)?))
 }
 
-/// Why an option on encoded words is refused, if one is: it has no letter to work on.
-pub fn why_no_words(alloc: Global, matches: &ArgMatches<'_>) -> Result<Option<String>, AllocError> {
+/// Why an option on values is refused, if one is: it has no letter to work on.
+pub fn why_no_values(
+    alloc: Global,
+    matches: &ArgMatches<'_>,
+) -> Result<Option<String>, AllocError> {
     let words = letter_words(matches);
+    if matches.get_flag(UNFOLD) && words.take.is_none() {
+        return Ok(Some(String::from_str(alloc, UNFOLD_ALONE)?));
+    }
     if matches.get_flag(DECODE) && words.take.is_none() {
         return Ok(Some(String::from_str(alloc, DECODE_ALONE)?));
     }

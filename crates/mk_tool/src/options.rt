@@ -16,6 +16,8 @@ pub const PIECE: &str = "PIECE";
 
 pub const LINE: &str = "LINE";
 
+pub const ALL: &str = "all";
+
 pub const FROM: &str = "FROM";
 
 pub const IN_PLACE: &str = "IN_PLACE";
@@ -84,6 +86,10 @@ pub const EACH: &str = "each";
 pub const DECODE: &str = "decode";
 
 pub const ENCODE: &str = "encode";
+
+pub const UNFOLD: &str = "unfold";
+
+pub const REFUSED_OK: &str = "refused-ok";
 
 /// The subcommands, in the order in which help lists them.
 const SUBCOMMANDS: [&str; 8] = [EDIT, UNDO, REDO, SECTIONS, EXTRACT, UNPACK, PACK, FIELD];
@@ -266,7 +272,7 @@ fn journal<'a>(alloc: Global) -> Arg<'a> {
         .action(ArgAction::Set)
 }
 
-// mimetool edit [--from FILE|--in-place FILE] [-j JOURNAL] [-e LINE].. [SCRIPT] [PIECE..]
+// mimetool edit [--from FILE|--in-place FILE] [-j JOURNAL] [--all] [-e LINE].. [SCRIPT] [PIECE..]
 fn edit_command<'a>(alloc: Global) -> Result<Command<'a>, AllocError> {
     let line = Arg::new(alloc, LINE)
         .short('e')
@@ -291,6 +297,7 @@ fn edit_command<'a>(alloc: Global) -> Result<Command<'a>, AllocError> {
         .arg(from(alloc))?
         .arg(in_place(alloc)?)?
         .arg(journal(alloc))?
+        .arg(flag(alloc, ALL, "Make all edits as one step, or none of them").long(ALL))?
         .arg(line)?
         .arg(script)?
         .arg(pieces)

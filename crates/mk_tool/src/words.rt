@@ -1,7 +1,7 @@
 //! Words of the command line that clap takes as they are, and why some of them are refused.
 
 use crate::faults::Problem;
-use crate::letters::{letter_words, why_no_words, why_refused};
+use crate::letters::{letter_words, why_no_values, why_refused};
 use crate::options::{EDIT, EXTRACT, FIELD, JSON, LINE, PACK, PATH, SCRIPT, SECTIONS, SPEC, UTF8};
 use clap::ArgMatches;
 use mk_run::Spec;
@@ -40,7 +40,7 @@ pub fn check_words(alloc: Global, name: &str, matches: &ArgMatches<'_>) -> Resul
 fn why_no_field(alloc: Global, matches: &ArgMatches<'_>) -> Result<Option<String>, AllocError> {
     match why_refused(alloc, &letter_words(matches))? {
         Some(sentence) => Ok(Some(sentence)),
-        None => why_no_words(alloc, matches),
+        None => why_no_values(alloc, matches),
     }
 }
 

@@ -15,7 +15,7 @@ const NAMED: &[u8] =
 /// A leaf whose name is said with a charset.
 const SAID: &[u8] = b"Content-Disposition: inline; filename*=iso-8859-1''caf%E9%20.txt\n\nx\n";
 
-const ROWS: [Row; 11] = [
+const ROWS: [Row; 15] = [
     Row {
         shows: "the sections",
         words: &["sections"],
@@ -55,6 +55,38 @@ const ROWS: [Row; 11] = [
         output: b"{\"path\":\"1\",\"kind\":\"leaf\",\"type\":\"text/plain\",\"encoding\":\"identity\",\"start\":0,\"body\":66,\"end\":68,\"field_lines\":1,\"body_lines\":1,\"filename\":\"caf\xc3\xa9 .txt\",\"stored_as\":\"caf\xc3\xa9_.txt\"}\n",
         errors: b"",
         status: Status::Well,
+    },
+    Row {
+        shows: "edits one by one",
+        words: &["edit", "-e", "add 1 A: 1", "-e", "del 1 Z 1"],
+        message: b"B: 2\n\nx\n",
+        output: b"B: 2\nA: 1\n\nx\n",
+        errors: b"line 2: NoSuchField\n",
+        status: Status::Refused,
+    },
+    Row {
+        shows: "all edits or none",
+        words: &["edit", "--all", "-e", "add 1 A: 1", "-e", "del 1 Z 1"],
+        message: b"B: 2\n\nx\n",
+        output: b"B: 2\n\nx\n",
+        errors: b"line 2: NoSuchField\n",
+        status: Status::Refused,
+    },
+    Row {
+        shows: "all edits",
+        words: &["edit", "-e", "add 1 A: 1", "-e", "del 1 B 1", "--all"],
+        message: b"B: 2\n\nx\n",
+        output: b"A: 1\n\nx\n",
+        errors: b"",
+        status: Status::Well,
+    },
+    Row {
+        shows: "a line that is no edit",
+        words: &["edit", "--all", "-e", "add 1 A: 1", "-e", "undo"],
+        message: b"B: 2\n\nx\n",
+        output: b"",
+        errors: b"script: line 2: syntax\n",
+        status: Status::Usage,
     },
     Row {
         shows: "the first part",

@@ -11,7 +11,7 @@ const MAILBOX: &[u8] = b"From a\nA: 1\n\nx\n\nFrom b\nA: 2\n\ny\nFrom z\n\nFrom 
 const MIXED: &[u8] = b"Content-Type: multipart/mixed; boundary=b\n\n--b\n\none\n--b--\n";
 
 /// What is asked of the message, and what comes out where all is well.
-const WELL: [(&[&str], &[u8]); 20] = [
+const WELL: [(&[&str], &[u8]); 22] = [
     (&["field"], MESSAGE),
     (&["field", "-a", "A: 9"], MESSAGE),
     (&["field", "-a", "C: 9"], b"A: 1\nB: 2\nA: 3\nC: 9\n\nx\n"),
@@ -35,7 +35,9 @@ const WELL: [(&[&str], &[u8]); 20] = [
     ),
     (&["field", "-I", "B:", "-U", "A:"], b"A: 3\n\nx\n"),
     (&["field", "-s"], MESSAGE),
+    (&["field", "--unfold", "-x", "A:"], b"1\n3\n"),
     (&["field", "--decode", "-x", "A:"], b"1\n3\n"),
+    (&["field", "--refused-ok", "-x", "A:"], b" 1\n 3\n"),
     (
         &["field", "--encode", "-I", "A: \u{e4}"],
         b"B: 2\nA: =?utf-8?B?w6Q=?=\n\nx\n",
@@ -79,7 +81,7 @@ fn other_words_are_refused(rt: HostRuntime) -> Result<(), Fail> {
     Ok(())
 }
 
-const ROWS: [Row; 6] = [
+const ROWS: [Row; 9] = [
     Row {
         shows: "each message of a mailbox",
         words: &["field", "-s", "-I", "A: 9"],
@@ -103,6 +105,30 @@ const ROWS: [Row; 6] = [
         output: MIXED,
         errors: b"message 1: Recut\n",
         status: Status::Refused,
+    },
+    Row {
+        shows: "the same, where that is well",
+        words: &["field", "--refused-ok", "-I", "Content-Type:"],
+        message: MIXED,
+        output: MIXED,
+        errors: b"message 1: Recut\n",
+        status: Status::Well,
+    },
+    Row {
+        shows: "a value of two lines on one, its encoded word as it stands",
+        words: &["field", "--unfold", "-x", "a:"],
+        message: b"A:  =?utf-8?Q?=C3=A4?=\r\n\tb \r\nB: 2\r\n",
+        output: b"=?utf-8?Q?=C3=A4?=\tb\n",
+        errors: b"",
+        status: Status::Well,
+    },
+    Row {
+        shows: "what is decoded is unfolded too",
+        words: &["field", "--unfold", "--decode", "-x", "a:"],
+        message: b"A: =?utf-8?Q?=C3=A4?=\n =?utf-8?Q?=C3=B6?=\n",
+        output: b"\xc3\xa4\xc3\xb6\n",
+        errors: b"",
+        status: Status::Well,
     },
     Row {
         shows: "an encoded word, decoded",

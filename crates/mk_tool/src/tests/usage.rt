@@ -97,7 +97,7 @@ fn invalid_values_are_named(rt: HostRuntime) -> Result<(), Fail> {
 }
 
 /// A command line, and the first line of what is said of it.
-const SENTENCES: [(&[&str], &str); 20] = [
+const SENTENCES: [(&[&str], &str); 21] = [
     (
         &["field", "-x", "A:", "-X", "A:"],
         "error: -x and -X print fields, so neither stands beside another letter\n",
@@ -109,6 +109,10 @@ const SENTENCES: [(&[&str], &str); 20] = [
     (
         &["field", "--decode", "-X", "A:"],
         "error: --decode is for the values that -x prints\n",
+    ),
+    (
+        &["field", "--unfold", "-u", "A:"],
+        "error: --unfold is for the values that -x prints\n",
     ),
     (
         &["field", "--encode", "-u", "A:"],
