@@ -97,23 +97,31 @@ def field(chooser):
         every = [b"--rename", b"-a", b"-A", b"-i", b"-I", b"-u", b"-U"]
         chosen = chooser.sample(every, chooser.choice([0, 1, 1, 1, 2, 2, 3, 7])) + chooser.some(every, 1)[:chooser.maybe(0.02)]
     words = [b"field"] + [word for name in chosen for word in letter(chooser, name, there)]
-    for flag, chance in ((b"-s", each), (b"--decode", 0.5 if b"-x" in chosen else 0.02), (b"--encode", 0.3 if chosen else 0.02)):
+    for flag, chance in ((b"-s", each), (b"--decode", 0.4 if b"-x" in chosen else 0.02), (b"--unfold", 0.4 if b"-x" in chosen else 0.02), (b"--refused-ok", 0.2), (b"--encode", 0.3 if chosen else 0.02)):
         if chooser.maybe(chance):
             words.insert(chooser.choice([1, len(words)]), flag)
     yield from_file(chooser, Run(words, text, {}))
+
+
+def edits_alone(script):
+    """A script without the lines that are no edits."""
+    return b"".join(line for line in script.splitlines(True) if line.strip() not in (b"begin", b"end", b"undo", b"redo"))
 
 
 def edit(chooser):
     """`edit` with a script from a file or the command line."""
     message = messages.message(chooser)
     pieces = scripts.some_pieces(chooser, message)
+    as_one = chooser.maybe(0.2)
+    edit_words = [b"edit", b"--all"] if as_one else [b"edit"]
     if chooser.maybe(0.85):
-        files = {b"s": scripts.script(chooser, message, list(pieces)), **pieces}
-        yield from_file(chooser, Run([b"edit", b"s"] + list(pieces), message, files))
+        script = scripts.script(chooser, message, list(pieces))
+        files = {b"s": edits_alone(script) if as_one and chooser.maybe(0.9) else script, **pieces}
+        yield from_file(chooser, Run(edit_words + [b"s"] + list(pieces), message, files))
         return
     given = [line.replace(b"\0", b"") for line in scripts.script_lines(chooser, message, list(pieces)) if not line.endswith(b"\r")]
     words = [word for line in given for word in (b"-e", line.decode("latin-1").encode() if chooser.maybe(0.98) else line)]
-    yield from_file(chooser, Run([b"edit"] + words + list(pieces), message, pieces))
+    yield from_file(chooser, Run(edit_words + words + list(pieces), message, pieces))
 
 
 def deep(chooser):

@@ -5,6 +5,7 @@ from . import edits, fields, lines, session, tree, values, wording
 EDITING = ("--rename", "-a", "-A", "-i", "-I", "-u", "-U")
 PRINTING = ("-x", "-X")
 WITH_FIELDS = ("-a", "-A", "-i", "-I")
+SHAPES = (b"--unfold", b"--decode")
 
 
 def messages(text):
@@ -90,26 +91,32 @@ def filtered(message, letters, encode):
     return history.text(), None
 
 
-def shown(message, letters, decode):
-    """`-X` prints fields of a name whole, `-x` what stands behind their colons, or what that says on a line (own)."""
+def shaped(value, flags):
+    """What stands behind a colon, or that on a line, or what it says on a line (own)."""
+    if b"--decode" in flags:
+        return wording.said(value) + b"\n"
+    return wording.unfolded(value) + b"\n" if b"--unfold" in flags else value
+
+
+def shown(message, letters, flags):
+    """`-X` prints fields of a name whole, `-x` what stands behind their colons (own)."""
     found = b""
     for letter, word in letters.items():
         for field in tree.document(message).root.fields:
             if fields.is_named(field, word[:-1]):
                 raw = lines.printed(field)
-                value = raw.partition(b":")[2]
-                found += raw if letter == "-X" else wording.said(value) + b"\n" if decode else value
+                found += raw if letter == "-X" else shaped(raw.partition(b":")[2], flags)
     return found
 
 
-def run(text, letters, each, decode=False, encode=False):
+def run(text, letters, flags):
     """The whole input, or each message of a mailbox, goes through the letters (own): output, errors, status."""
     output, errors = b"", b""
-    for number, message in enumerate(messages(text) if each else [text], 1):
+    for number, message in enumerate(messages(text) if b"-s" in flags else [text], 1):
         if any(letter in PRINTING for letter in letters):
-            output += shown(message, letters, decode)
+            output += shown(message, letters, flags)
             continue
-        result, reason = filtered(message, letters, encode)
+        result, reason = filtered(message, letters, b"--encode" in flags)
         output += result
         errors += b"message %d: %s\n" % (number, reason.encode()) if reason else b""
-    return output, errors, 1 if errors else 0
+    return output, errors, 1 if errors and b"--refused-ok" not in flags else 0

@@ -12,8 +12,8 @@ OPTIONS = {
     b"field": (b"--rename", b"-a", b"-A", b"-i", b"-I", b"-u", b"-U", b"-x", b"-X", b"--from"),
     b"edit": (b"-j", b"-e", b"--from"), b"undo": (b"-j", b"--from"), b"redo": (b"-j", b"--from"), b"pack": (b"-b",),
 }
-FLAGS = {b"unpack": (b"-f", b"-t", b"--silent", b"--utf8"), b"field": (b"-s", b"--decode", b"--encode"),
-         b"pack": (b"--utf8",)}
+FLAGS = {b"unpack": (b"-f", b"-t", b"--silent", b"--utf8"), b"field": (b"-s", b"--unfold", b"--decode", b"--encode", b"--refused-ok"),
+         b"pack": (b"--utf8",), b"edit": (b"--all",)}
 NEEDED = {b"extract": b"-s", b"undo": b"-j", b"redo": b"-j", b"pack": b"-b"}
 
 
@@ -63,10 +63,10 @@ def letters_given(found):
 
 
 def are_letters_valid(found):
-    """`--decode` is for `-x`, `--encode` for letters that take a field (own)."""
+    """`--unfold` and `--decode` are for `-x`, `--encode` for letters that take a field (own)."""
     given = letters_given(found)
-    decodes, encodes = b"--decode" not in found or "-x" in given, any(letter in given for letter in letters.WITH_FIELDS)
-    return letters.are_allowed(given) and decodes and (b"--encode" not in found or encodes)
+    shapes, encodes = any(flag in found for flag in letters.SHAPES), any(letter in given for letter in letters.WITH_FIELDS)
+    return letters.are_allowed(given) and (not shapes or "-x" in given) and (b"--encode" not in found or encodes)
 
 
 def are_valid(command, found, others):
@@ -92,7 +92,7 @@ def run_edit(command, found, others, message, files):
     else:
         script, pieces = file_of(files, others[0]), others[1:]
     given = [file_of(files, name) for name in pieces]
-    output, errors, status, left = scripts.run(message, script, given, files.get(journal), journal is not None)
+    output, errors, status, left = scripts.run(message, script, given, files.get(journal), journal is not None, b"--all" in found)
     return output, errors, status, {**files, journal: left} if left is not None else files
 
 
@@ -127,7 +127,7 @@ def obeyed(run):
     elif command == b"extract":
         plain = listing.extract(message, found[b"-s"])
     elif command == b"field":
-        plain = letters.run(message, letters_given(found), b"-s" in found, b"--decode" in found, b"--encode" in found)
+        plain = letters.run(message, letters_given(found), [flag for flag in found if found[flag] is True])
     else:
         plain = run_pack(found, others, message, run.files)
     return *plain, run.files

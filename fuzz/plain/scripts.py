@@ -98,6 +98,19 @@ def parsed(script, pieces):
     return steps, min(faults) if faults else None
 
 
+def parsed_as_one(script, pieces):
+    """The same with each line an edit of one group (own)."""
+    steps = []
+    for at, line in enumerate(lines.cut(script), 1):
+        if line.content == b"" or line.content.startswith(b"#"):
+            continue
+        try:
+            steps.append((at, edit_of(line.content, pieces)))
+        except Fault:
+            return [], at
+    return [(0, "begin")] + steps + [(0, "end")], None
+
+
 def with_ending(edit, ending):
     """A field of a script gets the ending of the text (own)."""
     if edit.word not in ("add", "top", "set"):
@@ -125,9 +138,9 @@ def obey(history, steps):
     return errors
 
 
-def run(message, script, pieces, journal=None, journaled=False):
+def run(message, script, pieces, journal=None, journaled=False, as_one=False):
     """Syntax, journal, lines, message, journal, in this order (own): output, errors, status, journal."""
-    steps, fault = parsed(script, pieces)
+    steps, fault = (parsed_as_one if as_one else parsed)(script, pieces)
     if fault:
         return b"", b"script: line %d: syntax\n" % fault, 2, journal
     try:

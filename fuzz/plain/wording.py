@@ -70,9 +70,14 @@ def runs(text):
     return found
 
 
+def joined(value):
+    """Line endings go (RFC 5322, 2.2.3)."""
+    return b"".join(line.content for line in lines.cut(value))
+
+
 def decoded(value):
     """Line endings go, encoded words are decoded, and blanks between two of them go (RFC 2047, 6.2)."""
-    found, all_runs = b"", runs(b"".join(line.content for line in lines.cut(value)))
+    found, all_runs = b"", runs(joined(value))
     texts = [None if blank else word_text(run) for blank, run in all_runs]
     for at, (blank, run) in enumerate(all_runs):
         between = blank and 0 < at < len(texts) - 1 and texts[at - 1] is not None and texts[at + 1] is not None
@@ -80,9 +85,19 @@ def decoded(value):
     return found
 
 
+def on_one_line(text):
+    """A text without line breaks, and without blanks at its ends (own)."""
+    return text.replace(b"\r", b" ").replace(b"\n", b" ").strip(BLANKS)
+
+
+def unfolded(value):
+    """A value on one line (own)."""
+    return on_one_line(joined(value))
+
+
 def said(value):
     """What a value says is one line without blanks at its ends (own)."""
-    return decoded(value).replace(b"\r", b" ").replace(b"\n", b" ").strip(BLANKS)
+    return on_one_line(decoded(value))
 
 
 def pieces(text):
