@@ -2,4 +2,4 @@
 # usage: sh strip.sh MESSAGE JOURNAL
 words=$(mimetool sections --from "$1" |
     awk '$2 == "leaf" && $1 != "1" && $3 !~ /^text\// { print "remove " $1 }' | tac)
-[ -z "$words" ] || mimetool edit -j "$2" -e begin -e "$words" -e end --in-place "$1"
+[ -z "$words" ] || mimetool edit --all -j "$2" -e "$words" --in-place "$1"
