@@ -7,11 +7,6 @@ ghost use Rattle.mk_mail.specs.Letters.{are_allowed};
 use crate::faults::{Problem, usage};
 use crate::files::{attachments, read, read_all};
 use crate::letters::letter_words;
-use crate::options::{
-    ALL, BOUNDARY, DECODE, DIR, EACH, EDIT, ENCODE, EXTRACT, FIELD, JOURNAL, JSON, LINE, OVER,
-    PACK, PATH, PIECE, REDO, REFUSED_OK, SCRIPT, SECTIONS, SILENT, SPEC, TEXTS, UNDO, UNFOLD,
-    UNPACK, UTF8,
-};
 use clap::ArgMatches;
 use mk_line::Ending;
 use mk_mail::{Letters, NameForm, Sink, Source};
@@ -21,6 +16,11 @@ use mk_run::{
 };
 use mk_script::numbers;
 use mk_system::{Directory, JournalFile, Output};
+use mk_words::options::{
+    ALL, BOUNDARY, DECODE, DIR, EACH, EDIT, ENCODE, EXTRACT, FIELD, JOURNAL, JSON, LINE, OVER,
+    PACK, PATH, PIECE, REDO, REFUSED_OK, SCRIPT, SECTIONS, SILENT, SPEC, TEXTS, UNDO, UNFOLD,
+    UNPACK, UTF8,
+};
 use std::alloc::{AllocError, Global};
 use std::fs::File;
 use std::io;

@@ -1,10 +1,10 @@
 //! Why a command isn't run to its end, and how that is said.
 
-use crate::options::subcommand;
 use clap::Error;
 use clap::error::ErrorKind;
 use mk_mail::Sink;
 use mk_run::{Cause, Status, give_up, write_all};
+use mk_words::options::subcommand;
 use std::alloc::{AllocError, AllocFailed, Global};
 use std::io;
 

@@ -5,11 +5,11 @@ ghost use Rattle.clap.specs.Matches.{first_value, found_of};
 ghost use Rattle.mk_run.specs.Asked.{words_of};
 ghost use Rattle.mk_tool.specs.Found.{letter_words_found};
 
-use crate::options::{
-    ADD, ADD_IF, DECODE, ENCODE, FIRST, LAST, ONLY, PREFIXED, RENAME, TAKE, UNFOLD, WHOLE,
-};
 use clap::ArgMatches;
 use mk_run::LetterWords;
+use mk_words::options::{
+    ADD, ADD_IF, DECODE, ENCODE, FIRST, LAST, ONLY, PREFIXED, RENAME, TAKE, UNFOLD, WHOLE,
+};
 use std::alloc::{AllocError, Global};
 
 /// The words that stand after letters.

@@ -3,10 +3,8 @@
 
 mod commands;
 mod faults;
-mod field_options;
 mod files;
 mod letters;
-mod options;
 mod program;
 mod words;
 

@@ -3,13 +3,13 @@
 use crate::commands::run_command;
 use crate::faults::{Problem, report, say_usage, usage};
 use crate::files::open;
-use crate::options::{FROM, IN_PLACE, command};
 use crate::words::check_words;
 use clap::ArgMatches;
 use clap::error::ErrorKind;
 use mk_mail::{Sink, Source};
 use mk_run::{Cause, Status, give_up, write_all};
 use mk_system::{EditedFile, Input};
+use mk_words::options::{FROM, IN_PLACE, command};
 use std::alloc::Global;
 use std::fs::File;
 use std::rt::{Env, Files};

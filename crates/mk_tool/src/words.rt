@@ -2,10 +2,12 @@
 
 use crate::faults::Problem;
 use crate::letters::{letter_words, why_no_values, why_refused};
-use crate::options::{EDIT, EXTRACT, FIELD, JSON, LINE, PACK, PATH, SCRIPT, SECTIONS, SPEC, UTF8};
 use clap::ArgMatches;
 use mk_run::Spec;
 use mk_script::numbers;
+use mk_words::options::{
+    EDIT, EXTRACT, FIELD, JSON, LINE, PACK, PATH, SCRIPT, SECTIONS, SPEC, UTF8,
+};
 use std::alloc::{AllocError, Global};
 
 /// What is said of an edit without lines.
