@@ -10,22 +10,31 @@ const VERSION: &str = "0.1.0";
 /// The subcommand that edits a message by a script.
 pub const EDIT: &str = "edit";
 
+/// The file with the script.
 pub const SCRIPT: &str = "SCRIPT";
 
+/// A file that the script names by its number.
 pub const PIECE: &str = "PIECE";
 
+/// `-e LINE`: a line of the script.
 pub const LINE: &str = "LINE";
 
+/// `--all`: all edits are one step.
 pub const ALL: &str = "all";
 
+/// `--from FILE`: the file to read the message from.
 pub const FROM: &str = "FROM";
 
+/// `--in-place FILE`: the file to read it from and to replace.
 pub const IN_PLACE: &str = "IN_PLACE";
 
+/// `--json`: the listing as JSON.
 pub const JSON: &str = "json";
 
+/// `--utf8`: names as people wrote them.
 pub const UTF8: &str = "utf8";
 
+/// `-j JOURNAL`: the file that keeps the steps.
 pub const JOURNAL: &str = "JOURNAL";
 
 /// The subcommand that takes back the last step of an earlier run.
@@ -40,55 +49,76 @@ pub const SECTIONS: &str = "sections";
 /// The subcommand that gives the content of a section.
 pub const EXTRACT: &str = "extract";
 
+/// `-s PATH`: the section.
 pub const PATH: &str = "PATH";
 
 /// The subcommand that stores the leaves of a message as files.
 pub const UNPACK: &str = "unpack";
 
+/// `-f`: files are replaced.
 pub const OVER: &str = "over";
 
+/// `-t`: texts are stored too.
 pub const TEXTS: &str = "texts";
 
+/// `--silent`: no names are printed.
 pub const SILENT: &str = "silent";
 
+/// `-C DIR`: the folder of the files.
 pub const DIR: &str = "DIR";
 
 /// The subcommand that builds a message of files.
 pub const PACK: &str = "pack";
 
+/// `-b BOUNDARY`
 pub const BOUNDARY: &str = "BOUNDARY";
 
+/// A part, as TYPE:FILE.
 pub const SPEC: &str = "SPEC";
 
 /// The subcommand that filters the fields of messages.
 pub const FIELD: &str = "field";
 
+/// `--rename OLD:NEW`
 pub const RENAME: &str = "rename";
 
+/// `-a FIELD`
 pub const ADD_IF: &str = "add-if";
 
+/// `-A FIELD`
 pub const ADD: &str = "add";
 
+/// `-i FIELD`
 pub const PREFIXED: &str = "prefixed";
 
+/// `-I FIELD`
 pub const ONLY: &str = "only";
 
+/// `-u NAME:`
 pub const FIRST: &str = "first";
 
+/// `-U NAME:`
 pub const LAST: &str = "last";
 
+/// `-x NAME:`
 pub const TAKE: &str = "take";
 
+/// `-X NAME:`
 pub const WHOLE: &str = "whole";
 
+/// `-s`: the input is a mailbox.
 pub const EACH: &str = "each";
 
+/// `--decode`: values with their encoded words decoded.
 pub const DECODE: &str = "decode";
 
+/// `--encode`: values in encoded words where they need it.
 pub const ENCODE: &str = "encode";
 
+/// `--unfold`: values on one line.
 pub const UNFOLD: &str = "unfold";
 
+/// `--refused-ok`: a refused edit leaves the status 0.
 pub const REFUSED_OK: &str = "refused-ok";
 
 /// The subcommands, in the order in which help lists them.
