@@ -12,7 +12,7 @@ use mk_line::Ending;
 use mk_mail::Letters;
 use mk_rows::{Row, rows};
 use mk_run::{FieldFilter, LetterWords, Status, ValueForm, give_up, try_field};
-use std::alloc::Global;
+use std::alloc::{AllocError, Global};
 use std::process::Abort;
 use std::test::Fail;
 
@@ -252,27 +252,30 @@ fn values_are_encoded(rt: HostRuntime) -> Result<(), Fail> {
     Ok(())
 }
 
-#[test]
-fn memory_for_encoding(rt: HostRuntime) {
-    let alloc = rt.alloc();
+// The field of `-I` goes into encoded words.
+fn check_encoding(rt: &impl Abort, alloc: Global) -> Result<(), AllocError> {
     let words = LetterWords {
         only: Some("A: \u{e4}"),
         ..LetterWords::default()
     };
-    let letters = match words.letters_in_words(alloc, Ending::Lf) {
-        Err(_) => words.letters_in_words(alloc, Ending::Lf),
-        other => other,
+    let Some(letters) = words.letters_in_words(alloc, Ending::Lf)? else {
+        assert!(rt; false, "no letters");
+        return Ok(());
     };
-    match letters {
-        Ok(
-            Some(
-                Letters {
-                    only: Some(field),
-                    ..
-                },
-            ),
-        ) => assert_eq!(rt; field.as_slice(), b"A: =?utf-8?B?w6Q=?=".as_slice()),
-        _ => assert!(rt; false, "no letters"),
+    match &letters.only {
+        Some(field) => {
+            assert_eq!(rt; field.as_slice(), b"A: =?utf-8?B?w6Q=?=".as_slice());
+        }
+        None => assert!(rt; false, "no field"),
+    }
+    Ok(())
+}
+
+#[test]
+fn memory_for_encoding(rt: HostRuntime) {
+    let alloc = rt.alloc();
+    if check_encoding(&rt, alloc).is_err() {
+        assert!(rt; check_encoding(&rt, alloc).is_ok());
     }
 }
 
