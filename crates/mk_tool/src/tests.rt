@@ -12,24 +12,15 @@ mod usage;
 
 use crate::program::obey;
 use devices::Page;
+use mk_rows::{Row, rows};
 use mk_run::Status;
 use mk_system::Input;
+use std::alloc::{AllocError, Global};
 use std::fs;
 use std::fs::File;
 use std::process::Abort;
 use std::rt::Files;
 use std::test::Fail;
-
-/// A command line over one message: what must come out. The program's own name is left out of the words.
-#[derive(Drop)]
-pub struct Row {
-    pub shows: &'static str,
-    pub words: &'static [&'static str],
-    pub message: &'static [u8],
-    pub output: &'static [u8],
-    pub errors: &'static [u8],
-    pub status: Status,
-}
 
 /// What a run left.
 #[derive(Drop)]
@@ -62,25 +53,72 @@ pub fn obeyed<R: Files<File = File> + AllocGlobal>(
     })
 }
 
-/// Runs the program as the row says, and compares what it leaves.
-pub fn check<R: Files<File = File> + AllocGlobal + Abort>(rt: &R, row: &Row) -> Result<(), Fail> {
-    let shows = row.shows;
-    let found = obeyed(rt, row.words, row.message)?;
-    assert_eq!(rt; found.status, row.status, "{shows}");
-    assert_eq!(rt; found.output.bytes(), row.output, "{shows}");
-    assert_eq!(rt; found.errors.bytes(), row.errors, "{shows}");
+/// The words of a command line, which are written with `|` between two.
+pub fn words_in(alloc: Global, text: &'static str) -> Result<Vec<&'static str>, AllocError> {
+    let mut words = Vec::new(alloc);
+    for word in text.split('|') {
+        words.push(word)?;
+    }
+    Ok(words)
+}
+
+/// Runs the program as each row of a table says, and compares what it leaves. A row has words, a message, and what must
+/// come out.
+pub fn check_rows<R: Files<File = File> + AllocGlobal + Abort>(
+    rt: &R,
+    table: &'static str,
+) -> Result<(), Fail> {
+    for row in &rows(rt.alloc(), table)? {
+        check_row(rt, row)?;
+    }
     Ok(())
 }
 
-/// Runs the program on words that clap refuses: it says why, prints nothing else, and ends as a usage fault.
+fn check_row<R: Files<File = File> + AllocGlobal + Abort>(rt: &R, row: &Row) -> Result<(), Fail> {
+    let alloc = rt.alloc();
+    let words = words_in(alloc, row.text("words"))?;
+    let found = obeyed(rt, &words, row.bytes("message"))?;
+    let status = found.status;
+    let status = format!(in alloc; "{status:?}")?;
+    assert_eq!(rt; status.as_str(), row.text("status"), "{}", row.shows);
+    assert_eq!(rt; found.output.bytes(), row.bytes("output"), "{}", row.shows);
+    assert_eq!(rt; found.errors.bytes(), row.bytes("errors"), "{}", row.shows);
+    Ok(())
+}
+
+/// Runs the program on each command line of a table: it refuses it as a usage fault, says why, beginning as the row says,
+/// and prints nothing else. A row without words is the program alone.
 pub fn check_refused<R: Files<File = File> + AllocGlobal + Abort>(
     rt: &R,
+    table: &'static str,
+) -> Result<(), Fail> {
+    let alloc = rt.alloc();
+    for row in &rows(alloc, table)? {
+        if row.get("words").is_none() {
+            check_usage(rt, row, &[])?;
+        }
+        for cell in &row.cells {
+            if cell.key == "words" {
+                check_usage(rt, row, &words_in(alloc, cell.text)?)?;
+            }
+        }
+    }
+    Ok(())
+}
+
+fn check_usage<R: Files<File = File> + AllocGlobal + Abort>(
+    rt: &R,
+    row: &Row,
     words: &[&str],
 ) -> Result<(), Fail> {
-    let found = obeyed(rt, words, b"")?;
+    let found = obeyed(rt, words, b"A: b\n\nx\n")?;
     assert_eq!(rt; found.status, Status::Usage, "{words:?}");
     assert!(rt; found.output.bytes().is_empty(), "{words:?}");
     assert!(rt; !found.errors.bytes().is_empty(), "{words:?}");
+    assert!(rt;
+        found.errors.bytes().starts_with(row.bytes("begins")),
+        "{words:?}"
+    );
     Ok(())
 }
 

@@ -1,165 +1,232 @@
 //! Each letter of `field` alone, and each value that it doesn't take.
 
-use super::{Row, check, check_refused};
-use mk_run::Status;
+use super::{check_refused, check_rows};
 use std::test::Fail;
 
-const MESSAGE: &[u8] = b"A: 1\nB: 2\nA: 3\n\nx\n";
+/// What is asked of a message, and what comes out where all is well.
+const WELL: &str = r"
+== no letter at all
+words: field
+message: A: 1\nB: 2\nA: 3\n\nx\n
+output: A: 1\nB: 2\nA: 3\n\nx\n
+status: Well
 
-const MAILBOX: &[u8] = b"From a\nA: 1\n\nx\n\nFrom b\nA: 2\n\ny\nFrom z\n\nFrom c\nA: 3\n\n";
+== a field that is there isn't added
+words: field|-a|A: 9
+message: A: 1\nB: 2\nA: 3\n\nx\n
+output: A: 1\nB: 2\nA: 3\n\nx\n
+status: Well
 
-const MIXED: &[u8] = b"Content-Type: multipart/mixed; boundary=b\n\n--b\n\none\n--b--\n";
+== a field that isn't there is added
+words: field|-a|C: 9
+message: A: 1\nB: 2\nA: 3\n\nx\n
+output: A: 1\nB: 2\nA: 3\nC: 9\n\nx\n
+status: Well
 
-/// What is asked of the message, and what comes out where all is well.
-const WELL: [(&[&str], &[u8]); 22] = [
-    (&["field"], MESSAGE),
-    (&["field", "-a", "A: 9"], MESSAGE),
-    (&["field", "-a", "C: 9"], b"A: 1\nB: 2\nA: 3\nC: 9\n\nx\n"),
-    (&["field", "-A", "A: 9"], b"A: 1\nB: 2\nA: 3\nA: 9\n\nx\n"),
-    (
-        &["field", "-i", "A: 9"],
-        b"Old-A: 1\nB: 2\nOld-A: 3\nA: 9\n\nx\n",
-    ),
-    (&["field", "-i", "A:"], b"Old-A: 1\nB: 2\nOld-A: 3\n\nx\n"),
-    (&["field", "-I", "A: 9"], b"B: 2\nA: 9\n\nx\n"),
-    (&["field", "-I", "A:"], b"B: 2\n\nx\n"),
-    (&["field", "-u", "A:"], b"A: 1\nB: 2\n\nx\n"),
-    (&["field", "-U", "A:"], b"B: 2\nA: 3\n\nx\n"),
-    (&["field", "-x", "A:"], b" 1\n 3\n"),
-    (&["field", "-X", "A:"], b"A: 1\nA: 3\n"),
-    (&["field", "-x", "C:"], b""),
-    (&["field", "--rename", "A:C"], b"C: 1\nB: 2\nC: 3\n\nx\n"),
-    (
-        &["field", "-u", "A:", "-A", "C: 9"],
-        b"A: 1\nB: 2\nC: 9\n\nx\n",
-    ),
-    (&["field", "-I", "B:", "-U", "A:"], b"A: 3\n\nx\n"),
-    (&["field", "-s"], MESSAGE),
-    (&["field", "--unfold", "-x", "A:"], b"1\n3\n"),
-    (&["field", "--decode", "-x", "A:"], b"1\n3\n"),
-    (&["field", "--refused-ok", "-x", "A:"], b" 1\n 3\n"),
-    (
-        &["field", "--encode", "-I", "A: \u{e4}"],
-        b"B: 2\nA: =?utf-8?B?w6Q=?=\n\nx\n",
-    ),
-    (&["field", "-I", "A: \u{e4}"], b"B: 2\nA: \xc3\xa4\n\nx\n"),
-];
+== a field more
+words: field|-A|A: 9
+message: A: 1\nB: 2\nA: 3\n\nx\n
+output: A: 1\nB: 2\nA: 3\nA: 9\n\nx\n
+status: Well
+
+== a field after renamed ones
+words: field|-i|A: 9
+message: A: 1\nB: 2\nA: 3\n\nx\n
+output: Old-A: 1\nB: 2\nOld-A: 3\nA: 9\n\nx\n
+status: Well
+
+== renamed fields alone
+words: field|-i|A:
+message: A: 1\nB: 2\nA: 3\n\nx\n
+output: Old-A: 1\nB: 2\nOld-A: 3\n\nx\n
+status: Well
+
+== a field in the place of others
+words: field|-I|A: 9
+message: A: 1\nB: 2\nA: 3\n\nx\n
+output: B: 2\nA: 9\n\nx\n
+status: Well
+
+== no field in their place
+words: field|-I|A:
+message: A: 1\nB: 2\nA: 3\n\nx\n
+output: B: 2\n\nx\n
+status: Well
+
+== the first alone
+words: field|-u|A:
+message: A: 1\nB: 2\nA: 3\n\nx\n
+output: A: 1\nB: 2\n\nx\n
+status: Well
+
+== the last alone
+words: field|-U|A:
+message: A: 1\nB: 2\nA: 3\n\nx\n
+output: B: 2\nA: 3\n\nx\n
+status: Well
+
+== the values of a name
+words: field|-x|A:
+message: A: 1\nB: 2\nA: 3\n\nx\n
+output: \x201\n 3\n
+status: Well
+
+== the fields of a name
+words: field|-X|A:
+message: A: 1\nB: 2\nA: 3\n\nx\n
+output: A: 1\nA: 3\n
+status: Well
+
+== no field of the name
+words: field|-x|C:
+message: A: 1\nB: 2\nA: 3\n\nx\n
+status: Well
+
+== another name
+words: field|--rename|A:C
+message: A: 1\nB: 2\nA: 3\n\nx\n
+output: C: 1\nB: 2\nC: 3\n\nx\n
+status: Well
+
+== two letters
+words: field|-u|A:|-A|C: 9
+message: A: 1\nB: 2\nA: 3\n\nx\n
+output: A: 1\nB: 2\nC: 9\n\nx\n
+status: Well
+
+== the letters work in their own order
+words: field|-I|B:|-U|A:
+message: A: 1\nB: 2\nA: 3\n\nx\n
+output: A: 3\n\nx\n
+status: Well
+
+== a mailbox of one message
+words: field|-s
+message: A: 1\nB: 2\nA: 3\n\nx\n
+output: A: 1\nB: 2\nA: 3\n\nx\n
+status: Well
+
+== values on one line
+words: field|--unfold|-x|A:
+message: A: 1\nB: 2\nA: 3\n\nx\n
+output: 1\n3\n
+status: Well
+
+== what values say
+words: field|--decode|-x|A:
+message: A: 1\nB: 2\nA: 3\n\nx\n
+output: 1\n3\n
+status: Well
+
+== values as they stand, and nothing refused
+words: field|--refused-ok|-x|A:
+message: A: 1\nB: 2\nA: 3\n\nx\n
+output: \x201\n 3\n
+status: Well
+
+== an encoded word
+words: field|--encode|-I|A: ä
+message: A: 1\nB: 2\nA: 3\n\nx\n
+output: B: 2\nA: =?utf-8?B?w6Q=?=\n\nx\n
+status: Well
+
+== a field as it is given
+words: field|-I|A: ä
+message: A: 1\nB: 2\nA: 3\n\nx\n
+output: B: 2\nA: \xc3\xa4\n\nx\n
+status: Well
+";
 
 #[test]
 fn each_letter_does_its_own(rt: HostRuntime) -> Result<(), Fail> {
-    for (words, output) in WELL {
-        check(
-            &rt,
-            &Row {
-                shows: "a letter",
-                words,
-                message: MESSAGE,
-                output,
-                errors: b"",
-                status: Status::Well,
-            },
-        )?;
-    }
-    Ok(())
+    check_rows(&rt, WELL)
 }
 
 /// Words that the command line doesn't have.
-const REFUSED: [&[&str]; 6] = [
-    &["field", "-a"],
-    &["field", "-I", "A: 1", "-I", "B: 2"],
-    &["field", "-r"],
-    &["field", "--Rename", "A:B"],
-    &["field", "-s", "-s"],
-    &["field", "A: 1"],
-];
+const REFUSED: &str = r"
+== no field after a letter
+words: field|-a
+
+== a letter twice
+words: field|-I|A: 1|-I|B: 2
+
+== a letter that there isn't
+words: field|-r
+
+== a long letter in another case
+words: field|--Rename|A:B
+
+== a flag twice
+words: field|-s|-s
+
+== a field without a letter
+words: field|A: 1
+";
 
 #[test]
 fn other_words_are_refused(rt: HostRuntime) -> Result<(), Fail> {
-    for words in REFUSED {
-        check_refused(&rt, words)?;
-    }
-    Ok(())
+    check_refused(&rt, REFUSED)
 }
 
-const ROWS: [Row; 9] = [
-    Row {
-        shows: "each message of a mailbox",
-        words: &["field", "-s", "-I", "A: 9"],
-        message: MAILBOX,
-        output: b"From a\nA: 9\n\nx\n\nFrom b\nA: 9\n\ny\nFrom z\n\nFrom c\nA: 9\n\n",
-        errors: b"",
-        status: Status::Well,
-    },
-    Row {
-        shows: "a mailbox taken for one message",
-        words: &["field", "-I", "A: 9"],
-        message: MAILBOX,
-        output: b"From a\nA: 9\n\nx\n\nFrom b\nA: 2\n\ny\nFrom z\n\nFrom c\nA: 3\n\n",
-        errors: b"",
-        status: Status::Well,
-    },
-    Row {
-        shows: "a message that would be read in another way",
-        words: &["field", "-I", "Content-Type:"],
-        message: MIXED,
-        output: MIXED,
-        errors: b"message 1: Recut\n",
-        status: Status::Refused,
-    },
-    Row {
-        shows: "the same, where that is well",
-        words: &["field", "--refused-ok", "-I", "Content-Type:"],
-        message: MIXED,
-        output: MIXED,
-        errors: b"message 1: Recut\n",
-        status: Status::Well,
-    },
-    Row {
-        shows: "a value of two lines on one, its encoded word as it stands",
-        words: &["field", "--unfold", "-x", "a:"],
-        message: b"A:  =?utf-8?Q?=C3=A4?=\r\n\tb \r\nB: 2\r\n",
-        output: b"=?utf-8?Q?=C3=A4?=\tb\n",
-        errors: b"",
-        status: Status::Well,
-    },
-    Row {
-        shows: "what is decoded is unfolded too",
-        words: &["field", "--unfold", "--decode", "-x", "a:"],
-        message: b"A: =?utf-8?Q?=C3=A4?=\n =?utf-8?Q?=C3=B6?=\n",
-        output: b"\xc3\xa4\xc3\xb6\n",
-        errors: b"",
-        status: Status::Well,
-    },
-    Row {
-        shows: "an encoded word, decoded",
-        words: &["field", "--decode", "-s", "-x", "a:"],
-        message: b"From a\nA: =?utf-8?Q?=C3=A4?=\n\nFrom b\nA: 2\n",
-        output: b"\xc3\xa4\n2\n",
-        errors: b"",
-        status: Status::Well,
-    },
-    Row {
-        shows: "an encoded word as it stands",
-        words: &["field", "-x", "A:"],
-        message: b"A: =?utf-8?Q?=C3=A4?=\n",
-        output: b" =?utf-8?Q?=C3=A4?=\n",
-        errors: b"",
-        status: Status::Well,
-    },
-    Row {
-        shows: "a field that begins with a hyphen",
-        words: &["field", "-A", "--b: x"],
-        message: b"A: 1\n",
-        output: b"A: 1\n--b: x\n",
-        errors: b"",
-        status: Status::Well,
-    },
-];
+const ROWS: &str = r"
+== each message of a mailbox
+words: field|-s|-I|A: 9
+message: From a\nA: 1\n\nx\n\nFrom b\nA: 2\n\ny\nFrom z\n\nFrom c\nA: 3\n\n
+output: From a\nA: 9\n\nx\n\nFrom b\nA: 9\n\ny\nFrom z\n\nFrom c\nA: 9\n\n
+status: Well
+
+== a mailbox taken for one message
+words: field|-I|A: 9
+message: From a\nA: 1\n\nx\n\nFrom b\nA: 2\n\ny\nFrom z\n\nFrom c\nA: 3\n\n
+output: From a\nA: 9\n\nx\n\nFrom b\nA: 2\n\ny\nFrom z\n\nFrom c\nA: 3\n\n
+status: Well
+
+== a message that would be read in another way
+words: field|-I|Content-Type:
+message: Content-Type: multipart/mixed; boundary=b\n\n--b\n\none\n--b--\n
+output: Content-Type: multipart/mixed; boundary=b\n\n--b\n\none\n--b--\n
+errors: message 1: Recut\n
+status: Refused
+
+== the same, where that is well
+words: field|--refused-ok|-I|Content-Type:
+message: Content-Type: multipart/mixed; boundary=b\n\n--b\n\none\n--b--\n
+output: Content-Type: multipart/mixed; boundary=b\n\n--b\n\none\n--b--\n
+errors: message 1: Recut\n
+status: Well
+
+== a value of two lines on one, its encoded word as it stands
+words: field|--unfold|-x|a:
+message: A:  =?utf-8?Q?=C3=A4?=\r\n\tb \r\nB: 2\r\n
+output: =?utf-8?Q?=C3=A4?=\tb\n
+status: Well
+
+== what is decoded is unfolded too
+words: field|--unfold|--decode|-x|a:
+message: A: =?utf-8?Q?=C3=A4?=\n =?utf-8?Q?=C3=B6?=\n
+output: \xc3\xa4\xc3\xb6\n
+status: Well
+
+== an encoded word, decoded
+words: field|--decode|-s|-x|a:
+message: From a\nA: =?utf-8?Q?=C3=A4?=\n\nFrom b\nA: 2\n
+output: \xc3\xa4\n2\n
+status: Well
+
+== an encoded word as it stands
+words: field|-x|A:
+message: A: =?utf-8?Q?=C3=A4?=\n
+output: \x20=?utf-8?Q?=C3=A4?=\n
+status: Well
+
+== a field that begins with a hyphen
+words: field|-A|--b: x
+message: A: 1\n
+output: A: 1\n--b: x\n
+status: Well
+";
 
 #[test]
 fn messages_are_filtered(rt: HostRuntime) -> Result<(), Fail> {
-    for row in &ROWS {
-        check(&rt, row)?;
-    }
-    Ok(())
+    check_rows(&rt, ROWS)
 }

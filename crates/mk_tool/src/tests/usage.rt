@@ -1,242 +1,236 @@
 //! Each way in which a command line is invalid: the word is named, and what is wrong with it.
 
-use super::obeyed;
-use mk_run::Status;
+use super::check_refused;
 use std::test::Fail;
 
-/// What a letter that takes a field or a name and a colon wants.
-const A_FIELD_OR_NAME: &str =
-    "write a name, a colon and a value, as 'X-Seen: yes', or a name and a colon alone, as X-Seen:";
+/// Command lines with an invalid value, and how what is said of it begins.
+const VALUES: &str = r"
+== -s <PATH> doesn't take ''
+words: extract|-s|
+begins: error: invalid value '' for '-s <PATH>': write numbers from 1 on with dots between them, as 1.2\n\nUsage: mimetool extract\x20
 
-const A_FIELD: &str = "write a name, a colon and a value, as 'X-Seen: yes'";
+== -s <PATH> doesn't take '1.01'
+words: extract|-s|1.01
+begins: error: invalid value '1.01' for '-s <PATH>': write numbers from 1 on with dots between them, as 1.2\n\nUsage: mimetool extract\x20
 
-const A_NAME: &str = "write a name and a colon, as Subject:";
+== -s <PATH> doesn't take '0'
+words: extract|-s|0
+begins: error: invalid value '0' for '-s <PATH>': write numbers from 1 on with dots between them, as 1.2\n\nUsage: mimetool extract\x20
 
-const A_PAIR: &str = "write two names with a colon between them, as Subject:X-Subject";
+== -s <PATH> doesn't take '1.'
+words: extract|-s|1.
+begins: error: invalid value '1.' for '-s <PATH>': write numbers from 1 on with dots between them, as 1.2\n\nUsage: mimetool extract\x20
 
-const A_PATH: &str = "write numbers from 1 on with dots between them, as 1.2";
+== -s <PATH> doesn't take '-1'
+words: extract|-s|-1
+begins: error: invalid value '-1' for '-s <PATH>': write numbers from 1 on with dots between them, as 1.2\n\nUsage: mimetool extract\x20
 
-const A_SPEC: &str = "write TYPE:FILE, as image/gif:dot.gif";
+== -s <PATH> doesn't take '1.4294967296'
+words: extract|-s|1.4294967296
+begins: error: invalid value '1.4294967296' for '-s <PATH>': write numbers from 1 on with dots between them, as 1.2\n\nUsage: mimetool extract\x20
 
-/// A command line: the argument that has an invalid value, the value, and what should stand there.
-const VALUES: [(&[&str], &str, &str, &str); 23] = [
-    (&["extract", "-s", ""], "-s <PATH>", "", A_PATH),
-    (&["extract", "-s", "1.01"], "-s <PATH>", "1.01", A_PATH),
-    (&["extract", "-s", "0"], "-s <PATH>", "0", A_PATH),
-    (&["extract", "-s", "1."], "-s <PATH>", "1.", A_PATH),
-    (&["extract", "-s", "-1"], "-s <PATH>", "-1", A_PATH),
-    (
-        &["extract", "-s", "1.4294967296"],
-        "-s <PATH>",
-        "1.4294967296",
-        A_PATH,
-    ),
-    (&["pack", "-b", "b", "text"], "<SPEC>...", "text", A_SPEC),
-    (
-        &["pack", "-b", "b", "text/plain:n", "n"],
-        "<SPEC>...",
-        "n",
-        A_SPEC,
-    ),
-    (&["field", "-u", "A"], "-u <NAME:>", "A", A_NAME),
-    (&["field", "-u", "A: b"], "-u <NAME:>", "A: b", A_NAME),
-    (&["field", "-U", "A"], "-U <NAME:>", "A", A_NAME),
-    (&["field", "-x", "A"], "-x <NAME:>", "A", A_NAME),
-    (&["field", "-X", "A"], "-X <NAME:>", "A", A_NAME),
-    (&["field", "-X", ":"], "-X <NAME:>", ":", A_NAME),
-    (
-        &["field", "--rename", "AB"],
-        "--rename <OLD:NEW>",
-        "AB",
-        A_PAIR,
-    ),
-    (
-        &["field", "--rename", "A:B C"],
-        "--rename <OLD:NEW>",
-        "A:B C",
-        A_PAIR,
-    ),
-    (&["field", "-a", "x"], "-a <FIELD>", "x", A_FIELD),
-    (&["field", "-a", "A:"], "-a <FIELD>", "A:", A_FIELD),
-    (&["field", "-A", "A:"], "-A <FIELD>", "A:", A_FIELD),
-    (&["field", "-i", "x"], "-i <FIELD>", "x", A_FIELD_OR_NAME),
-    (&["field", "-I", ""], "-I <FIELD>", "", A_FIELD_OR_NAME),
-    (
-        &["field", "-A", "A: 1", "-I", "x y"],
-        "-I <FIELD>",
-        "x y",
-        A_FIELD_OR_NAME,
-    ),
-    (
-        &["field", "-x", "A:", "-I", "x"],
-        "-I <FIELD>",
-        "x",
-        A_FIELD_OR_NAME,
-    ),
-];
+== <SPEC>... doesn't take 'text'
+words: pack|-b|b|text
+begins: error: invalid value 'text' for '<SPEC>...': write TYPE:FILE, as image/gif:dot.gif\n\nUsage: mimetool pack\x20
+
+== <SPEC>... doesn't take 'n'
+words: pack|-b|b|text/plain:n|n
+begins: error: invalid value 'n' for '<SPEC>...': write TYPE:FILE, as image/gif:dot.gif\n\nUsage: mimetool pack\x20
+
+== -u <NAME:> doesn't take 'A'
+words: field|-u|A
+begins: error: invalid value 'A' for '-u <NAME:>': write a name and a colon, as Subject:\n\nUsage: mimetool field\x20
+
+== -u <NAME:> doesn't take 'A: b'
+words: field|-u|A: b
+begins: error: invalid value 'A: b' for '-u <NAME:>': write a name and a colon, as Subject:\n\nUsage: mimetool field\x20
+
+== -U <NAME:> doesn't take 'A'
+words: field|-U|A
+begins: error: invalid value 'A' for '-U <NAME:>': write a name and a colon, as Subject:\n\nUsage: mimetool field\x20
+
+== -x <NAME:> doesn't take 'A'
+words: field|-x|A
+begins: error: invalid value 'A' for '-x <NAME:>': write a name and a colon, as Subject:\n\nUsage: mimetool field\x20
+
+== -X <NAME:> doesn't take 'A'
+words: field|-X|A
+begins: error: invalid value 'A' for '-X <NAME:>': write a name and a colon, as Subject:\n\nUsage: mimetool field\x20
+
+== -X <NAME:> doesn't take ':'
+words: field|-X|:
+begins: error: invalid value ':' for '-X <NAME:>': write a name and a colon, as Subject:\n\nUsage: mimetool field\x20
+
+== --rename <OLD:NEW> doesn't take 'AB'
+words: field|--rename|AB
+begins: error: invalid value 'AB' for '--rename <OLD:NEW>': write two names with a colon between them, as Subject:X-Subject\n\nUsage: mimetool field\x20
+
+== --rename <OLD:NEW> doesn't take 'A:B C'
+words: field|--rename|A:B C
+begins: error: invalid value 'A:B C' for '--rename <OLD:NEW>': write two names with a colon between them, as Subject:X-Subject\n\nUsage: mimetool field\x20
+
+== -a <FIELD> doesn't take 'x'
+words: field|-a|x
+begins: error: invalid value 'x' for '-a <FIELD>': write a name, a colon and a value, as 'X-Seen: yes'\n\nUsage: mimetool field\x20
+
+== -a <FIELD> doesn't take 'A:'
+words: field|-a|A:
+begins: error: invalid value 'A:' for '-a <FIELD>': write a name, a colon and a value, as 'X-Seen: yes'\n\nUsage: mimetool field\x20
+
+== -A <FIELD> doesn't take 'A:'
+words: field|-A|A:
+begins: error: invalid value 'A:' for '-A <FIELD>': write a name, a colon and a value, as 'X-Seen: yes'\n\nUsage: mimetool field\x20
+
+== -i <FIELD> doesn't take 'x'
+words: field|-i|x
+begins: error: invalid value 'x' for '-i <FIELD>': write a name, a colon and a value, as 'X-Seen: yes', or a name and a colon alone, as X-Seen:\n\nUsage: mimetool field\x20
+
+== -I <FIELD> doesn't take ''
+words: field|-I|
+begins: error: invalid value '' for '-I <FIELD>': write a name, a colon and a value, as 'X-Seen: yes', or a name and a colon alone, as X-Seen:\n\nUsage: mimetool field\x20
+
+== -I <FIELD> doesn't take 'x y'
+words: field|-A|A: 1|-I|x y
+begins: error: invalid value 'x y' for '-I <FIELD>': write a name, a colon and a value, as 'X-Seen: yes', or a name and a colon alone, as X-Seen:\n\nUsage: mimetool field\x20
+
+== -I <FIELD> doesn't take 'x'
+words: field|-x|A:|-I|x
+begins: error: invalid value 'x' for '-I <FIELD>': write a name, a colon and a value, as 'X-Seen: yes', or a name and a colon alone, as X-Seen:\n\nUsage: mimetool field\x20
+";
 
 #[test]
 fn invalid_values_are_named(rt: HostRuntime) -> Result<(), Fail> {
-    let alloc = rt.alloc();
-    for (words, argument, value, takes) in VALUES {
-        let found = obeyed(&rt, words, b"A: b\n\nx\n")?;
-        let Some(command) = words.first() else {
-            continue;
-        };
-        let text = format!(in alloc;
-            "error: invalid value '{value}' for '{argument}': {takes}\n\nUsage: mimetool {command} "
-        )?;
-        assert_eq!(rt; found.status, Status::Usage, "{words:?}");
-        assert!(rt; found.output.bytes().is_empty(), "{words:?}");
-        assert!(rt;
-            found.errors.bytes().starts_with(text.as_bytes()),
-            "{words:?}"
-        );
-    }
-    Ok(())
+    check_refused(&rt, VALUES)
 }
 
-/// A command line, and the first line of what is said of it.
-const SENTENCES: [(&[&str], &str); 21] = [
-    (
-        &["field", "-x", "A:", "-X", "A:"],
-        "error: -x and -X print fields, so neither stands beside another letter\n",
-    ),
-    (
-        &["field", "-x", "A:", "-I", "A: 9"],
-        "error: -x and -X print fields, so neither stands beside another letter\n",
-    ),
-    (
-        &["field", "--decode", "-X", "A:"],
-        "error: --decode is for the values that -x prints\n",
-    ),
-    (
-        &["field", "--unfold", "-u", "A:"],
-        "error: --unfold is for the values that -x prints\n",
-    ),
-    (
-        &["field", "--encode", "-u", "A:"],
-        "error: --encode is for the fields of -a, -A, -i and -I\n",
-    ),
-    (
-        &["field", "--encode", "--decode", "-x", "A:"],
-        "error: --encode is for the fields of -a, -A, -i and -I\n",
-    ),
-    (
-        &["field", "-a"],
-        "error: a value is required for '-a <FIELD>' but none was supplied\n",
-    ),
-    (
-        &["field", "-I", "A: 1", "-I", "B: 2"],
-        "error: the argument '-I <FIELD>' cannot be used multiple times\n",
-    ),
-    (&["field", "-r"], "error: unexpected argument '-r' found\n"),
-    (
-        &["field", "--Rename", "A:B"],
-        "error: unexpected argument '--Rename' found\n",
-    ),
-    (
-        &["field", "A: 1"],
-        "error: unexpected argument 'A: 1' found\n",
-    ),
-    (&["list"], "error: unrecognized subcommand 'list'\n"),
-    (
-        &["extract"],
-        "error: the following required arguments were not provided:\n  -s <PATH>\n",
-    ),
-    (
-        &["edit"],
-        "error: give a SCRIPT, or its lines, each after -e\n",
-    ),
-    (
-        &["undo"],
-        "error: the following required arguments were not provided:\n  -j <JOURNAL>\n",
-    ),
-    (
-        &["sections", "--from"],
-        "error: a value is required for '--from <FILE>' but none was supplied\n",
-    ),
-    (
-        &["edit", "-e", "undo", "--in-place", "a", "--from", "b"],
-        "error: the argument '--in-place <FILE>' cannot be used with '--from <FILE>'\n",
-    ),
-    (
-        &["field", "-x", "A:", "--in-place", "a"],
-        "error: the argument '-x <NAME:>' cannot be used with '--in-place <FILE>'\n",
-    ),
-    (
-        &["field", "--in-place", "a", "-X", "A:"],
-        "error: the argument '--in-place <FILE>' cannot be used with '-X <NAME:>'\n",
-    ),
-    (
-        &["sections", "--utf8"],
-        "error: --utf8 goes only with --json: the plain listing has no names\n",
-    ),
-    (
-        &["sections", "--in-place", "a"],
-        "error: unexpected argument '--in-place' found\n",
-    ),
-];
+/// Command lines with another fault, and the first line of what is said of it.
+const SENTENCES: &str = r"
+== -x and -X
+words: field|-x|A:|-X|A:
+begins: error: -x and -X print fields, so neither stands beside another letter\n
 
-/// Command lines that name a file that isn't there, and what is said of their words before that.
-const BESIDE_FILES: [(&[&str], &str); 8] = [
-    (
-        &["sections", "--utf8", "--from", "mimetool_none"],
-        "error: --utf8 goes only with --json: ",
-    ),
-    (
-        &["extract", "-s", ".1", "--from", "mimetool_none"],
-        "error: invalid value '.1' for '-s <PATH>': ",
-    ),
-    (
-        &["field", "-a", "x", "--from", "mimetool_none"],
-        "error: invalid value 'x' for '-a <FIELD>': ",
-    ),
-    (
-        &["field", "-I", "x", "--in-place", "mimetool_none"],
-        "error: invalid value 'x' for '-I <FIELD>': ",
-    ),
-    (
-        &["field", "-x", "A:", "-X", "A:", "--from", "mimetool_none"],
-        "error: -x and -X print fields, ",
-    ),
-    (
-        &["edit", "--from", "mimetool_none"],
-        "error: give a SCRIPT, ",
-    ),
-    (
-        &["edit", "--in-place", "mimetool_none"],
-        "error: give a SCRIPT, ",
-    ),
-    (
-        &["pack", "-b", "b", "text/plain:mimetool_none", "x"],
-        "error: invalid value 'x' for '<SPEC>...': ",
-    ),
-];
+== -x and a letter that edits
+words: field|-x|A:|-I|A: 9
+begins: error: -x and -X print fields, so neither stands beside another letter\n
 
-#[test]
-fn words_are_looked_at_before_files(rt: HostRuntime) -> Result<(), Fail> {
-    for (words, front) in BESIDE_FILES {
-        let found = obeyed(&rt, words, b"")?;
-        assert_eq!(rt; found.status, Status::Usage, "{words:?}");
-        assert!(rt;
-            found.errors.bytes().starts_with(front.as_bytes()),
-            "{words:?}"
-        );
-    }
-    Ok(())
-}
+== --decode without -x
+words: field|--decode|-X|A:
+begins: error: --decode is for the values that -x prints\n
+
+== --unfold without -x
+words: field|--unfold|-u|A:
+begins: error: --unfold is for the values that -x prints\n
+
+== --encode without a letter that takes a field
+words: field|--encode|-u|A:
+begins: error: --encode is for the fields of -a, -A, -i and -I\n
+
+== --encode beside -x
+words: field|--encode|--decode|-x|A:
+begins: error: --encode is for the fields of -a, -A, -i and -I\n
+
+== a letter without its value
+words: field|-a
+begins: error: a value is required for '-a <FIELD>' but none was supplied\n
+
+== a letter twice
+words: field|-I|A: 1|-I|B: 2
+begins: error: the argument '-I <FIELD>' cannot be used multiple times\n
+
+== a letter that there isn't
+words: field|-r
+begins: error: unexpected argument '-r' found\n
+
+== a long letter in another case
+words: field|--Rename|A:B
+begins: error: unexpected argument '--Rename' found\n
+
+== a field without a letter
+words: field|A: 1
+begins: error: unexpected argument 'A: 1' found\n
+
+== no such subcommand
+words: list
+begins: error: unrecognized subcommand 'list'\n
+
+== no path
+words: extract
+begins: error: the following required arguments were not provided:\n  -s <PATH>\n
+
+== no script
+words: edit
+begins: error: give a SCRIPT, or its lines, each after -e\n
+
+== no journal
+words: undo
+begins: error: the following required arguments were not provided:\n  -j <JOURNAL>\n
+
+== an option without its value
+words: sections|--from
+begins: error: a value is required for '--from <FILE>' but none was supplied\n
+
+== two places of the message
+words: edit|-e|undo|--in-place|a|--from|b
+begins: error: the argument '--in-place <FILE>' cannot be used with '--from <FILE>'\n
+
+== -x in place
+words: field|-x|A:|--in-place|a
+begins: error: the argument '-x <NAME:>' cannot be used with '--in-place <FILE>'\n
+
+== -X in place
+words: field|--in-place|a|-X|A:
+begins: error: the argument '--in-place <FILE>' cannot be used with '-X <NAME:>'\n
+
+== names in UTF-8 in the plain listing
+words: sections|--utf8
+begins: error: --utf8 goes only with --json: the plain listing has no names\n
+
+== a listing in place
+words: sections|--in-place|a
+begins: error: unexpected argument '--in-place' found\n
+";
 
 #[test]
 fn other_faults_are_named(rt: HostRuntime) -> Result<(), Fail> {
-    for (words, sentence) in SENTENCES {
-        let found = obeyed(&rt, words, b"A: b\n\nx\n")?;
-        assert_eq!(rt; found.status, Status::Usage, "{words:?}");
-        assert!(rt; found.output.bytes().is_empty(), "{words:?}");
-        assert!(rt;
-            found.errors.bytes().starts_with(sentence.as_bytes()),
-            "{words:?}"
-        );
-    }
-    Ok(())
+    check_refused(&rt, SENTENCES)
+}
+
+/// Command lines that name a file that isn't there, and what is said of their words before that.
+const BESIDE_FILES: &str = r"
+== names in UTF-8 in the plain listing
+words: sections|--utf8|--from|mimetool_none
+begins: error: --utf8 goes only with --json:\x20
+
+== no path
+words: extract|-s|.1|--from|mimetool_none
+begins: error: invalid value '.1' for '-s <PATH>':\x20
+
+== no field
+words: field|-a|x|--from|mimetool_none
+begins: error: invalid value 'x' for '-a <FIELD>':\x20
+
+== no field, and a file to replace
+words: field|-I|x|--in-place|mimetool_none
+begins: error: invalid value 'x' for '-I <FIELD>':\x20
+
+== -x and -X
+words: field|-x|A:|-X|A:|--from|mimetool_none
+begins: error: -x and -X print fields,\x20
+
+== no script
+words: edit|--from|mimetool_none
+begins: error: give a SCRIPT,\x20
+
+== no script, and a file to replace
+words: edit|--in-place|mimetool_none
+begins: error: give a SCRIPT,\x20
+
+== no part
+words: pack|-b|b|text/plain:mimetool_none|x
+begins: error: invalid value 'x' for '<SPEC>...':\x20
+";
+
+#[test]
+fn words_are_looked_at_before_files(rt: HostRuntime) -> Result<(), Fail> {
+    check_refused(&rt, BESIDE_FILES)
 }
