@@ -3,3 +3,4 @@ pub mod Base64Text
 pub mod QuotedPrintable
 pub mod EncodedWords
 pub mod Contents
+pub mod Base64Fronts

@@ -75,8 +75,8 @@ pub(crate) fn decode(alloc: Global, text: &[u8]) -> Result<Vec<u8>, CodeError>
     }
 }
 
-// The letters before the first `=`.
-fn letters(alloc: Global, text: &[u8]) -> Result<Vec<u8>, AllocError>
+/// The letters before the first `=`.
+pub(crate) fn letters(alloc: Global, text: &[u8]) -> Result<Vec<u8>, AllocError>
     ensures { IfOk result (λ found. found.items ≡ letters_of text.now) }
 {
     let mut rest = before_equals(text);

@@ -3,6 +3,7 @@
 //! Only `decode` refuses; the other calls fail only when memory runs out.
 #![tactic(auto)]
 
+mod base64_fronts;
 mod base64_text;
 mod decoding;
 pub mod laws;
@@ -12,6 +13,7 @@ mod qp_encoding;
 mod words_decoding;
 mod words_encoding;
 
+pub use base64_fronts::decode_front;
 pub use base64_text::{b64_encode, push_b64};
 pub use decoding::{CodeError, decode};
 pub use mk_head::Encoding;
