@@ -1,4 +1,5 @@
 -- What a call of a mailbox answers, by what was gathered.
+use Rattle.mk_mailbox.specs.declared.from_lines.FromLines.{FromLines}
 use Rattle.std.proofs.Common.{◌≡◌, ◌<◌, ◌≤◌, ◌+◌, ◌*◌, ◌-◌, ◌^◌, ◌⊎◌, ◌++◌, ℕ, zero, suc, nat_lt, if◌then◌else◌, Bool, true, false, List, [], ◌∷◌, Option, Some, refl, ap, sym, ◌∙◌, length, slice_get, subst, length-append, append-nil, append_assoc, inl, inr, drop, take, take-append-drop, arith}
 use Rattle.std.proofs.lemmas.Bool.{ltb-false}
 use Rattle.std.proofs.lemmas.List.{drop-drop, drop-take}
@@ -22,43 +23,43 @@ longer piece new old p s = let e : length old ≡ length (piece ++ new) = ap len
 longer_on : (old more : List ℕ) → 0 < length old → 0 < length (old ++ more)
 longer_on old more h = omega (arith, h, length-append old more)
 
-split_pieces : (piece old new more : List ℕ) → IsSplit piece old new → mailbox_pieces (old ++ more) ≡ piece ∷ mailbox_pieces (new ++ more)
-split_pieces piece old new more s =
-    pieces_of (old ++ more) (longer_on old more (longer piece new old s.parts s.some))
-    ∙ (ap (λ p. p ∷ later_of false (old ++ more)) (s.front more) ∙ ap (λ ps. piece ∷ ps) (s.later more))
+split_pieces : (way : FromLines) (piece old new more : List ℕ) → IsSplit way piece old new → mailbox_pieces way (old ++ more) ≡ piece ∷ mailbox_pieces way (new ++ more)
+split_pieces way piece old new more s =
+    pieces_of way (old ++ more) (longer_on old more (longer piece new old s.parts s.some))
+    ∙ (ap (λ p. p ∷ later_of way false (old ++ more)) (s.front more) ∙ ap (λ ps. piece ∷ ps) (s.later more))
 
-first_of : (old piece : List ℕ) (pieces : List (List ℕ)) → mailbox_pieces (old ++ []) ≡ piece ∷ pieces → slice_get (mailbox_pieces old) 0 ≡ Some piece
-first_of old piece pieces e = ap (λ x. slice_get (mailbox_pieces x) 0) (sym (append-nil old)) ∙ ap (λ ps. slice_get ps 0) e
+first_of : (way : FromLines) (old piece : List ℕ) (pieces : List (List ℕ)) → mailbox_pieces way (old ++ []) ≡ piece ∷ pieces → slice_get (mailbox_pieces way old) 0 ≡ Some piece
+first_of way old piece pieces e = ap (λ x. slice_get (mailbox_pieces way x) 0) (sym (append-nil old)) ∙ ap (λ ps. slice_get ps 0) e
 
 none_long : {A : Type 0} (xs : List ℕ) → xs ≡ [] → 0 < length xs → A
 none_long xs e h = let z : length xs ≡ 0 = ap length e in absurd (omega (arith, z, h))
 
 -- a message is whole, whatever is read after it
-pub piece_next : (piece read : List ℕ) (old new : Held) → IsSplit piece (old.kept ++ read) new.kept → IsNextPiece piece old read new
+pub piece_next : (piece read : List ℕ) (old new : Held) → IsSplit old.from_lines piece (old.kept ++ read) new.kept → IsNextPiece piece old read new
 piece_next piece read old new s = record {
   whole = s.parts;
-  first = first_of (old.kept ++ read) piece (mailbox_pieces (new.kept ++ [])) (split_pieces piece (old.kept ++ read) new.kept [] s);
-  stays = λ more _. split_pieces piece (old.kept ++ read) new.kept more s;
+  first = first_of old.from_lines (old.kept ++ read) piece (mailbox_pieces old.from_lines (new.kept ++ [])) (split_pieces old.from_lines piece (old.kept ++ read) new.kept [] s);
+  stays = λ more _. split_pieces old.from_lines piece (old.kept ++ read) new.kept more s;
   some = s.some;
   all = λ e. none_long new.kept e s.rest;
   closed = λ h. absurd (s.closed [] (subst (λ x. IsOpenInFront (cut x)) (sym (append-nil new.kept)) h));
 }
 
-last_pieces : (piece old new more : List ℕ) → more ≡ [] → IsLastSplit piece old new → mailbox_pieces (old ++ more) ≡ piece ∷ mailbox_pieces (new ++ more)
-last_pieces piece old new more e s =
-    ap (λ m. mailbox_pieces (old ++ m)) e
-    ∙ (ap mailbox_pieces (append-nil old)
-    ∙ (pieces_of old (longer piece new old s.parts s.some)
-    ∙ (ap (λ p. p ∷ later_of false old) s.front
+last_pieces : (way : FromLines) (piece old new more : List ℕ) → more ≡ [] → IsLastSplit way piece old new → mailbox_pieces way (old ++ more) ≡ piece ∷ mailbox_pieces way (new ++ more)
+last_pieces way piece old new more e s =
+    ap (λ m. mailbox_pieces way (old ++ m)) e
+    ∙ (ap (mailbox_pieces way) (append-nil old)
+    ∙ (pieces_of way old (longer piece new old s.parts s.some)
+    ∙ (ap (λ p. p ∷ later_of way false old) s.front
     ∙ (ap (λ ps. piece ∷ ps) s.later
-    ∙ (ap (λ x. piece ∷ mailbox_pieces x) (sym (append-nil new)) ∙ ap (λ m. piece ∷ mailbox_pieces (new ++ m)) (sym e))))))
+    ∙ (ap (λ x. piece ∷ mailbox_pieces way x) (sym (append-nil new)) ∙ ap (λ m. piece ∷ mailbox_pieces way (new ++ m)) (sym e))))))
 
 -- a message of an input that has ended
-pub last_next : (piece read : List ℕ) (old new : Held) → new.ended ≡ true → IsLastSplit piece (old.kept ++ read) new.kept → IsNextPiece piece old read new
+pub last_next : (piece read : List ℕ) (old new : Held) → new.ended ≡ true → IsLastSplit old.from_lines piece (old.kept ++ read) new.kept → IsNextPiece piece old read new
 last_next piece read old new e s = record {
   whole = s.parts;
-  first = first_of (old.kept ++ read) piece (mailbox_pieces (new.kept ++ [])) (last_pieces piece (old.kept ++ read) new.kept [] refl s);
-  stays = λ more h. last_pieces piece (old.kept ++ read) new.kept more (h e) s;
+  first = first_of old.from_lines (old.kept ++ read) piece (mailbox_pieces old.from_lines (new.kept ++ [])) (last_pieces old.from_lines piece (old.kept ++ read) new.kept [] refl s);
+  stays = λ more h. last_pieces old.from_lines piece (old.kept ++ read) new.kept more (h e) s;
   some = s.some;
   all = λ _. e;
   closed = λ _. e;
@@ -79,8 +80,12 @@ pub kept_gathered : (i : Intake) → i.at ≡ i.filled → kept_by i ≡ i.gathe
 kept_gathered i e = ap (λ rest. i.gathered.bytes.items ++ rest) (unread_none i.chunk.items i.at i.filled e) ∙ append-nil i.gathered.bytes.items
 
 -- and while its last line is open, no message of it is known to be whole
-pub kept_unknown : (i : Intake) → IsIntake i → i.at ≡ i.filled → has_line_feed (drop i.gathered.line i.gathered.bytes.items) ≡ false → IsKnownWhole (kept_by i) → ⊥
-kept_unknown i w e h k = gathered_unknown i.gathered.bytes.items i.gathered.line i.gathered.behind_empty w.gathered h (subst IsKnownWhole (kept_gathered i e) k)
+pub kept_unknown : (i : Intake) → IsIntake i → i.at ≡ i.filled → has_line_feed (drop i.gathered.line i.gathered.bytes.items) ≡ false → IsKnownWhole i.gathered.from_lines (kept_by i) → ⊥
+kept_unknown i w e h k = gathered_unknown i.gathered.from_lines i.gathered.bytes.items i.gathered.line i.gathered.behind_empty w.gathered h (subst (IsKnownWhole i.gathered.from_lines) (kept_gathered i e) k)
+
+-- the same bytes, cut at the same From-lines
+pub known_on : (way old : FromLines) (now text : List ℕ) → way ≡ old → now ≡ text → IsKnownWhole old text → IsKnownWhole way now
+known_on way old now text w e k = subst (λ v. IsKnownWhole v now) (sym w) (subst (IsKnownWhole old) (sym e) k)
 
 -- bytes that came from one read more, or from none
 ticked_by : (t : Bool) (n old new : ℕ) → nat_lt old (2 ^ 64 - 1) ≡ t → n ≤ chunk_bytes → new ≡ (if t then old + 1 else old) → (n + chunk_bytes * old ≤ chunk_bytes * new) ⊎ IsFull new

@@ -1,3 +1,4 @@
+pub mod DateParts
 pub mod LineBytes
 pub mod MessageLines
 pub mod LinesGathered

@@ -1,4 +1,5 @@
 -- Messages of a mailbox by whole lines: a line belongs to a message, or begins the next one.
+use Rattle.mk_mailbox.specs.declared.from_lines.FromLines.{FromLines}
 use Rattle.std.proofs.Common.{◌≡◌, ◌==◌, ◌<◌, ◌++◌, if◌then◌else◌, ℕ, Bool, true, false, List, [], ◌∷◌, refl, ap, sym, ◌∙◌, map, length, length-append, append-nil, arith}
 use Rattle.std.proofs.lemmas.Bool.{or_parts}
 use Rattle.mk_line.specs.declared.cutting.Ending.{Ending}
@@ -52,51 +53,51 @@ pub whole_some : (line content : List ℕ) → IsWholeLine line content → 0 < 
 whole_some line content w = let e : length line ≡ length (w.before ++ 10 ∷ []) = ap length w.parts in omega (arith, e, length-append w.before (10 ∷ []))
 
 -- by its content a line belongs to the message, or begins the next one
-front_stays : (e : Bool) (l : TextLine) (ls : List TextLine) → is_first e l.content ≡ false → text_of (front e (l ∷ ls)) ≡ printed_line l ++ text_of (front (is_nil l.content) ls)
-front_stays e l ls t = rw t refl
+front_stays : (way : FromLines) (e : Bool) (l : TextLine) (ls : List TextLine) → is_first way e l.content ≡ false → text_of (front way e (l ∷ ls)) ≡ printed_line l ++ text_of (front way (is_nil l.content) ls)
+front_stays way e l ls t = rw t refl
 
-later_stays : (e : Bool) (l : TextLine) (ls : List TextLine) → is_first e l.content ≡ false → map text_of (later e (l ∷ ls)) ≡ map text_of (later (is_nil l.content) ls)
-later_stays e l ls t = rw t refl
+later_stays : (way : FromLines) (e : Bool) (l : TextLine) (ls : List TextLine) → is_first way e l.content ≡ false → map text_of (later way e (l ∷ ls)) ≡ map text_of (later way (is_nil l.content) ls)
+later_stays way e l ls t = rw t refl
 
-front_begins : (e : Bool) (l : TextLine) (ls : List TextLine) → is_first e l.content ≡ true → text_of (front e (l ∷ ls)) ≡ []
-front_begins e l ls t = rw t refl
+front_begins : (way : FromLines) (e : Bool) (l : TextLine) (ls : List TextLine) → is_first way e l.content ≡ true → text_of (front way e (l ∷ ls)) ≡ []
+front_begins way e l ls t = rw t refl
 
-later_begins : (e : Bool) (l : TextLine) (ls : List TextLine) → is_first e l.content ≡ true → map text_of (later e (l ∷ ls)) ≡ map text_of (parted (l ∷ ls))
-later_begins e l ls t = rw t refl
+later_begins : (way : FromLines) (e : Bool) (l : TextLine) (ls : List TextLine) → is_first way e l.content ≡ true → map text_of (later way e (l ∷ ls)) ≡ map text_of (parted way (l ∷ ls))
+later_begins way e l ls t = rw t refl
 
 line_is : (line content : List ℕ) (w : IsWholeLine line content) → printed_line (ended w.before) ≡ line
 line_is line content w = printed_ended w.before w.no_feed ∙ sym w.parts
 
-first_is : (e : Bool) (t : Bool) (line content : List ℕ) (w : IsWholeLine line content) → is_first e content ≡ t → is_first e (ended w.before).content ≡ t
-first_is e t line content w h = ap (is_first e) (sym w.content_is) ∙ h
+first_is : (way : FromLines) (e : Bool) (t : Bool) (line content : List ℕ) (w : IsWholeLine line content) → is_first way e content ≡ t → is_first way e (ended w.before).content ≡ t
+first_is way e t line content w h = ap (is_first way e) (sym w.content_is) ∙ h
 
-pub front_line : (e : Bool) (line content more : List ℕ) → IsWholeLine line content → is_first e content ≡ false → front_of e (line ++ more) ≡ line ++ front_of (is_nil content) more
-front_line e line content more w t =
-    ap (λ ls. text_of (front e ls)) (whole_cut line content more w)
-    ∙ (front_stays e (ended w.before) (cut more) (first_is e false line content w t)
-    ∙ (ap (λ x. x ++ front_of (is_nil (ended w.before).content) more) (line_is line content w)
-    ∙ ap (λ c. line ++ front_of (is_nil c) more) (sym w.content_is)))
+pub front_line : (way : FromLines) (e : Bool) (line content more : List ℕ) → IsWholeLine line content → is_first way e content ≡ false → front_of way e (line ++ more) ≡ line ++ front_of way (is_nil content) more
+front_line way e line content more w t =
+    ap (λ ls. text_of (front way e ls)) (whole_cut line content more w)
+    ∙ (front_stays way e (ended w.before) (cut more) (first_is way e false line content w t)
+    ∙ (ap (λ x. x ++ front_of way (is_nil (ended w.before).content) more) (line_is line content w)
+    ∙ ap (λ c. line ++ front_of way (is_nil c) more) (sym w.content_is)))
 
-pub later_line : (e : Bool) (line content more : List ℕ) → IsWholeLine line content → is_first e content ≡ false → later_of e (line ++ more) ≡ later_of (is_nil content) more
-later_line e line content more w t =
-    ap (λ ls. map text_of (later e ls)) (whole_cut line content more w)
-    ∙ (later_stays e (ended w.before) (cut more) (first_is e false line content w t)
-    ∙ ap (λ c. later_of (is_nil c) more) (sym w.content_is))
+pub later_line : (way : FromLines) (e : Bool) (line content more : List ℕ) → IsWholeLine line content → is_first way e content ≡ false → later_of way e (line ++ more) ≡ later_of way (is_nil content) more
+later_line way e line content more w t =
+    ap (λ ls. map text_of (later way e ls)) (whole_cut line content more w)
+    ∙ (later_stays way e (ended w.before) (cut more) (first_is way e false line content w t)
+    ∙ ap (λ c. later_of way (is_nil c) more) (sym w.content_is))
 
-pub front_first : (e : Bool) (line content more : List ℕ) → IsWholeLine line content → is_first e content ≡ true → front_of e (line ++ more) ≡ []
-front_first e line content more w t =
-    ap (λ ls. text_of (front e ls)) (whole_cut line content more w) ∙ front_begins e (ended w.before) (cut more) (first_is e true line content w t)
+pub front_first : (way : FromLines) (e : Bool) (line content more : List ℕ) → IsWholeLine line content → is_first way e content ≡ true → front_of way e (line ++ more) ≡ []
+front_first way e line content more w t =
+    ap (λ ls. text_of (front way e ls)) (whole_cut line content more w) ∙ front_begins way e (ended w.before) (cut more) (first_is way e true line content w t)
 
-pub later_first : (e : Bool) (line content more : List ℕ) → IsWholeLine line content → is_first e content ≡ true → later_of e (line ++ more) ≡ mailbox_pieces (line ++ more)
-later_first e line content more w t =
-    ap (λ ls. map text_of (later e ls)) (whole_cut line content more w)
-    ∙ (later_begins e (ended w.before) (cut more) (first_is e true line content w t)
-    ∙ ap (λ ls. map text_of (parted ls)) (sym (whole_cut line content more w)))
+pub later_first : (way : FromLines) (e : Bool) (line content more : List ℕ) → IsWholeLine line content → is_first way e content ≡ true → later_of way e (line ++ more) ≡ mailbox_pieces way (line ++ more)
+later_first way e line content more w t =
+    ap (λ ls. map text_of (later way e ls)) (whole_cut line content more w)
+    ∙ (later_begins way e (ended w.before) (cut more) (first_is way e true line content w t)
+    ∙ ap (λ ls. map text_of (parted way ls)) (sym (whole_cut line content more w)))
 
 -- the first message, and those after it
-parted_some : (ls : List TextLine) → 0 < length (text_of ls) → map text_of (parted ls) ≡ text_of (front false ls) ∷ map text_of (later false ls)
-parted_some [] h = absurd (omega (arith, h))
-parted_some (l ∷ ls) h = refl
+parted_some : (way : FromLines) (ls : List TextLine) → 0 < length (text_of ls) → map text_of (parted way ls) ≡ text_of (front way false ls) ∷ map text_of (later way false ls)
+parted_some way [] h = absurd (omega (arith, h))
+parted_some way (l ∷ ls) h = refl
 
-pub pieces_of : (text : List ℕ) → 0 < length text → mailbox_pieces text ≡ front_of false text ∷ later_of false text
-pieces_of text h = let e : length (text_of (cut text)) ≡ length text = ap length (text_cut text) in parted_some (cut text) (omega (arith, e, h))
+pub pieces_of : (way : FromLines) (text : List ℕ) → 0 < length text → mailbox_pieces way text ≡ front_of way false text ∷ later_of way false text
+pieces_of way text h = let e : length (text_of (cut text)) ≡ length text = ap length (text_cut text) in parted_some way (cut text) (omega (arith, e, h))

@@ -1,4 +1,5 @@
 -- The messages of a mailbox are all of it, and none is empty or cut again.
+use Rattle.mk_mailbox.specs.declared.from_lines.FromLines.{FromLines}
 use Rattle.std.proofs.Common.{◌≡◌, ◌<◌, ◌++◌, ℕ, Bool, false, List, [], ◌∷◌, refl, ap, sym, ◌∙◌, inl, inr, map, length, length-append, append_assoc, arith}
 use Rattle.std.specs.List.{flat_map}
 use Rattle.std.proofs.lemmas.Bool.{cases_Bool}
@@ -13,23 +14,23 @@ abbrev joined : List (List TextLine) → List ℕ
 joined ps = flat_map (λ p. p) (map text_of ps)
 
 -- the front, and then the messages after it, are all lines
-front_and_later : (e : Bool) (ls : List TextLine) → text_of (front e ls) ++ joined (later e ls) ≡ text_of ls
-front_and_later e [] = refl
-front_and_later e (l ∷ ls) =
-    let rest = front_and_later (is_nil l.content) ls in
-    let line = append_assoc (printed_line l) (text_of (front (is_nil l.content) ls)) (joined (later (is_nil l.content) ls)) in
-    elim (cases_Bool (is_first e l.content)) [
+front_and_later : (way : FromLines) (e : Bool) (ls : List TextLine) → text_of (front way e ls) ++ joined (later way e ls) ≡ text_of ls
+front_and_later way e [] = refl
+front_and_later way e (l ∷ ls) =
+    let rest = front_and_later way (is_nil l.content) ls in
+    let line = append_assoc (printed_line l) (text_of (front way (is_nil l.content) ls)) (joined (later way (is_nil l.content) ls)) in
+    elim (cases_Bool (is_first way e l.content)) [
       | inl t ↦ rw t (line ∙ ap (λ x. printed_line l ++ x) rest)
       | inr n ↦ rw n (line ∙ ap (λ x. printed_line l ++ x) rest)
     ]
 
-parted_all : (ls : List TextLine) → joined (parted ls) ≡ text_of ls
-parted_all [] = refl
-parted_all (l ∷ ls) =
-    append_assoc (printed_line l) (text_of (front (is_nil l.content) ls)) (joined (later (is_nil l.content) ls)) ∙ ap (λ x. printed_line l ++ x) (front_and_later (is_nil l.content) ls)
+parted_all : (way : FromLines) (ls : List TextLine) → joined (parted way ls) ≡ text_of ls
+parted_all way [] = refl
+parted_all way (l ∷ ls) =
+    append_assoc (printed_line l) (text_of (front way (is_nil l.content) ls)) (joined (later way (is_nil l.content) ls)) ∙ ap (λ x. printed_line l ++ x) (front_and_later way (is_nil l.content) ls)
 
-pub all_pieces : (text : List ℕ) → flat_map (λ p. p) (mailbox_pieces text) ≡ text
-all_pieces text = parted_all (cut text) ∙ text_cut text
+pub all_pieces : (way : FromLines) (text : List ℕ) → flat_map (λ p. p) (mailbox_pieces way text) ≡ text
+all_pieces way text = parted_all way (cut text) ∙ text_cut text
 
 -- no line is empty
 some_line : (content : List ℕ) (e : Ending) → IsLine (text_line content e) → 0 < length (printed_line (text_line content e))
@@ -41,75 +42,75 @@ some_line (byte ∷ bytes) Missing h = omega arith
 some_lines : (l : TextLine) (ls : List TextLine) → IsLine l → 0 < length (text_of (l ∷ ls))
 some_lines l ls h = omega (arith, some_line l.content l.ending h, length-append (printed_line l) (text_of ls))
 
-some_later : (e : Bool) (ls : List TextLine) → AreLines ls → AreSome (map text_of (later e ls))
-some_later e [] h = tt
-some_later e (l ∷ ls) h =
-    let rest = some_later (is_nil l.content) ls h.2 in
-    elim (cases_Bool (is_first e l.content)) [
-      | inl t ↦ rw t (some_lines l (front (is_nil l.content) ls) h.0, rest)
+some_later : (way : FromLines) (e : Bool) (ls : List TextLine) → AreLines ls → AreSome (map text_of (later way e ls))
+some_later way e [] h = tt
+some_later way e (l ∷ ls) h =
+    let rest = some_later way (is_nil l.content) ls h.2 in
+    elim (cases_Bool (is_first way e l.content)) [
+      | inl t ↦ rw t (some_lines l (front way (is_nil l.content) ls) h.0, rest)
       | inr n ↦ rw n rest
     ]
 
-some_parted : (ls : List TextLine) → AreLines ls → AreSome (map text_of (parted ls))
-some_parted [] h = tt
-some_parted (l ∷ ls) h = (some_lines l (front (is_nil l.content) ls) h.0, some_later (is_nil l.content) ls h.2)
+some_parted : (way : FromLines) (ls : List TextLine) → AreLines ls → AreSome (map text_of (parted way ls))
+some_parted way [] h = tt
+some_parted way (l ∷ ls) h = (some_lines l (front way (is_nil l.content) ls) h.0, some_later way (is_nil l.content) ls h.2)
 
-pub some_pieces : (text : List ℕ) → AreSome (mailbox_pieces text)
-some_pieces text = some_parted (cut text) (lines_cut text)
+pub some_pieces : (way : FromLines) (text : List ℕ) → AreSome (mailbox_pieces way text)
+some_pieces way text = some_parted way (cut text) (lines_cut text)
 
 -- the lines of a message are the lines of its text
-pub lines_front : (e : Bool) (ls : List TextLine) → AreLines ls → AreLines (front e ls)
-lines_front e [] h = tt
-lines_front e (l ∷ ls) h =
-    let rest = lines_front (is_nil l.content) ls h.2 in
-    elim (cases_Bool (is_first e l.content)) [
+pub lines_front : (way : FromLines) (e : Bool) (ls : List TextLine) → AreLines ls → AreLines (front way e ls)
+lines_front way e [] h = tt
+lines_front way e (l ∷ ls) h =
+    let rest = lines_front way (is_nil l.content) ls h.2 in
+    elim (cases_Bool (is_first way e l.content)) [
       | inl t ↦ rw t tt
-      | inr n ↦ rw n (h.0, (λ o. ap (front (is_nil l.content)) (h.1 o)), rest)
+      | inr n ↦ rw n (h.0, (λ o. ap (front way (is_nil l.content)) (h.1 o)), rest)
     ]
 
-belongs : (e : Bool) (l : TextLine) (ls : List TextLine) → is_first e l.content ≡ false → front e (l ∷ ls) ≡ l ∷ front (is_nil l.content) ls
-belongs e l ls n = rw n refl
+belongs : (way : FromLines) (e : Bool) (l : TextLine) (ls : List TextLine) → is_first way e l.content ≡ false → front way e (l ∷ ls) ≡ l ∷ front way (is_nil l.content) ls
+belongs way e l ls n = rw n refl
 
-skips : (e : Bool) (l : TextLine) (ls : List TextLine) → is_first e l.content ≡ false → later e (l ∷ ls) ≡ later (is_nil l.content) ls
-skips e l ls n = rw n refl
+skips : (way : FromLines) (e : Bool) (l : TextLine) (ls : List TextLine) → is_first way e l.content ≡ false → later way e (l ∷ ls) ≡ later way (is_nil l.content) ls
+skips way e l ls n = rw n refl
 
 -- no line of a message begins another
-front_again : (e : Bool) (ls : List TextLine) → front e (front e ls) ≡ front e ls
-front_again e [] = refl
-front_again e (l ∷ ls) =
-    elim (cases_Bool (is_first e l.content)) [
+front_again : (way : FromLines) (e : Bool) (ls : List TextLine) → front way e (front way e ls) ≡ front way e ls
+front_again way e [] = refl
+front_again way e (l ∷ ls) =
+    elim (cases_Bool (is_first way e l.content)) [
       | inl t ↦ rw t refl
       | inr n ↦
-          ap (front e) (belongs e l ls n)
-          ∙ (belongs e l (front (is_nil l.content) ls) n ∙ (ap (λ (xs : List TextLine). l ∷ xs) (front_again (is_nil l.content) ls) ∙ sym (belongs e l ls n)))
+          ap (front way e) (belongs way e l ls n)
+          ∙ (belongs way e l (front way (is_nil l.content) ls) n ∙ (ap (λ (xs : List TextLine). l ∷ xs) (front_again way (is_nil l.content) ls) ∙ sym (belongs way e l ls n)))
     ]
 
-later_again : (e : Bool) (ls : List TextLine) → later e (front e ls) ≡ []
-later_again e [] = refl
-later_again e (l ∷ ls) =
-    elim (cases_Bool (is_first e l.content)) [
+later_again : (way : FromLines) (e : Bool) (ls : List TextLine) → later way e (front way e ls) ≡ []
+later_again way e [] = refl
+later_again way e (l ∷ ls) =
+    elim (cases_Bool (is_first way e l.content)) [
       | inl t ↦ rw t refl
-      | inr n ↦ ap (later e) (belongs e l ls n) ∙ (skips e l (front (is_nil l.content) ls) n ∙ later_again (is_nil l.content) ls)
+      | inr n ↦ ap (later way e) (belongs way e l ls n) ∙ (skips way e l (front way (is_nil l.content) ls) n ∙ later_again way (is_nil l.content) ls)
     ]
 
-one_piece : (l : TextLine) (ls : List TextLine) → AreLines (l ∷ ls) → let text = text_of (l ∷ front (is_nil l.content) ls) in mailbox_pieces text ≡ text ∷ []
-one_piece l ls h =
+one_piece : (way : FromLines) (l : TextLine) (ls : List TextLine) → AreLines (l ∷ ls) → let text = text_of (l ∷ front way (is_nil l.content) ls) in mailbox_pieces way text ≡ text ∷ []
+one_piece way l ls h =
     let e = is_nil l.content in
-    ap (λ xs. map text_of (parted xs)) (cut_text (l ∷ front e ls) (h.0, (λ o. ap (front e) (h.1 o)), lines_front e ls h.2))
-    ∙ (λ i. text_of (l ∷ front_again e ls i) ∷ map text_of (later_again e ls i))
+    ap (λ xs. map text_of (parted way xs)) (cut_text (l ∷ front way e ls) (h.0, (λ o. ap (front way e) (h.1 o)), lines_front way e ls h.2))
+    ∙ (λ i. text_of (l ∷ front_again way e ls i) ∷ map text_of (later_again way e ls i))
 
-ones_later : (e : Bool) (ls : List TextLine) → AreLines ls → AreOnes (map text_of (later e ls))
-ones_later e [] h = tt
-ones_later e (l ∷ ls) h =
-    let rest = ones_later (is_nil l.content) ls h.2 in
-    elim (cases_Bool (is_first e l.content)) [
-      | inl t ↦ rw t (one_piece l ls h, rest)
+ones_later : (way : FromLines) (e : Bool) (ls : List TextLine) → AreLines ls → AreOnes way (map text_of (later way e ls))
+ones_later way e [] h = tt
+ones_later way e (l ∷ ls) h =
+    let rest = ones_later way (is_nil l.content) ls h.2 in
+    elim (cases_Bool (is_first way e l.content)) [
+      | inl t ↦ rw t (one_piece way l ls h, rest)
       | inr n ↦ rw n rest
     ]
 
-ones_parted : (ls : List TextLine) → AreLines ls → AreOnes (map text_of (parted ls))
-ones_parted [] h = tt
-ones_parted (l ∷ ls) h = (one_piece l ls h, ones_later (is_nil l.content) ls h.2)
+ones_parted : (way : FromLines) (ls : List TextLine) → AreLines ls → AreOnes way (map text_of (parted way ls))
+ones_parted way [] h = tt
+ones_parted way (l ∷ ls) h = (one_piece way l ls h, ones_later way (is_nil l.content) ls h.2)
 
-pub uncut_pieces : (text : List ℕ) → AreOnes (mailbox_pieces text)
-uncut_pieces text = ones_parted (cut text) (lines_cut text)
+pub uncut_pieces : (way : FromLines) (text : List ℕ) → AreOnes way (mailbox_pieces way text)
+uncut_pieces way text = ones_parted way (cut text) (lines_cut text)

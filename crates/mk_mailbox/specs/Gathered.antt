@@ -2,16 +2,17 @@
 use Rattle.std.specs.Prelude.{◌≡◌, ◌<◌, ◌≤◌, ◌++◌, ◌⊎◌, ℕ, Bool, true, false, List, [], ◌∷◌, map, length, take, drop}
 use Rattle.mk_line.specs.Ascii.{line_feed}
 use Rattle.mk_line.specs.Lines.{cut, ended, has_line_feed, text_of}
+use Rattle.mk_mailbox.specs.declared.from_lines.FromLines.{FromLines}
 use Rattle.mk_mailbox.specs.Mailboxes.{IsOpenInFront, chunk_bytes}
 use Rattle.mk_mailbox.specs.Pieces.{front, later, mailbox_pieces}
 
 -- the bytes of a text that still belong to a message, and the messages after them
-abbrev pub front_of : Bool → List ℕ → List ℕ
-front_of behind_empty text = text_of (front behind_empty (cut text))
+abbrev pub front_of : FromLines → Bool → List ℕ → List ℕ
+front_of way behind_empty text = text_of (front way behind_empty (cut text))
 
 -- the messages after the one that a text goes on with
-abbrev pub later_of : Bool → List ℕ → List (List ℕ)
-later_of behind_empty text = map text_of (later behind_empty (cut text))
+abbrev pub later_of : FromLines → Bool → List ℕ → List (List ℕ)
+later_of way behind_empty text = map text_of (later way behind_empty (cut text))
 
 -- no byte but the last is a line feed
 abbrev pub IsOneLine : List ℕ → Type 0
@@ -25,31 +26,31 @@ pub record IsWholeLine (line content : List ℕ) : Type 0 where
   pub content_is : content ≡ (ended before).content
 
 -- these whole lines belong to one message, whatever follows; the flag tells whether the last of them is empty
-abbrev pub IsOnePiece : List ℕ → Bool → Type 0
-IsOnePiece text behind_empty = (more : List ℕ) → (front_of false (text ++ more) ≡ text ++ front_of behind_empty more) × (later_of false (text ++ more) ≡ later_of behind_empty more)
+abbrev pub IsOnePiece : FromLines → List ℕ → Bool → Type 0
+IsOnePiece way text behind_empty = (more : List ℕ) → (front_of way false (text ++ more) ≡ text ++ front_of way behind_empty more) × (later_of way false (text ++ more) ≡ later_of way behind_empty more)
 
 -- the bytes before a place are whole lines of one message, and after it stands at most one line
-pub record IsGathered (bytes : List ℕ) (line : ℕ) (behind_empty : Bool) : Type 0 where
+pub record IsGathered (way : FromLines) (bytes : List ℕ) (line : ℕ) (behind_empty : Bool) : Type 0 where
   pub within : line ≤ length bytes
-  pub before : IsOnePiece (take line bytes) behind_empty
+  pub before : IsOnePiece way (take line bytes) behind_empty
   pub behind : IsOneLine (drop line bytes)
   pub some : behind_empty ≡ true → 0 < line
 
 -- a piece is a whole message, whatever follows, and the rest begins the next one
-pub record IsSplit (piece old new : List ℕ) : Type 0 where
+pub record IsSplit (way : FromLines) (piece old new : List ℕ) : Type 0 where
   pub parts : old ≡ piece ++ new
   pub some : 0 < length piece
   pub rest : 0 < length new
-  pub front : (more : List ℕ) → front_of false (old ++ more) ≡ piece
-  pub later : (more : List ℕ) → later_of false (old ++ more) ≡ mailbox_pieces (new ++ more)
+  pub front : (more : List ℕ) → front_of way false (old ++ more) ≡ piece
+  pub later : (more : List ℕ) → later_of way false (old ++ more) ≡ mailbox_pieces way (new ++ more)
   pub closed : (more : List ℕ) → IsOpenInFront (cut (new ++ more)) → ⊥
 
 -- a piece is the first message of a text that nothing follows
-pub record IsLastSplit (piece old new : List ℕ) : Type 0 where
+pub record IsLastSplit (way : FromLines) (piece old new : List ℕ) : Type 0 where
   pub parts : old ≡ piece ++ new
   pub some : 0 < length piece
-  pub front : front_of false old ≡ piece
-  pub later : later_of false old ≡ mailbox_pieces new
+  pub front : front_of way false old ≡ piece
+  pub later : later_of way false old ≡ mailbox_pieces way new
 
 -- a part of a chunk that is filled up to a place
 pub record IsChunk (chunk : List ℕ) (at filled : ℕ) : Type 0 where

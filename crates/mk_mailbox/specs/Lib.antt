@@ -1,4 +1,5 @@
 pub mod Devices
+pub mod Dates
 pub mod Pieces
 pub mod Held
 pub mod Mailboxes

@@ -1,6 +1,7 @@
 -- Laws of mailboxes, over the definitions alone.
 use Rattle.std.specs.Prelude.{◌≡◌, ◌<◌, ◌++◌, ℕ, true, false, List, [], ◌∷◌, length}
 use Rattle.std.specs.List.{flat_map}
+use Rattle.mk_mailbox.specs.declared.from_lines.FromLines.{FromLines}
 use Rattle.mk_mailbox.specs.Held.{Held}
 use Rattle.mk_mailbox.specs.Mailboxes.{IsNextPiece, IsOver}
 use Rattle.mk_mailbox.specs.Pieces.{mailbox_pieces}
@@ -28,6 +29,7 @@ pub record IsCall (old : Held) (call : Call) (new : Held) : Type 0 where
   -- once the input has ended nothing more is read
   pub over : old.ended ≡ true → call.read ≡ []
   pub stays : old.ended ≡ true → new.ended ≡ true
+  pub same : new.from_lines ≡ old.from_lines
 
 -- calls one after another
 abbrev pub AreCalls : Held → List Call → Held → Type 0
@@ -35,8 +37,8 @@ AreCalls old [] new = new ≡ old
 AreCalls old (c ∷ cs) new = (next : Held) × IsCall old c next × AreCalls next cs new
 
 -- a mailbox of which nothing was read yet
-abbrev pub unread_mailbox : Held
-unread_mailbox = record { kept = []; ended = false }
+abbrev pub unread_mailbox : FromLines → Held
+unread_mailbox way = record { kept = []; ended = false; from_lines = way }
 
 -- all that calls read
 abbrev pub read_by : List Call → List ℕ
@@ -54,12 +56,12 @@ given_by calls = flat_map (λ c. message_of c.reply) calls
 
 -- the messages given and those of what is kept are those of all that was read, whatever is read later
 abbrev pub CallsGiveMessages : Type 0
-CallsGiveMessages = (calls : List Call) (now : Held) → AreCalls unread_mailbox calls now → (more : List ℕ) → (now.ended ≡ true → more ≡ [])
-    → mailbox_pieces (read_by calls ++ more) ≡ given_by calls ++ mailbox_pieces (now.kept ++ more)
+CallsGiveMessages = (way : FromLines) (calls : List Call) (now : Held) → AreCalls (unread_mailbox way) calls now → (more : List ℕ) → (now.ended ≡ true → more ≡ [])
+    → mailbox_pieces way (read_by calls ++ more) ≡ given_by calls ++ mailbox_pieces way (now.kept ++ more)
 
 -- up to a call that says that there is none, the messages given are those of all that was read
 abbrev pub EndsAreWhole : Type 0
-EndsAreWhole = (calls : List Call) (last now : Held) (read : List ℕ) → AreCalls unread_mailbox calls last → IsOver last read now → mailbox_pieces (read_by calls ++ read) ≡ given_by calls
+EndsAreWhole = (way : FromLines) (calls : List Call) (last now : Held) (read : List ℕ) → AreCalls (unread_mailbox way) calls last → IsOver last read now → mailbox_pieces way (read_by calls ++ read) ≡ given_by calls
 
 -- nothing is read or given after such a call
 abbrev pub EndsStay : Type 0
@@ -72,17 +74,17 @@ AreSome (p ∷ ps) = (0 < length p) × AreSome ps
 
 -- the messages of a mailbox, joined, are the mailbox
 abbrev pub PiecesAreAll : Type 0
-PiecesAreAll = (text : List ℕ) → flat_map (λ p. p) (mailbox_pieces text) ≡ text
+PiecesAreAll = (way : FromLines) (text : List ℕ) → flat_map (λ p. p) (mailbox_pieces way text) ≡ text
 
 -- no message is empty
 abbrev pub PiecesAreSome : Type 0
-PiecesAreSome = (text : List ℕ) → AreSome (mailbox_pieces text)
+PiecesAreSome = (way : FromLines) (text : List ℕ) → AreSome (mailbox_pieces way text)
 
 -- each message is read as one
-abbrev pub AreOnes : List (List ℕ) → Type 0
-AreOnes [] = Unit {0}
-AreOnes (p ∷ ps) = (mailbox_pieces p ≡ p ∷ []) × AreOnes ps
+abbrev pub AreOnes : FromLines → List (List ℕ) → Type 0
+AreOnes way [] = Unit {0}
+AreOnes way (p ∷ ps) = (mailbox_pieces way p ≡ p ∷ []) × AreOnes way ps
 
 -- no message is cut again
 abbrev pub PiecesAreUncut : Type 0
-PiecesAreUncut = (text : List ℕ) → AreOnes (mailbox_pieces text)
+PiecesAreUncut = (way : FromLines) (text : List ℕ) → AreOnes way (mailbox_pieces way text)

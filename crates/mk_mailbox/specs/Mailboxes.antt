@@ -1,6 +1,7 @@
 -- What the calls of a mailbox answer (own).
 use Rattle.std.specs.Prelude.{◌≡◌, ◌<◌, ◌≤◌, ◌+◌, ◌*◌, ◌++◌, ◌⊎◌, ℕ, true, List, [], ◌∷◌, Option, None, Some, length, slice_get}
 use Rattle.mk_line.specs.Lines.{TextLine, cut, has_line_feed, is_open}
+use Rattle.mk_mailbox.specs.declared.from_lines.FromLines.{FromLines}
 use Rattle.mk_mailbox.specs.Devices.{IsFull}
 use Rattle.mk_mailbox.specs.Held.{Held}
 use Rattle.mk_mailbox.specs.Pieces.{mailbox_pieces}
@@ -13,9 +14,9 @@ IsOpenInFront (l ∷ ls) = is_open l.ending ≡ true
 -- a piece is the first message of what was kept and read, and what follows it is kept
 pub record IsNextPiece (piece : List ℕ) (old : Held) (read : List ℕ) (new : Held) : Type 0 where
   pub whole : old.kept ++ read ≡ piece ++ new.kept
-  pub first : slice_get (mailbox_pieces (old.kept ++ read)) 0 ≡ Some piece
+  pub first : slice_get (mailbox_pieces old.from_lines (old.kept ++ read)) 0 ≡ Some piece
   -- it stays so, whatever is read later
-  pub stays : (more : List ℕ) → (new.ended ≡ true → more ≡ []) → mailbox_pieces ((old.kept ++ read) ++ more) ≡ piece ∷ mailbox_pieces (new.kept ++ more)
+  pub stays : (more : List ℕ) → (new.ended ≡ true → more ≡ []) → mailbox_pieces old.from_lines ((old.kept ++ read) ++ more) ≡ piece ∷ mailbox_pieces old.from_lines (new.kept ++ more)
   pub some : 0 < length piece
   pub all : new.kept ≡ [] → new.ended ≡ true
   pub closed : IsOpenInFront (cut new.kept) → new.ended ≡ true
@@ -27,8 +28,8 @@ KnowsFirst (p ∷ []) = ⊥
 KnowsFirst (p ∷ q ∷ ps) = has_line_feed q ≡ true
 
 -- the first message of a text is known to be whole, whatever follows
-abbrev pub IsKnownWhole : List ℕ → Type 0
-IsKnownWhole text = KnowsFirst (mailbox_pieces text)
+abbrev pub IsKnownWhole : FromLines → List ℕ → Type 0
+IsKnownWhole way text = KnowsFirst (mailbox_pieces way text)
 
 -- nothing was kept or read, and the input has ended
 pub record IsOver (old : Held) (read : List ℕ) (new : Held) : Type 0 where

@@ -5,7 +5,7 @@ ghost use Rattle.mk_line.specs.Lines.{ended, has_line_feed};
 ghost use Rattle.mk_mailbox.specs.Gathered.{IsGathered, IsLastSplit, IsOneLine, IsSplit, IsWholeLine};
 ghost use Rattle.mk_mailbox.specs.Pieces.{is_first};
 
-use mk_line::is_from_line;
+use crate::from_lines::FromLines;
 use std::alloc::{AllocError, Global};
 use std::mem;
 
@@ -21,24 +21,28 @@ pub(crate) struct Gathered {
     pub(crate) line: usize,
     /// Whether the line before that place is empty.
     pub(crate) behind_empty: bool,
+    /// Which lines begin a message.
+    pub(crate) from_lines: FromLines,
 }
 
 impl Gathered {
     /// No line of a message yet.
-    pub(crate) fn new(alloc: Global) -> Gathered
+    pub(crate) fn new(alloc: Global, from_lines: FromLines) -> Gathered
         ensures bytes { result.bytes.items ≡ [] }
-        ensures gathered { IsGathered result.bytes.items result.line result.behind_empty }
+        ensures from_lines { result.from_lines ≡ from_lines }
+        ensures gathered { IsGathered from_lines result.bytes.items result.line result.behind_empty }
     {
         Gathered {
             bytes: Vec::new(alloc),
             line: 0,
             behind_empty: false,
+            from_lines,
         }
     }
 
     // The line that isn't known yet.
     fn undecided(&self) -> &[u8]
-        requires { IsGathered self.now.bytes.items self.now.line self.now.behind_empty }
+        requires { IsGathered self.now.from_lines self.now.bytes.items self.now.line self.now.behind_empty }
         ensures { result.now ≡ drop self.now.line self.now.bytes.items }
     {
         &self.bytes[self.line..]
@@ -46,28 +50,30 @@ impl Gathered {
 
     /// Puts more of that line after it.
     pub(crate) fn take(&mut self, bytes: &[u8]) -> Result<(), AllocError>
-        requires gathered { IsGathered self.old.bytes.items self.old.line self.old.behind_empty }
+        requires gathered { IsGathered self.old.from_lines self.old.bytes.items self.old.line self.old.behind_empty }
         requires undecided { has_line_feed (drop self.old.line self.old.bytes.items) ≡ false }
         requires one_line { IsOneLine bytes.now }
-        ensures gathered { IsGathered self.new.bytes.items self.new.line self.new.behind_empty }
+        ensures gathered { IsGathered self.new.from_lines self.new.bytes.items self.new.line self.new.behind_empty }
         ensures ok { OnOk result (self.new.bytes.items ≡ self.old.bytes.items ++ bytes.now) }
         ensures err { OnErr result (self.new.bytes.items ≡ self.old.bytes.items) }
+        ensures same { self.new.from_lines ≡ self.old.from_lines }
     {
         self.bytes.extend_from_slice(bytes)
     }
 
     /// Where the line has come to its end: takes it to the message, or gives the message before it.
     pub(crate) fn decide(&mut self) -> Result<Option<Vec<u8>>, AllocError>
-        requires { IsGathered self.old.bytes.items self.old.line self.old.behind_empty }
-        ensures piece { IfOk result (λ o. MatchOption o (self.new.bytes.items ≡ self.old.bytes.items) (λ piece. IsSplit piece.items self.old.bytes.items self.new.bytes.items)) }
+        requires { IsGathered self.old.from_lines self.old.bytes.items self.old.line self.old.behind_empty }
+        ensures piece { IfOk result (λ o. MatchOption o (self.new.bytes.items ≡ self.old.bytes.items) (λ piece. IsSplit self.old.from_lines piece.items self.old.bytes.items self.new.bytes.items)) }
         ensures undecided { IfOk result (λ o. IfNone o (has_line_feed (drop self.new.line self.new.bytes.items) ≡ false)) }
-        ensures gathered { IsGathered self.new.bytes.items self.new.line self.new.behind_empty }
+        ensures gathered { IsGathered self.new.from_lines self.new.bytes.items self.new.line self.new.behind_empty }
         ensures err { OnErr result (self.new.bytes.items ≡ self.old.bytes.items) }
+        ensures same { self.new.from_lines ≡ self.old.from_lines }
     {
         let Some(content) = whole_line(self.undecided()) else {
             return Ok(None);
         };
-        let begins = begins_message(self.behind_empty, content);
+        let begins = begins_message(self.from_lines, self.behind_empty, content);
         let is_empty = content.is_empty();
         if begins {
             return Ok(Some(self.split()?));
@@ -79,14 +85,15 @@ impl Gathered {
 
     /// Gives the first message of what was gathered, where the input has ended.
     pub(crate) fn last(&mut self) -> Result<Option<Vec<u8>>, AllocError>
-        requires gathered { IsGathered self.old.bytes.items self.old.line self.old.behind_empty }
+        requires gathered { IsGathered self.old.from_lines self.old.bytes.items self.old.line self.old.behind_empty }
         requires undecided { has_line_feed (drop self.old.line self.old.bytes.items) ≡ false }
-        ensures piece { IfOk result (λ o. MatchOption o (self.old.bytes.items ≡ []) (λ piece. IsLastSplit piece.items self.old.bytes.items self.new.bytes.items)) }
+        ensures piece { IfOk result (λ o. MatchOption o (self.old.bytes.items ≡ []) (λ piece. IsLastSplit self.old.from_lines piece.items self.old.bytes.items self.new.bytes.items)) }
         ensures none { IfOk result (λ o. IfNone o (self.new.bytes.items ≡ [])) }
-        ensures gathered { IsGathered self.new.bytes.items self.new.line self.new.behind_empty }
+        ensures gathered { IsGathered self.new.from_lines self.new.bytes.items self.new.line self.new.behind_empty }
         ensures err { OnErr result (self.new.bytes.items ≡ self.old.bytes.items) }
+        ensures same { self.new.from_lines ≡ self.old.from_lines }
     {
-        if begins_message(self.behind_empty, self.undecided()) {
+        if begins_message(self.from_lines, self.behind_empty, self.undecided()) {
             return Ok(Some(self.split()?));
         }
         if self.bytes.is_empty() {
@@ -97,11 +104,12 @@ impl Gathered {
 
     // Gives the bytes before the line, and begins a message with the line, which isn't known then.
     fn split(&mut self) -> Result<Vec<u8>, AllocError>
-        requires { IsGathered self.old.bytes.items self.old.line self.old.behind_empty }
+        requires { IsGathered self.old.from_lines self.old.bytes.items self.old.line self.old.behind_empty }
         ensures piece { IfOk result (λ piece. piece.items ≡ take self.old.line self.old.bytes.items) }
         ensures rest { OnOk result (self.new.bytes.items ≡ drop self.old.line self.old.bytes.items) }
-        ensures gathered { IsGathered self.new.bytes.items self.new.line self.new.behind_empty }
+        ensures gathered { IsGathered self.new.from_lines self.new.bytes.items self.new.line self.new.behind_empty }
         ensures err { OnErr result (self.new.bytes.items ≡ self.old.bytes.items) }
+        ensures same { self.new.from_lines ≡ self.old.from_lines }
     {
         let rest = Vec::from_slice(*self.bytes.allocator(), self.undecided())?;
         self.bytes.truncate(self.line);
@@ -114,7 +122,8 @@ impl Gathered {
     fn hand_out(&mut self) -> Vec<u8>
         ensures all { result.items ≡ self.old.bytes.items }
         ensures none { self.new.bytes.items ≡ [] }
-        ensures gathered { IsGathered self.new.bytes.items self.new.line self.new.behind_empty }
+        ensures same { self.new.from_lines ≡ self.old.from_lines }
+        ensures gathered { IsGathered self.new.from_lines self.new.bytes.items self.new.line self.new.behind_empty }
     {
         let none = Vec::new(*self.bytes.allocator());
         self.line = 0;
@@ -158,8 +167,8 @@ fn before_return(bytes: &[u8]) -> Option<&[u8]>
 }
 
 // Whether a line begins a message, by whether the line before it is empty.
-fn begins_message(behind_empty: bool, content: &[u8]) -> bool
-    ensures { result ≡ is_first behind_empty content.now }
+fn begins_message(from_lines: FromLines, behind_empty: bool, content: &[u8]) -> bool
+    ensures { result ≡ is_first from_lines behind_empty content.now }
 {
-    behind_empty && is_from_line(content)
+    behind_empty && from_lines.begin_with(content)
 }

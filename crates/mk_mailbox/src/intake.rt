@@ -12,6 +12,7 @@ ghost use Rattle.mk_mailbox.specs.Intakes.{IsIntake, held_of, kept_by};
 ghost use Rattle.mk_mailbox.specs.Mailboxes.{Answers, FitsReads, IsKnownWhole, chunk_bytes};
 
 use crate::device::{CHUNK_BYTES, Fault, MOST_READS, Source};
+use crate::from_lines::FromLines;
 use crate::gathering::Gathered;
 use crate::mailbox::MailFault;
 use memchr::memchr;
@@ -31,13 +32,14 @@ pub(crate) struct Intake {
 
 impl Intake {
     /// Nothing was read yet.
-    pub(crate) fn new(alloc: Global) -> Intake
+    pub(crate) fn new(alloc: Global, from_lines: FromLines) -> Intake
         ensures kept { kept_by result ≡ [] }
+        ensures from_lines { result.gathered.from_lines ≡ from_lines }
         ensures ended { result.ended ≡ false }
         ensures intake { IsIntake result }
     {
         Intake {
-            gathered: Gathered::new(alloc),
+            gathered: Gathered::new(alloc, from_lines),
             chunk: Vec::new(alloc),
             at: 0,
             filled: 0,
@@ -55,16 +57,17 @@ impl Intake {
             × MatchResult result (λ o. Answers (option_map (λ v. v.items) o) (held_of self.old) read (held_of self.new)) (λ _. kept_by self.new ≡ kept_by self.old ++ read) }
         ensures ended { self.new.ended ≡ true → (self.old.ended ≡ true) ⊎ IsAtEnd (S.remaining r.new) }
         ensures stays { self.old.ended ≡ true → (self.new.ended ≡ true) × (S.remaining r.new ≡ S.remaining r.old) }
-        ensures known { IsKnownWhole (kept_by self.old)
+        ensures known { IsKnownWhole self.old.gathered.from_lines (kept_by self.old)
             → (S.remaining r.new ≡ S.remaining r.old) × (S.read_count r.new ≡ S.read_count r.old) }
         ensures unknown { IfErr result (λ e. e ≡ MailFault.ReadFault
-            → (IsKnownWhole (kept_by self.new) → ⊥) ⊎ IsLong (S.read_count r.old) (S.read_count r.new)) }
+            → (IsKnownWhole self.old.gathered.from_lines (kept_by self.new) → ⊥) ⊎ IsLong (S.read_count r.old) (S.read_count r.new)) }
         ensures fault { IfErr result (λ e. e ≡ MailFault.ReadFault
             → Rose (S.failures r.old) (S.failures r.new) ⊎ IsLong (S.read_count r.old) (S.read_count r.new)) }
         ensures held { IfErr result (λ e. e ≡ MailFault.ReadFault
             → Rose (S.failures r.old) (S.failures r.new) ⊎ (2147483646 ≤ length (kept_by self.new))) }
         ensures well { OnOk result (S.failures r.new ≡ S.failures r.old) }
         ensures memory { IfErr result (λ e. e ≡ MailFault.Memory → S.failures r.new ≡ S.failures r.old) }
+        ensures same { self.new.gathered.from_lines ≡ self.old.gathered.from_lines }
     {
         for _read in 0..MOST_READS {
             match self.take_lines() {
@@ -89,11 +92,12 @@ impl Intake {
     fn take_lines(&mut self) -> Result<Option<Vec<u8>>, AllocError>
         requires { IsIntake self.old }
         ensures intake { IsIntake self.new }
-        ensures piece { IfOk result (λ o. MatchOption o (kept_by self.new ≡ kept_by self.old) (λ piece. IsSplit piece.items (kept_by self.old) (kept_by self.new))) }
+        ensures piece { IfOk result (λ o. MatchOption o (kept_by self.new ≡ kept_by self.old) (λ piece. IsSplit self.old.gathered.from_lines piece.items (kept_by self.old) (kept_by self.new))) }
         ensures taken { IfOk result (λ o. IfNone o (self.new.at ≡ self.new.filled)) }
         ensures undecided { IfOk result (λ o. IfNone o (has_line_feed (drop self.new.gathered.line self.new.gathered.bytes.items) ≡ false)) }
         ensures err { OnErr result (kept_by self.new ≡ kept_by self.old) }
         ensures ended { self.new.ended ≡ self.old.ended }
+        ensures same { self.new.gathered.from_lines ≡ self.old.gathered.from_lines }
     {
         'lines: loop {
             match self.gathered.decide()? {
@@ -114,10 +118,11 @@ impl Intake {
         requires taken { self.old.at ≡ self.old.filled }
         requires undecided { has_line_feed (drop self.old.gathered.line self.old.gathered.bytes.items) ≡ false }
         ensures intake { IsIntake self.new }
-        ensures piece { IfOk result (λ o. MatchOption o (kept_by self.old ≡ []) (λ piece. IsLastSplit piece.items (kept_by self.old) (kept_by self.new))) }
+        ensures piece { IfOk result (λ o. MatchOption o (kept_by self.old ≡ []) (λ piece. IsLastSplit self.old.gathered.from_lines piece.items (kept_by self.old) (kept_by self.new))) }
         ensures none { IfOk result (λ o. IfNone o (kept_by self.new ≡ [])) }
         ensures err { OnErr result (kept_by self.new ≡ kept_by self.old) }
         ensures ended { self.new.ended ≡ self.old.ended }
+        ensures same { self.new.gathered.from_lines ≡ self.old.gathered.from_lines }
     {
         self.gathered.last()
     }
@@ -138,6 +143,7 @@ impl Intake {
         ensures fault { IfErr result (λ e. e ≡ MailFault.ReadFault → Rose (S.failures r.old) (S.failures r.new)) }
         ensures well { OnOk result (S.failures r.new ≡ S.failures r.old) }
         ensures memory { IfErr result (λ e. e ≡ MailFault.Memory → S.failures r.new ≡ S.failures r.old) }
+        ensures same { self.new.gathered.from_lines ≡ self.old.gathered.from_lines }
     {
         if make_room(&mut self.chunk).is_err() {
             return Err(MailFault::Memory);
@@ -175,15 +181,16 @@ fn take_from(
     at: usize,
     filled: usize,
 ) -> Result<usize, AllocError>
-    requires gathered { IsGathered gathered.old.bytes.items gathered.old.line gathered.old.behind_empty }
+    requires gathered { IsGathered gathered.old.from_lines gathered.old.bytes.items gathered.old.line gathered.old.behind_empty }
     requires undecided { has_line_feed (drop gathered.old.line gathered.old.bytes.items) ≡ false }
     requires chunk { IsChunk chunk.now at filled }
     requires more { at < filled }
-    ensures gathered { IsGathered gathered.new.bytes.items gathered.new.line gathered.new.behind_empty }
+    ensures gathered { IsGathered gathered.new.from_lines gathered.new.bytes.items gathered.new.line gathered.new.behind_empty }
     ensures ok { IfOk result (λ count. gathered.new.bytes.items ++ unread chunk.now (at + count) filled ≡ gathered.old.bytes.items ++ unread chunk.now at filled) }
     ensures some { IfOk result (λ count. 0 < count) }
     ensures within { IfOk result (λ count. at + count ≤ filled) }
     ensures err { OnErr result (gathered.new.bytes.items ≡ gathered.old.bytes.items) }
+    ensures same { gathered.new.from_lines ≡ gathered.old.from_lines }
 {
     let rest = &chunk[at..filled];
     let count = line_end(rest);

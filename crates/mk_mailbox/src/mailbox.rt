@@ -3,9 +3,11 @@ ghost use Rattle.std.specs.Prelude.{◌≡◌, ◌≤◌, ◌++◌, ◌⊎◌, [
 ghost use Rattle.std.specs.Io.KnownBytes.{Consumes, IsAtEnd};
 ghost use Rattle.std.specs.Option.{option_map};
 ghost use Rattle.mk_mailbox.specs.Devices.{IsLong, Rose};
+ghost use Rattle.mk_mailbox.specs.declared.from_lines.FromLines.TheVariants.{Any};
 ghost use Rattle.mk_mailbox.specs.Mailboxes.{Answers, FitsReads, IsKnownWhole};
 
 use crate::device::Source;
+use crate::from_lines::FromLines;
 use crate::intake::Intake;
 use std::alloc::Global;
 use std::marker::Model;
@@ -23,7 +25,7 @@ pub enum MailFault {
 }
 
 /// The messages of a mailbox that a source gives, one after another. It is cut before each From-line that directly
-/// follows an empty line. No more than one message and a chunk of the input is kept.
+/// follows an empty line, or only before those with a date. No more than one message and a chunk of the input is kept.
 #[derive(Drop)]
 pub struct Mailbox {
     intake: Intake,
@@ -46,9 +48,19 @@ impl Mailbox {
     pub fn new(alloc: Global) -> Mailbox
         ensures kept { result.kept ≡ [] }
         ensures ended { result.ended ≡ false }
+        ensures from_lines { result.from_lines ≡ Any }
+    {
+        Mailbox::cut_at(alloc, FromLines::Any)
+    }
+
+    /// A mailbox of which nothing was read yet, and which is cut at these From-lines.
+    pub fn cut_at(alloc: Global, from_lines: FromLines) -> Mailbox
+        ensures kept { result.kept ≡ [] }
+        ensures ended { result.ended ≡ false }
+        ensures from_lines { result.from_lines ≡ from_lines }
     {
         Mailbox {
-            intake: Intake::new(alloc),
+            intake: Intake::new(alloc, from_lines),
         }
     }
 
@@ -63,10 +75,10 @@ impl Mailbox {
         ensures stays { self.old.ended ≡ true → (self.new.ended ≡ true) × (S.remaining r.new ≡ S.remaining r.old) }
 
         // Nothing is read while a message is known to be whole, and where the source fails none of what is kept is.
-        ensures known { IsKnownWhole self.old.kept
+        ensures known { IsKnownWhole self.old.from_lines self.old.kept
             → (S.remaining r.new ≡ S.remaining r.old) × (S.read_count r.new ≡ S.read_count r.old) }
         ensures unknown { IfErr result (λ e. e ≡ MailFault.ReadFault
-            → (IsKnownWhole self.new.kept → ⊥) ⊎ IsLong (S.read_count r.old) (S.read_count r.new)) }
+            → (IsKnownWhole self.old.from_lines self.new.kept → ⊥) ⊎ IsLong (S.read_count r.old) (S.read_count r.new)) }
         ensures fault { IfErr result (λ e. e ≡ MailFault.ReadFault
             → Rose (S.failures r.old) (S.failures r.new) ⊎ IsLong (S.read_count r.old) (S.read_count r.new)) }
 
@@ -75,6 +87,7 @@ impl Mailbox {
             → Rose (S.failures r.old) (S.failures r.new) ⊎ (2147483646 ≤ length self.new.kept)) }
         ensures well { OnOk result (S.failures r.new ≡ S.failures r.old) }
         ensures memory { IfErr result (λ e. e ≡ MailFault.Memory → S.failures r.new ≡ S.failures r.old) }
+        ensures same { self.new.from_lines ≡ self.old.from_lines }
     {
         self.intake.next(r)
     }

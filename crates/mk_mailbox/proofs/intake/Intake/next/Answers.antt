@@ -3,8 +3,7 @@ use Rattle.std.proofs.lemmas.Result.{err_from_is_err_and}
 use Rattle.mk_line.specs.Lines.{has_line_feed}
 use Rattle.mk_mailbox.specs.Gathered.{IsLastSplit, IsSplit}
 use Rattle.mk_mailbox.specs.Intakes.{held_of, kept_by}
-use Rattle.mk_mailbox.specs.Mailboxes.{IsKnownWhole}
-use Rattle.mk_mailbox.proofs.Intaking.{counted_on, grown_on, kept_unknown, last_next, piece_next, read_more, true_or_false}
+use Rattle.mk_mailbox.proofs.Intaking.{counted_on, grown_on, kept_unknown, known_on, last_next, piece_next, read_more, true_or_false}
 use Rattle.mk_mailbox.proofs.intake.Intake.next.Goals as goal
 
 pub returns-in-Ok-Some-clause-exact : goal.returns-in-Ok-Some-clause-exact
@@ -16,7 +15,8 @@ returns-in-Ok-Some-clause-exact g c =
       t.2,
       t.3,
       piece_next piece t.0 (held_of c.args.self.now) (held_of c.take_lines.new.self)
-          (subst (λ k. IsSplit piece k (kept_by c.take_lines.new.self)) t.4 (rw c.in-Ok-Some.field-0-is at c.in-Ok-Some.ensures.piece)),
+          (subst (λ k. IsSplit c.args.self.now.gathered.from_lines piece k (kept_by c.take_lines.new.self)) t.4
+          (subst (λ way. IsSplit way piece (kept_by c.loop-read.self) (kept_by c.take_lines.new.self)) c.loop-read.invariant.same (rw c.in-Ok-Some.field-0-is at c.in-Ok-Some.ensures.piece))),
     )
 
 pub returns-in-Ok-Some-last-clause-exact : goal.returns-in-Ok-Some-last-clause-exact
@@ -29,7 +29,8 @@ returns-in-Ok-Some-last-clause-exact g c =
       t.2,
       t.3,
       last_next piece t.0 (held_of c.args.self.now) (held_of c.last.new.self) (c.last.ensures.ended ∙ c.if-self.true)
-          (subst (λ k. IsLastSplit piece k (kept_by c.last.new.self)) (same ∙ t.4) (rw c.in-Ok-Some-last.field-0-is at c.in-Ok-Some-last.ensures.piece)),
+          (subst (λ k. IsLastSplit c.args.self.now.gathered.from_lines piece k (kept_by c.last.new.self)) (same ∙ t.4)
+          (subst (λ way. IsLastSplit way piece (kept_by c.take_lines.new.self) (kept_by c.last.new.self)) (c.take_lines.ensures.same ∙ c.loop-read.invariant.same) (rw c.in-Ok-Some-last.field-0-is at c.in-Ok-Some-last.ensures.piece))),
     )
 
 pub returns-in_err-read-clause-exact : goal.returns-in_err-read-clause-exact
@@ -48,7 +49,7 @@ returns-in_err-read-clause-known g c = λ known.
     let same = rw c.in-Ok-None.field-0-is at c.in-Ok-None.ensures.piece in
     let undecided : has_line_feed (drop i.gathered.line i.gathered.bytes.items) ≡ false = rw c.in-Ok-None.field-0-is at c.in-Ok-None.ensures.undecided in
     let taken : i.at ≡ i.filled = rw c.in-Ok-None.field-0-is at c.in-Ok-None.ensures.taken in
-    absurd (kept_unknown i c.take_lines.ensures.intake taken undecided (subst IsKnownWhole (sym (same ∙ (c.loop-read.invariant.known known).2)) known))
+    absurd (kept_unknown i c.take_lines.ensures.intake taken undecided (known_on _ _ _ _ (c.take_lines.ensures.same ∙ c.loop-read.invariant.same) (same ∙ (c.loop-read.invariant.known known).2) known))
 
 pub returns-in_err-read-clause-unknown : goal.returns-in_err-read-clause-unknown
 returns-in_err-read-clause-unknown g c =
@@ -56,7 +57,7 @@ returns-in_err-read-clause-unknown g c =
     let undecided : has_line_feed (drop i.gathered.line i.gathered.bytes.items) ≡ false = rw c.in-Ok-None.field-0-is at c.in-Ok-None.ensures.undecided in
     let taken : i.at ≡ i.filled = rw c.in-Ok-None.field-0-is at c.in-Ok-None.ensures.taken in
     let stopped = err_from_is_err_and c.from_residual.result c.from_residual.ensures.1 in
-    rw stopped.1 (λ fault. inl (λ known. kept_unknown i c.take_lines.ensures.intake taken undecided (subst IsKnownWhole c.in_err-read.ensures.still known)))
+    rw stopped.1 (λ fault. inl (λ known. kept_unknown i c.take_lines.ensures.intake taken undecided (known_on _ _ _ _ (c.take_lines.ensures.same ∙ c.loop-read.invariant.same) (sym c.in_err-read.ensures.still) known)))
 
 pub loop-read-preserved : goal.loop-read-preserved
 loop-read-preserved g c =
@@ -72,7 +73,8 @@ loop-read-preserved g c =
       told = read_more _ _ _ c.args.self.now.ended (kept_by c.args.self.now) (kept_by c.take_lines.new.self) (kept_by c.read.new.self) t.0 b.0 _ _ _ t.1 t.2 t.3 (same ∙ t.4) b.1 goes_on b.2 b.3;
       ended = λ e. inr (c.read.ensures.ended e);
       stays = λ e. absurd (goes_on e);
-      known = λ known. absurd (kept_unknown i c.take_lines.ensures.intake taken undecided (subst IsKnownWhole (sym (same ∙ (c.loop-read.invariant.known known).2)) known));
+      known = λ known. absurd (kept_unknown i c.take_lines.ensures.intake taken undecided (known_on _ _ _ _ (c.take_lines.ensures.same ∙ c.loop-read.invariant.same) (same ∙ (c.loop-read.invariant.known known).2) known));
+      same = c.read.ensures.same ∙ (c.take_lines.ensures.same ∙ c.loop-read.invariant.same);
       well = search rules;
       grown = grown_on _ _ (kept_by c.loop-read.self) (kept_by c.take_lines.new.self) (kept_by c.read.new.self) b.0 c.loop-read.self.ended c.read.new.self.ended c.loop-read.invariant.grown (sym c.take_lines.ensures.ended ∙ c.if-self.false) same b.2 c.in_ok-read.ensures.grew;
       count = counted_on _ _ _ _ c.loop-read.invariant.count c.in_ok-read.ensures.counted;

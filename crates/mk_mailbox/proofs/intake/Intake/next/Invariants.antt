@@ -14,8 +14,9 @@ invariant-loop-read g l = record {
       × (kept_by l.self ≡ kept_by l.fn.self ++ read);
   ended : l.self.ended ≡ true → (l.fn.self.ended ≡ true) ⊎ IsAtEnd (g.S.Source.remaining l.r);
   stays : l.fn.self.ended ≡ true → (l.self.ended ≡ true) × (g.S.Source.remaining l.r ≡ g.S.Source.remaining l.fn.r);
-  known : IsKnownWhole (kept_by l.fn.self) → (g.S.Source.remaining l.r ≡ g.S.Source.remaining l.fn.r) × (g.S.Source.read_count l.r ≡ g.S.Source.read_count l.fn.r)
+  known : IsKnownWhole l.fn.self.gathered.from_lines (kept_by l.fn.self) → (g.S.Source.remaining l.r ≡ g.S.Source.remaining l.fn.r) × (g.S.Source.read_count l.r ≡ g.S.Source.read_count l.fn.r)
       × (kept_by l.self ≡ kept_by l.fn.self);
+  same : l.self.gathered.from_lines ≡ l.fn.self.gathered.from_lines;
   well : g.S.Source.failures l.r ≡ g.S.Source.failures l.fn.r;
   grown : length (kept_by l.fn.self) + l._read ≤ length (kept_by l.self) + (if l.self.ended then 1 else 0);
   count : (g.S.Source.read_count l.fn.r + l._read ≤ g.S.Source.read_count l.r) ⊎ IsFull (g.S.Source.read_count l.r);

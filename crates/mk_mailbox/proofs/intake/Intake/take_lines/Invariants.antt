@@ -7,6 +7,7 @@ invariant-lines l = record {
   intake : IsIntake l.self;
   kept : kept_by l.self ≡ kept_by l.fn.self;
   ended : l.self.ended ≡ l.fn.self.ended;
+  same : l.self.gathered.from_lines ≡ l.fn.self.gathered.from_lines;
 }
 
 abbrev pub decreases-lines : goal.decreases-lines

@@ -1,0 +1,53 @@
+//! From-lines that begin the messages of a mailbox.
+ghost use Rattle.std.specs.Prelude.{◌≡◌};
+ghost use Rattle.std.specs.List.{list_all};
+ghost use Rattle.mk_line.specs.Lines.{cut as lines_of, is_nil};
+ghost use Rattle.mk_mailbox.specs.Pieces.{is_left_alone, is_mail_start};
+
+use crate::dates::ends_with_date;
+use mk_line::{cut, is_from_line};
+
+/// Which From-lines begin a message, where they directly follow an empty line.
+#[derive(Clone, Copy, Debug, Default, PartialEq, Eq)]
+pub enum FromLines {
+    /// Each From-line.
+    #[default]
+    Any,
+    /// A From-line that ends with a date (RFC 4155, appendix A). Text of a body that begins with `From ` is then no From-line.
+    Dated,
+}
+
+impl FromLines {
+    /// Whether a line with this content begins a message, where it directly follows an empty line.
+    pub(crate) fn begin_with(self, content: &[u8]) -> bool
+        ensures { result ≡ is_mail_start self content.now }
+    {
+        match self {
+            FromLines::Any => is_from_line(content),
+            FromLines::Dated => is_from_line(content) && ends_with_date(content),
+        }
+    }
+
+    /// Whether a message of a mailbox is no mail but the empty lines before the first From-line, which filters leave as they
+    /// are. Without dates there is no such message.
+    pub fn leaves_alone(self, message: &[u8]) -> bool
+        ensures { result ≡ is_left_alone self message.now }
+    {
+        match self {
+            FromLines::Any => false,
+            FromLines::Dated => are_empty_lines(message),
+        }
+    }
+}
+
+// Whether no line has a byte beside its ending.
+fn are_empty_lines(text: &[u8]) -> bool
+    ensures { result ≡ list_all (λ l. is_nil l.content) (lines_of text.now) }
+{
+    for line in cut(text) {
+        if !line.content.is_empty() {
+            return false;
+        }
+    }
+    true
+}
