@@ -1,7 +1,9 @@
 //! A JSON object for each section of a document.
 
+use mk_head::{content_type, is_token};
+use mk_line::leading_blanks;
 use mk_tree::{Children, Doc, Kind, Section};
-use mk_view::{Leaf, NameForm, leaves_in, media_type, said_name, text_name};
+use mk_view::{ExtractError, Leaf, NameForm, content, leaves_in, media_type, said_name, text_name};
 use serde_json::Value;
 use std::alloc::{AllocError, Global};
 
@@ -30,8 +32,9 @@ const KEYS: [&str; 9] = [
 const WORDS: usize = 4;
 
 /// Lists the sections of a document as JSON, an object a line, in the order of `mk_view::list` and with its words and
-/// numbers. After those stand, where a section has them, its boundary, its charset, the name that its fields say, as a text and
-/// as it stands there, and the name that it would be stored under. Bytes that aren't UTF-8 become U+FFFD. Own format.
+/// numbers. After those stand, where a section has them, its boundary, its charset, its disposition, the name that its fields
+/// say, as a text and as it stands there, the name that it would be stored under, and the size of its decoded content. Bytes
+/// that aren't UTF-8 become U+FFFD. Own format.
 pub fn list(alloc: Global, doc: &Doc) -> Result<Vec<u8>, AllocError> {
     list_in(alloc, doc, NameForm::Plain)
 }
@@ -102,6 +105,8 @@ fn push_object(
     push_member(alloc, text, "boundary", section.boundary())?;
     let media = media_type(alloc, section)?;
     push_member(alloc, text, "charset", media.param(b"charset"))?;
+    let disposition = disposition(alloc, section)?;
+    push_member(alloc, text, "disposition", disposition.as_deref())?;
     push_names(alloc, text, section)?;
     push_member(
         alloc,
@@ -109,8 +114,43 @@ fn push_object(
         "stored_as",
         leaf.map(|leaf| leaf.name.as_slice()),
     )?;
+    if leaf.is_some() {
+        push_size(alloc, text, section)?;
+    }
     text.extend_from_slice(b"}\n")?;
     Ok(())
+}
+
+// The disposition of a section, in lower case: what its Content-Disposition says before the first semicolon, where that is a
+// token (RFC 2183, 2.1 and 2.2). It is read as the value of a parameter, with a letter before it that keeps quotes as they are.
+fn disposition(alloc: Global, section: &Section<'_>) -> Result<Option<Vec<u8>>, AllocError> {
+    let Some(value) = section.value(alloc, b"Content-Disposition")? else {
+        return Ok(None);
+    };
+    let mut text = Vec::from_slice(alloc, b";type=_")?;
+    text.extend_from_slice(&value)?;
+    let read = content_type(alloc, &text)?;
+    let word = match read.param(b"type") {
+        Some([_, word @ ..]) => &word[leading_blanks(word)..],
+        _ => return Ok(None),
+    };
+    if !is_token(word) {
+        return Ok(None);
+    }
+    let word = word.iter().map(|byte| byte.to_ascii_lowercase());
+    Ok(Some(word.collect(alloc)?))
+}
+
+// Writes the size of the content of a leaf, where it can be decoded. One content at a time is in memory.
+fn push_size(alloc: Global, text: &mut Vec<u8>, section: &Section<'_>) -> Result<(), AllocError> {
+    match content(alloc, section) {
+        Ok(bytes) => {
+            let size = bytes.len();
+            text.extend_from_slice(format!(in alloc; ",\"size\":{size}")?.as_bytes())
+        }
+        Err(ExtractError::Memory) => Err(AllocError),
+        Err(_) => Ok(()),
+    }
 }
 
 // Writes the name that the fields of a section say: as a text, else as it stands there, and once more as it stands there.

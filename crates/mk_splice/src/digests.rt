@@ -5,7 +5,7 @@ ghost use Rattle.mk_splice.specs.Journals.{digest_of as digest_meant};
 use hex::encode_to_slice;
 use sha2::{Digest, Sha256};
 
-// The SHA-256 of a text in 64 lower case hexadecimal digits.
+/// The SHA-256 of a text in 64 lower case hexadecimal digits.
 pub fn digest_of(text: &[u8]) -> [u8; 64]
     ensures { result ≡ digest_meant text.now }
 {

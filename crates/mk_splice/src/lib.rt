@@ -10,6 +10,7 @@ mod reading;
 mod replacing;
 mod splicing;
 
+pub use digests::digest_of;
 pub use fitting::{FitError, fit};
 pub use journals::{Journal, JournalError};
 pub use printing::print;
