@@ -34,8 +34,11 @@ use Rattle.mk_decide.proofs.Typed.{MayBound, made_bound, made_kind, made_value, 
 use Rattle.mk_decide.proofs.Wraps.{close_is, type_is}
 use Rattle.mk_build.specs.declared.building.BuildError.{BuildError}
 use Rattle.mk_build.specs.declared.building.BuildError.TheVariants as build
-use Rattle.mk_build.specs.Building.{Attached, attached, built, built_part, closed_field, first_failing, is_free_field, is_media, is_name_or_none, build_refusal, refusal_at}
-use Rattle.mk_mail.specs.BuiltLaws.{AreBytes, HaveBytes, GivesBack, BuiltMessagesGiveBack}
+use Rattle.mk_build.specs.Building.{Attached, attached, built_part, closed_field, first_failing, is_free_field, is_media, is_name_or_none, refusal_at}
+use Rattle.mk_build.specs.Multiparts.{built_as, refusal_as}
+use Rattle.mk_head.specs.Values.{is_token, lowered}
+use Rattle.std.specs.Str.{bytes_eq}
+use Rattle.mk_mail.specs.BuiltLaws.{AreBytes, HaveBytes, GivesBack, BuiltMessagesGiveBack, BuiltMultipartsGiveBack, plain}
 use Rattle.mk_view.specs.Extracts.{IsContentOf, IsExtract}
 use Rattle.mk_mail.proofs.BuiltFields.{AreFreeFields, field_lines, fields_are_lines, fields_closed, fields_lines, fields_text, run_fields, skip_fields}
 use Rattle.mk_mail.proofs.BuiltParts.{AreFull, empty_line, full_join, full_none, full_one, inner_line, part_content, part_entity, part_free, part_full, part_read, part_text}
@@ -53,11 +56,11 @@ parts_of eol b (a ∷ list) = part (delimiter_line eol b) (part_entity eol a) (p
 abbrev pub version : Ending → TextLine
 version eol = text_line (codes "MIME-Version: 1.0") eol
 
-abbrev pub root_fields : Ending → List (List ℕ) → List ℕ → List TextLine
-root_fields eol fields b = fields_lines eol fields ++ (version eol ∷ multi_line eol (codes "mixed") b ∷ [])
+abbrev pub root_fields : Ending → List (List ℕ) → List ℕ → List ℕ → List TextLine
+root_fields eol fields sub b = fields_lines eol fields ++ (version eol ∷ multi_line eol sub b ∷ [])
 
-abbrev pub root_entity : Ending → List (List ℕ) → List ℕ → List Attached → Entity
-root_entity eol fields b list = multi (record { fields = root_fields eol fields b; separator = Some (empty_line eol) }) b [] (parts_of eol b list) (Some (end_line eol b, []))
+abbrev pub root_entity : Ending → List (List ℕ) → List ℕ → List ℕ → List Attached → Entity
+root_entity eol fields sub b list = multi (record { fields = root_fields eol fields sub b; separator = Some (empty_line eol) }) b [] (parts_of eol b list) (Some (end_line eol b, []))
 
 -- its text
 part_regroup : (h b e x rest : List ℕ) → ((h ++ b) ++ e) ++ ((x ++ e) ++ rest) ≡ (h ++ (b ++ (e ++ (x ++ e)))) ++ rest
@@ -70,19 +73,19 @@ parts_text eol b (a ∷ list) =
     ∙ ((λ i. (dashed b ++ ending_bytes eol) ++ (part_text eol a i ++ parts_text eol b list i))
     ∙ part_regroup (codes "--") b (ending_bytes eol) (attached eol a) (flat_map (built_part eol b) list))
 
-root_regroup : (f v e k b q p h : List ℕ)
-    → ((f ++ ((v ++ e) ++ (((k ++ (b ++ q)) ++ e) ++ []))) ++ (([] ++ e) ++ [])) ++ (p ++ ((((h ++ b) ++ h) ++ e) ++ []))
-    ≡ f ++ ((v ++ (e ++ (k ++ (b ++ (q ++ (e ++ e)))))) ++ (p ++ (h ++ (b ++ (h ++ e)))))
-root_regroup f v e k b q p h = rw (append-nil (((h ++ b) ++ h) ++ e)) (simp append_assoc)
+root_regroup : (f v e k s i b q p h : List ℕ)
+    → ((f ++ ((v ++ e) ++ (((k ++ (s ++ (i ++ (b ++ q)))) ++ e) ++ []))) ++ (([] ++ e) ++ [])) ++ (p ++ ((((h ++ b) ++ h) ++ e) ++ []))
+    ≡ f ++ ((v ++ (e ++ (k ++ (s ++ (i ++ (b ++ (q ++ (e ++ e)))))))) ++ (p ++ (h ++ (b ++ (h ++ e)))))
+root_regroup f v e k s i b q p h = rw (append-nil (((h ++ b) ++ h) ++ e)) (simp append_assoc)
 
-root_text : (eol : Ending) (fields : List (List ℕ)) (b : List ℕ) (list : List Attached) → text_of (print (root_entity eol fields b list)) ≡ built eol fields list b
-root_text eol fields b list =
-    let made = version eol ∷ multi_line eol (codes "mixed") b ∷ [] in
-    text_append (root_fields eol fields b ++ (empty_line eol ∷ [])) (print_parts (parts_of eol b list) ++ (end_line eol b ∷ []))
-    ∙ ((λ i. text_append (root_fields eol fields b) (empty_line eol ∷ []) i ++ text_append (print_parts (parts_of eol b list)) (end_line eol b ∷ []) i)
+root_text : (eol : Ending) (fields : List (List ℕ)) (sub b : List ℕ) (list : List Attached) → text_of (print (root_entity eol fields sub b list)) ≡ built_as eol fields list (plain sub b)
+root_text eol fields sub b list =
+    let made = version eol ∷ multi_line eol sub b ∷ [] in
+    text_append (root_fields eol fields sub b ++ (empty_line eol ∷ [])) (print_parts (parts_of eol b list) ++ (end_line eol b ∷ []))
+    ∙ ((λ i. text_append (root_fields eol fields sub b) (empty_line eol ∷ []) i ++ text_append (print_parts (parts_of eol b list)) (end_line eol b ∷ []) i)
     ∙ ((λ i. (text_append (fields_lines eol fields) made i ++ text_of (empty_line eol ∷ [])) ++ (parts_text eol b list i ++ text_of (end_line eol b ∷ [])))
     ∙ ((λ i. ((fields_text eol fields i ++ text_of made) ++ text_of (empty_line eol ∷ [])) ++ (flat_map (built_part eol b) list ++ text_of (end_line eol b ∷ [])))
-    ∙ root_regroup (flat_map (closed_field eol) fields) (codes "MIME-Version: 1.0") (ending_bytes eol) (codes "Content-Type: multipart/mixed; boundary=\"") b (codes "\"") (flat_map (built_part eol b) list) (codes "--"))))
+    ∙ root_regroup (flat_map (closed_field eol) fields) (codes "MIME-Version: 1.0") (ending_bytes eol) (codes "Content-Type: multipart/") sub (codes "; boundary=\"") b (codes "\"") (flat_map (built_part eol b) list) (codes "--"))))
 
 -- its lines are lines
 parts_full : (eol : Ending) (b : List ℕ) (list : List Attached) → is_open eol ≡ false → MayBound b → AreGood list → AreFull (print_parts (parts_of eol b list))
@@ -92,28 +95,28 @@ parts_full eol b (a ∷ list) c m g =
     full_join (delimiter_line eol b ∷ []) (print (part_entity eol a) ++ print_parts (parts_of eol b list)) (full_one (dashed b) eol c (delimiter_is eol b c (made_bound b m)))
     (full_join (print (part_entity eol a)) (print_parts (parts_of eol b list)) (record { lines = p.0; closed = p.1 }) (parts_full eol b list c m g.3))
 
-root_full : (eol : Ending) (fields : List (List ℕ)) (b : List ℕ) (list : List Attached) → is_open eol ≡ false → MayBound b → AreFreeFields fields → AreGood list → AreFull (print (root_entity eol fields b list))
-root_full eol fields b list c m h g =
-    let made = version eol ∷ multi_line eol (codes "mixed") b ∷ [] in
-    let made_full = full_join (version eol ∷ []) (multi_line eol (codes "mixed") b ∷ []) (full_one (codes "MIME-Version: 1.0") eol c (inner_line eol (codes "MIME-Version: 1.0") c refl)) (full_one _ eol c (type_is eol (codes "mixed") b c refl m)) in
-    full_join (root_fields eol fields b ++ (empty_line eol ∷ [])) (print_parts (parts_of eol b list) ++ (end_line eol b ∷ []))
-    (full_join (root_fields eol fields b) (empty_line eol ∷ [])
+root_full : (eol : Ending) (fields : List (List ℕ)) (sub b : List ℕ) (list : List Attached) → is_open eol ≡ false → is_token sub ≡ true → MayBound b → AreFreeFields fields → AreGood list → AreFull (print (root_entity eol fields sub b list))
+root_full eol fields sub b list c k m h g =
+    let made = version eol ∷ multi_line eol sub b ∷ [] in
+    let made_full = full_join (version eol ∷ []) (multi_line eol sub b ∷ []) (full_one (codes "MIME-Version: 1.0") eol c (inner_line eol (codes "MIME-Version: 1.0") c refl)) (full_one _ eol c (type_is eol sub b c k m)) in
+    full_join (root_fields eol fields sub b ++ (empty_line eol ∷ [])) (print_parts (parts_of eol b list) ++ (end_line eol b ∷ []))
+    (full_join (root_fields eol fields sub b) (empty_line eol ∷ [])
     (full_join (fields_lines eol fields) made (record { lines = fields_are_lines eol fields c h; closed = fields_closed eol fields c h }) made_full)
     (full_one [] eol c (inner_line eol [] c refl)))
     (full_join (print_parts (parts_of eol b list)) (end_line eol b ∷ []) (parts_full eol b list c m g)
     (full_one (dashed b ++ codes "--") eol c (close_is eol b c (made_bound b m))))
 
 -- what its fields say
-says_type : (eol : Ending) (fields : List (List ℕ)) (b : List ℕ) → is_open eol ≡ false → AreFreeFields fields → field_value (codes "Content-Type") (root_fields eol fields b) ≡ Some (made_value (codes "mixed") b)
-says_type eol fields b c h =
-    skip_fields (codes "Content-Type") eol fields (version eol ∷ multi_line eol (codes "mixed") b ∷ []) refl c h
-    ∙ ap (λ cs. Some (or_nothing (behind 58 cs))) (append_nil (codes "Content-Type: multipart/" ++ (codes "mixed" ++ (codes "; boundary=\"" ++ (b ++ codes "\"")))))
+says_type : (eol : Ending) (fields : List (List ℕ)) (sub b : List ℕ) → is_open eol ≡ false → AreFreeFields fields → field_value (codes "Content-Type") (root_fields eol fields sub b) ≡ Some (made_value sub b)
+says_type eol fields sub b c h =
+    skip_fields (codes "Content-Type") eol fields (version eol ∷ multi_line eol sub b ∷ []) refl c h
+    ∙ ap (λ cs. Some (or_nothing (behind 58 cs))) (append_nil (codes "Content-Type: multipart/" ++ (sub ++ (codes "; boundary=\"" ++ (b ++ codes "\"")))))
 
-root_kind : (eol : Ending) (fields : List (List ℕ)) (b : List ℕ) → is_open eol ≡ false → MayBound b → AreFreeFields fields → kind (root_fields eol fields b) false ≡ Multi b false
+root_kind : (eol : Ending) (fields : List (List ℕ)) (sub b : List ℕ) → is_open eol ≡ false → is_token sub ≡ true → MayBound b → AreFreeFields fields → kind (root_fields eol fields sub b) false ≡ Multi b (bytes_eq (lowered sub) (codes "digest"))
 unfolding kind
-root_kind eol fields b c m h =
-    ap (λ o. kind_of (type_by false o) (header_encoding (root_fields eol fields b))) (says_type eol fields b c h)
-    ∙ made_kind false (header_encoding (root_fields eol fields b)) (codes "mixed") b refl m
+root_kind eol fields sub b c k m h =
+    ap (λ o. kind_of (type_by false o) (header_encoding (root_fields eol fields sub b))) (says_type eol fields sub b c h)
+    ∙ made_kind false (header_encoding (root_fields eol fields sub b)) sub b k m
 
 -- it is read back
 parts_well : (n : ℕ) (digest : Bool) (eol : Ending) (b : List ℕ) (list : List Attached) → is_open eol ≡ false → MayBound b → AreGood list → AreWellRead (suc n) digest b (parts_of eol b list)
@@ -121,19 +124,19 @@ parts_well n digest eol b [] c m g = tt
 parts_well n digest eol b (a ∷ list) c m g =
     (delimiter_mark b (made_bound b m).trimmed_so, part_free b eol a c g.2, part_read n digest eol a g.0 g.1, parts_well n digest eol b list c m g.3)
 
-root_well : (eol : Ending) (fields : List (List ℕ)) (b : List ℕ) (list : List Attached) → is_open eol ≡ false → MayBound b → AreFreeFields fields → AreGood list → IsWellRead levels false (root_entity eol fields b list)
-root_well eol fields b list c m h g =
-    let head : Head = record { fields = root_fields eol fields b; separator = Some (empty_line eol) } in
-    let says = root_kind eol fields b c m h in
-    let digest : digest_below false head ≡ false = ap is_digest says in (
-      record { run = run_fields false eol fields (version eol ∷ multi_line eol (codes "mixed") b ∷ []) c h made_run; next = refl },
+root_well : (eol : Ending) (fields : List (List ℕ)) (sub b : List ℕ) (list : List Attached) → is_open eol ≡ false → is_token sub ≡ true → MayBound b → AreFreeFields fields → AreGood list → IsWellRead levels false (root_entity eol fields sub b list)
+root_well eol fields sub b list c k m h g =
+    let head : Head = record { fields = root_fields eol fields sub b; separator = Some (empty_line eol) } in
+    let says = root_kind eol fields sub b c k m h in
+    let digest : digest_below false head ≡ bytes_eq (lowered sub) (codes "digest") = ap is_digest says in (
+      record { run = run_fields false eol fields (version eol ∷ multi_line eol sub b ∷ []) c h made_run; next = refl },
       says ∙ ap (λ t. Multi b t) (sym digest),
       parts_well 98 (digest_below false head) eol b list c m g,
       tt,
       close_mark_is b,
     )
   where
-    made_run : (j : Bool) → IsRun j (version eol ∷ multi_line eol (codes "mixed") b ∷ [])
+    made_run : (j : Bool) → IsRun j (version eol ∷ multi_line eol sub b ∷ [])
     made_run j = (refl, (refl, tt))
 
 -- it has no envelope
@@ -155,14 +158,14 @@ begins eol (field ∷ fields) made s rest c h =
     let here : fields_lines eol (field ∷ fields) ≡ k.first ∷ ls = ap (λ xs. xs ++ fields_lines eol fields) k.lines_are in
     begins_by k.first ((ls ++ (version eol ∷ made)) ++ s) ((fields_lines eol (field ∷ fields) ++ (version eol ∷ made)) ++ s) rest (ap (λ xs. (xs ++ (version eol ∷ made)) ++ s) here) k.start
 
-read_built : (eol : Ending) (fields : List (List ℕ)) (b : List ℕ) (list : List Attached) → is_open eol ≡ false → MayBound b → AreFreeFields fields → AreGood list → tree (built eol fields list b) ≡ record { envelope = None; root = root_entity eol fields b list }
-read_built eol fields b list c m h g =
-    let root = root_entity eol fields b list in
-    ap (λ t. document_of (cut t)) (sym (root_text eol fields b list))
-    ∙ (ap document_of (cut_text (print root) (root_full eol fields b list c m h g).lines)
+read_built : (eol : Ending) (fields : List (List ℕ)) (sub b : List ℕ) (list : List Attached) → is_open eol ≡ false → is_token sub ≡ true → MayBound b → AreFreeFields fields → AreGood list → tree (built_as eol fields list (plain sub b)) ≡ record { envelope = None; root = root_entity eol fields sub b list }
+read_built eol fields sub b list c k m h g =
+    let root = root_entity eol fields sub b list in
+    ap (λ t. document_of (cut t)) (sym (root_text eol fields sub b list))
+    ∙ (ap document_of (cut_text (print root) (root_full eol fields sub b list c k m h g).lines)
     ∙ read_parts None (print root) root
-    (begins eol fields (multi_line eol (codes "mixed") b ∷ []) (empty_line eol ∷ []) (print_parts (parts_of eol b list) ++ (end_line eol b ∷ [])) c h)
-    (well_read levels false root (root_well eol fields b list c m h g)))
+    (begins eol fields (multi_line eol sub b ∷ []) (empty_line eol ∷ []) (print_parts (parts_of eol b list) ++ (end_line eol b ∷ [])) c h)
+    (well_read levels false root (root_well eol fields sub b list c k m h g)))
 
 -- what its parts hold
 or_true : (t : Bool) → true ≡ (t || true)
@@ -217,9 +220,9 @@ parts_count eol b place digest (a ∷ list) = ap suc (parts_count eol b (place +
 extracted : (o : Option Placed) (text : List ℕ) → Holds o text → IsExtract (option_and_then (section_below []) o) text
 extracted o text h = subst (λ p. IsExtract (option_and_then (section_below []) p) text) (sym h.found) h.content
 
-gives_back : (eol : Ending) (fields : List (List ℕ)) (b : List ℕ) (list : List Attached) → is_open eol ≡ false → AreGood list → GivesBack list (record { envelope = None; root = root_entity eol fields b list })
-gives_back eol fields b list c g =
-    let t : Document = record { envelope = None; root = root_entity eol fields b list } in
+gives_back : (eol : Ending) (fields : List (List ℕ)) (sub b : List ℕ) (list : List Attached) → is_open eol ≡ false → AreGood list → GivesBack list (record { envelope = None; root = root_entity eol fields sub b list })
+gives_back eol fields sub b list c g =
+    let t : Document = record { envelope = None; root = root_entity eol fields sub b list } in
     record {
       root = root_of t;
       found = refl;
@@ -255,9 +258,10 @@ good_parts (a ∷ list) h k s =
     let q = first_passes (λ (x : Attached). is_name_or_none x.name) a list k in
     (p.0, q.0, s.0, good_parts list p.1 q.1 s.1)
 
-bounded : (t : Bool) → (if t then None else Some build.BadBoundary) ≡ None → t ≡ true
-bounded true h = refl
-bounded false h = absurd cc
+allowed : (t u : Bool) → (if t then (if u then None else Some build.BadBoundary) else Some build.BadSubtype) ≡ None → (t ≡ true) × (u ≡ true)
+allowed true true h = (refl, refl)
+allowed true false h = absurd cc
+allowed false u h = absurd cc
 
 closed_eol : (eol : Ending) → eol ≢ Missing → is_open eol ≡ false
 closed_eol Crlf h = refl
@@ -265,30 +269,34 @@ closed_eol Lf h = refl
 closed_eol Missing h = absurd (h refl)
 
 -- what is known of a message that is built
-pub record IsBuilt (eol : Ending) (fields : List (List ℕ)) (parts : List Attached) (boundary : List ℕ) : Type 0 where
+pub record IsBuilt (eol : Ending) (fields : List (List ℕ)) (parts : List Attached) (sub boundary : List ℕ) : Type 0 where
   pub closed : is_open eol ≡ false
   pub good : AreGood parts
-  pub read : tree (built eol fields parts boundary) ≡ record { envelope = None; root = root_entity eol fields boundary parts }
+  pub read : tree (built_as eol fields parts (plain sub boundary)) ≡ record { envelope = None; root = root_entity eol fields sub boundary parts }
 
-pub is_built : (eol : Ending) (fields : List (List ℕ)) (parts : List Attached) (boundary : List ℕ) → eol ≢ Missing → HaveBytes parts → build_refusal fields parts boundary ≡ None → IsBuilt eol fields parts boundary
-is_built eol fields parts boundary is small none =
+pub is_built : (eol : Ending) (fields : List (List ℕ)) (parts : List Attached) (sub boundary : List ℕ) → eol ≢ Missing → HaveBytes parts → refusal_as fields parts (plain sub boundary) ≡ None → IsBuilt eol fields parts sub boundary
+is_built eol fields parts sub boundary is small none =
     let c = closed_eol eol is in
     let p = none_at build.BadField (first_failing is_free_field fields) _ none in
     let q = none_at build.BadType (first_failing (λ (a : Attached). is_media a.media) parts) _ p.1 in
     let r = none_at build.BadName (first_failing (λ (a : Attached). is_name_or_none a.name) parts) _ q.1 in
-    let m = may_bound boundary (bounded (is_boundary boundary) r.1) in
+    let w = allowed (is_token sub) (is_boundary boundary) r.1 in
+    let m = may_bound boundary w.1 in
     let good = good_parts parts q.0 r.0 small in
-    record { closed = c; good = good; read = read_built eol fields boundary parts c m (free_fields fields p.0) good }
+    record { closed = c; good = good; read = read_built eol fields sub boundary parts c w.0 m (free_fields fields p.0) good }
 
 -- the k-th part of a built message
-pub part_at : (eol : Ending) (fields : List (List ℕ)) (b : List ℕ) (list : List Attached) (k : ℕ) (a : Attached) → counted k list ≡ Some a
-    → IsPart eol (section_at (1 ∷ k ∷ []) (record { envelope = None; root = root_entity eol fields b list })) a
-part_at eol fields b list k a e =
-    let t : Document = record { envelope = None; root = root_entity eol fields b list } in
+pub part_at : (eol : Ending) (fields : List (List ℕ)) (sub b : List ℕ) (list : List Attached) (k : ℕ) (a : Attached) → counted k list ≡ Some a
+    → IsPart eol (section_at (1 ∷ k ∷ []) (record { envelope = None; root = root_entity eol fields sub b list })) a
+part_at eol fields sub b list k a e =
+    let t : Document = record { envelope = None; root = root_entity eol fields sub b list } in
     let p = parts_are eol b _ _ list k a e in
     record { place = p.place; found = ap (option_and_then (section_below [])) p.found; entity_is = p.entity_is }
 
+pub built_multiparts_lem : BuiltMultipartsGiveBack
+built_multiparts_lem eol fields parts sub boundary is small none =
+    let b = is_built eol fields parts sub boundary is small none in
+    subst (GivesBack parts) (sym b.read) (gives_back eol fields sub boundary parts b.closed b.good)
+
 pub built_messages_lem : BuiltMessagesGiveBack
-built_messages_lem eol fields parts boundary is small none =
-    let b = is_built eol fields parts boundary is small none in
-    subst (GivesBack parts) (sym b.read) (gives_back eol fields boundary parts b.closed b.good)
+built_messages_lem eol fields parts boundary is small none = built_multiparts_lem eol fields parts (codes "mixed") boundary is small none

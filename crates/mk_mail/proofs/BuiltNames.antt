@@ -71,9 +71,9 @@ said_text_is name h =
 pub names_said : BuiltNamesAreSaid
 names_said eol fields files boundary is small none k a name p e n h b found =
     let parts = map named_in_utf8 files in
-    let m = is_built eol fields parts boundary is small none in
+    let m = is_built eol fields parts (codes "mixed") boundary is small none in
     let c = counted_map named_in_utf8 files k a e in
-    let part = part_at eol fields boundary parts k (named_in_utf8 a) c in
+    let part = part_at eol fields (codes "mixed") boundary parts k (named_in_utf8 a) c in
     let given = name_given a name n h in
     let same : ◌≡◌ {A = Option Placed} (Some part.place) (Some p) = sym part.found ∙ (ap (section_at (1 ∷ k ∷ [])) (sym m.read) ∙ found) in
     let here : part.place ≡ p = cc in

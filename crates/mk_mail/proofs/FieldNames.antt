@@ -1,6 +1,6 @@
 -- Names of fields: those of a message, and what letters make of them.
 use Rattle.std.proofs.Common.{◌≡◌, ◌&&◌, ◌||◌, ◌⊎◌, ◌++◌, ℕ, Bool, true, false, not, List, [], ◌∷◌, Option, None, refl, ap, sym, ◌∙◌, subst, inl, inr, map, drop, filter, append_assoc, append-nil}
-use Rattle.std.specs.List.{list_any}
+use Rattle.std.specs.List.{list_all, list_any}
 use Rattle.std.proofs.lemmas.Bool.{cases_Bool, or_parts}
 use Rattle.std.proofs.lemmas.List.Elements.{filter-append}
 use Rattle.std.proofs.lemmas.List.{map-append}
@@ -33,6 +33,12 @@ any_hit p ys zs rest y e t h = sym (ap (list_any p) e ∙ ap (λ b. b || list_an
 
 pub any_miss : {X : Type 0} (p : X → Bool) (ys zs rest : List X) (y : X) → ys ≡ y ∷ rest → p y ≡ false → list_any p ys ≡ list_any p zs → list_any p rest ≡ list_any p zs
 any_miss p ys zs rest y e t h = sym (ap (list_any p) e ∙ ap (λ b. b || list_any p rest) t) ∙ h
+
+pub all_hit : {X : Type 0} (p : X → Bool) (ys zs rest : List X) (y : X) → ys ≡ y ∷ rest → p y ≡ true → list_all p ys ≡ list_all p zs → list_all p rest ≡ list_all p zs
+all_hit p ys zs rest y e t h = sym (ap (list_all p) e ∙ ap (λ b. b && list_all p rest) t) ∙ h
+
+pub all_miss : {X : Type 0} (p : X → Bool) (ys zs rest : List X) (y : X) → ys ≡ y ∷ rest → p y ≡ false → list_all p ys ≡ list_all p zs → false ≡ list_all p zs
+all_miss p ys zs rest y e t h = sym (ap (list_all p) e ∙ ap (λ b. b && list_all p rest) t) ∙ h
 
 -- work after other work
 pub chained : (old mid : Work) (f g : List (List ℕ) → Work) → mid ≡ then_do old g → then_do mid f ≡ then_do old (λ names. then_do (g names) f)

@@ -1,5 +1,8 @@
 -- A message filtered by letters: its fields alone change, so it begins and ends as it did.
-use Rattle.std.proofs.Common.{◌≡◌, ◌&&◌, ◌||◌, ◌++◌, ℕ, Bool, true, false, not, if◌then◌else◌, Option, None, Some, Result, Ok, Err, List, [], ◌∷◌, drop, refl, ap, sym, ◌∙◌, subst, inl, inr, map, append_assoc}
+use Rattle.mk_mailbox.specs.declared.from_lines.FromLines.{FromLines}
+use Rattle.mk_mailbox.specs.declared.from_lines.FromLines.TheVariants.{Any, Dated}
+use Rattle.mk_mailbox.specs.Pieces.{is_left_alone, is_mail_start}
+use Rattle.std.proofs.Common.{◌≡◌, ◌&&◌, ◌||◌, ◌++◌, ℕ, Bool, true, false, not, if◌then◌else◌, Option, None, Some, Result, Ok, Err, List, [], ◌∷◌, drop, filter, refl, ap, sym, ◌∙◌, subst, inl, inr, map, append_assoc}
 use Rattle.std.specs.List.{list_any}
 use Rattle.std.proofs.lemmas.Bool.{cases_Bool}
 use Rattle.mk_line.specs.declared.cutting.Ending.{Ending}
@@ -28,8 +31,10 @@ use Rattle.mk_decide.proofs.Answered.{Holds, field_holds, unless_holds}
 use Rattle.mk_edit.proofs.GroupFacts.{groups_read_back_lem}
 use Rattle.mk_decide.proofs.Late.{IsFair, fair, told}
 use Rattle.mk_decide.proofs.SectionSites.{head_cut, head_is_run, site}
-use Rattle.mk_mail.specs.Filtered.{FilteredStayApart, filtered, outcome, text_left}
-use Rattle.mk_mail.specs.Letters.{PlainLetters, Work, add_if_letter, added, added_full, edits_of, first_letter, is_bare, last_of, letter, made_old, name_in, next_number, old_name, only_letter, prefixed_letter, removed_all, rename_letter, renamed_all, respelling, respelt_all, root_names, root_path, same_name, those, untouched, worked}
+use Rattle.mk_mail.specs.Filtered.{FilteredStayApart, filtered, filtered_in, outcome, text_left}
+use Rattle.mk_mail.specs.Letters.{PlainLetters, PlainPattern, Work, add_if_letter, added, added_full, dropped, edits_of, first_letter, is_bare, is_dropped, last_of, letter, made_old, name_in, next_number, old_name, only_letter, prefixed_letter, removed_all, rename_letter, renamed_all, respelling, respelt_all, root_names, root_path, same_name, those, untouched, worked}
+use Rattle.mk_mailbox.specs.Dates.{ends_with_date}
+use Rattle.mk_mail.proofs.FieldNames.{both_true}
 use Rattle.mk_mail.proofs.MailChains.{AreMessage, IsKept, IsWhole, begins_from, ends_empty, kept_apart}
 
 -- ---- the edits of letters are edits of the root's fields
@@ -75,6 +80,9 @@ either_root : (t : Bool) (v w : Work) → HasRootEdits v → HasRootEdits w → 
 either_root true v w h g = h
 either_root false v w h g = g
 
+dropped_root : (ps : List PlainPattern) (names : List (List ℕ)) → HasRootEdits (dropped ps names)
+dropped_root ps names = mapped (λ own. RemoveField root_path own 1) (filter (is_dropped ps) names) (λ own. refl)
+
 rename_root : (p : List ℕ × List ℕ) (names : List (List ℕ)) → HasRootEdits (rename_letter p names)
 rename_root p names =
     either_root (same_name p.0 p.1) (respelt_all p.0 p.1 names) (renamed_all p.0 p.1 names) (respelling_root p.0 p.1 (Some 1) names)
@@ -109,7 +117,7 @@ letter_root f (Some x) w k h = joined w.edits (f x w.names).edits h (k x w.names
 
 worked_root : (eol : Ending) (l : PlainLetters) (names : List (List ℕ)) → HasRootEdits (worked eol l names)
 worked_root eol l names =
-    let renamed = letter rename_letter l.rename (untouched names) in
+    let renamed = letter rename_letter l.rename (dropped l.drops names) in
     let with_if = letter (add_if_letter eol) l.add_if renamed in
     let with_one = letter (added eol) l.add with_if in
     let prefixed = letter (prefixed_letter eol) l.prefixed with_one in
@@ -119,7 +127,7 @@ worked_root eol l names =
     (letter_root (prefixed_letter eol) l.prefixed with_one (λ field ns. prefixed_root eol field ns)
     (letter_root (added eol) l.add with_if (λ field ns. (refl, tt))
     (letter_root (add_if_letter eol) l.add_if renamed (λ field ns. add_if_root eol field ns)
-    (letter_root rename_letter l.rename (untouched names) (λ p ns. rename_root p ns) tt)))))
+    (letter_root rename_letter l.rename (dropped l.drops names) (λ p ns. rename_root p ns) (dropped_root l.drops names))))))
 
 edits_root : (text : List ℕ) (l : PlainLetters) → AreRootEdits (edits_of text l)
 edits_root text l =
@@ -232,13 +240,17 @@ envelope_some [] = tt
 envelope_some (l ∷ ls) = env_some (is_from_line l.content) l ls refl
 
 -- a From-line at the start is the envelope
-env_begins : (t : Bool) (l : TextLine) (ls more : List TextLine) → is_from_line l.content ≡ t → t ≡ true → begins_from (option_line (enveloped t l ls).envelope ++ more) ≡ true
-env_begins true l ls more h e = h
-env_begins false l ls more h e = cc
+start_from : (way : FromLines) (content : List ℕ) → is_mail_start way content ≡ true → is_from_line content ≡ true
+start_from Any content h = h
+start_from Dated content h = (both_true (is_from_line content) (ends_with_date content) h).0
 
-envelope_begins : (ls more : List TextLine) → begins_from ls ≡ true → begins_from (option_line (document_of ls).envelope ++ more) ≡ true
-envelope_begins [] more h = cc
-envelope_begins (l ∷ ls) more h = env_begins (is_from_line l.content) l ls more refl h
+env_begins : (way : FromLines) (t : Bool) (l : TextLine) (ls more : List TextLine) → is_from_line l.content ≡ t → is_mail_start way l.content ≡ true → begins_from way (option_line (enveloped t l ls).envelope ++ more) ≡ true
+env_begins way true l ls more h s = s
+env_begins way false l ls more h s = let from = start_from way l.content s in cc
+
+envelope_begins : (way : FromLines) (ls more : List TextLine) → begins_from way ls ≡ true → begins_from way (option_line (document_of ls).envelope ++ more) ≡ true
+envelope_begins way [] more h = cc
+envelope_begins way (l ∷ ls) more h = env_begins way (is_from_line l.content) l ls more refl h
 
 root_run : (text : List ℕ) → IsRun false (field_lines (tree text).root)
 root_run text =
@@ -248,31 +260,31 @@ root_run text =
 
 -- ---- such lines change nothing of what follows them
 
-whole_behind : (ls rest : List TextLine) → AreSomeLines ls → IsWhole false rest → IsWhole false (ls ++ rest)
-whole_behind [] rest h w = w
-whole_behind (l ∷ ls) rest h w = (refl, subst (λ e. IsWhole e (ls ++ rest)) (sym h.0) (whole_behind ls rest h.1 w))
+whole_behind : (way : FromLines) (ls rest : List TextLine) → AreSomeLines ls → IsWhole way false rest → IsWhole way false (ls ++ rest)
+whole_behind way [] rest h w = w
+whole_behind way (l ∷ ls) rest h w = (refl, subst (λ e. IsWhole way e (ls ++ rest)) (sym h.0) (whole_behind way ls rest h.1 w))
 
-whole_rest : (ls rest : List TextLine) → AreSomeLines ls → IsWhole false (ls ++ rest) → IsWhole false rest
-whole_rest [] rest h w = w
-whole_rest (l ∷ ls) rest h w = whole_rest ls rest h.1 (subst (λ e. IsWhole e (ls ++ rest)) h.0 w.1)
+whole_rest : (way : FromLines) (ls rest : List TextLine) → AreSomeLines ls → IsWhole way false (ls ++ rest) → IsWhole way false rest
+whole_rest way [] rest h w = w
+whole_rest way (l ∷ ls) rest h w = whole_rest way ls rest h.1 (subst (λ e. IsWhole way e (ls ++ rest)) h.0 w.1)
 
 ends_behind : (ls rest : List TextLine) → AreSomeLines ls → ends_empty false (ls ++ rest) ≡ ends_empty false rest
 ends_behind [] rest h = refl
 ends_behind (l ∷ ls) rest h = ap (λ e. ends_empty e (ls ++ rest)) h.0 ∙ ends_behind ls rest h.1
 
 -- lines with the same rest after others that aren't empty
-same_rest : (old new front other rest : List TextLine) → old ≡ front ++ rest → new ≡ other ++ rest → AreSomeLines front → AreSomeLines other
-    → (begins_from old ≡ true → begins_from new ≡ true) → IsWhole false old → IsKept old new
-same_rest old new front other rest o n f g b w = record {
-  whole = subst (IsWhole false) (sym n) (whole_behind other rest g (whole_rest front rest f (subst (IsWhole false) o w)));
+same_rest : (way : FromLines) (old new front other rest : List TextLine) → old ≡ front ++ rest → new ≡ other ++ rest → AreSomeLines front → AreSomeLines other
+    → (begins_from way old ≡ true → begins_from way new ≡ true) → IsWhole way false old → IsKept way old new
+same_rest way old new front other rest o n f g b w = record {
+  whole = subst (IsWhole way false) (sym n) (whole_behind way other rest g (whole_rest way front rest f (subst (IsWhole way false) o w)));
   ends = λ h. ap (ends_empty false) n ∙ (ends_behind other rest g ∙ (sym (ends_behind front rest f) ∙ (sym (ap (ends_empty false) o) ∙ h)));
   begins = b;
 }
 
 -- ---- messages that letters filter
 
-fielded_kept : (text : List ℕ) (u : Document) → IsFielded (tree text) u → tree (printed u) ≡ u → IsWhole false (cut text) → IsKept (cut text) (cut (printed u))
-fielded_kept text u a stable w =
+fielded_kept : (way : FromLines) (text : List ℕ) (u : Document) → IsFielded (tree text) u → tree (printed u) ≡ u → IsWhole way false (cut text) → IsKept way (cut text) (cut (printed u))
+fielded_kept way text u a stable w =
     let t = tree text in
     let front = option_line t.envelope in
     let rest = behind_fields t.root in
@@ -281,17 +293,21 @@ fielded_kept text u a stable w =
     sym (lines_kept (printed u)) ∙ (ap document_lines (stable ∙ a.same) ∙ ap (λ ls. front ++ ls) (changed_lines a.fields t.root)) in
     let run : IsRun false a.fields = subst (IsRun false) (ap (λ (d : Document). field_lines d.root) (stable ∙ a.same) ∙ fields_are a.fields t.root) (root_run (printed u)) in
     let some = envelope_some (cut text) in
-    same_rest (cut text) (cut (printed u)) (front ++ field_lines t.root) (front ++ a.fields) rest
+    same_rest way (cut text) (cut (printed u)) (front ++ field_lines t.root) (front ++ a.fields) rest
     (old_lines ∙ sym (append_assoc front (field_lines t.root) rest)) (new_lines ∙ sym (append_assoc front a.fields rest))
     (some_append front (field_lines t.root) some (run_some false (field_lines t.root) (root_run text))) (some_append front a.fields some (run_some false a.fields run))
-    (λ h. ap begins_from new_lines ∙ envelope_begins (cut text) (a.fields ++ rest) h) w
+    (λ h. ap (begins_from way) new_lines ∙ envelope_begins way (cut text) (a.fields ++ rest) h) w
 
-kept_by : (l : PlainLetters) (text : List ℕ) (r : Together) → outcome l text ≡ r → FieldedBy (tree text) r → IsWhole false (cut text) → IsKept (cut text) (cut (text_left text r))
-kept_by l text (Ok q) e a w = fielded_kept text q.0 a (groups_read_back_lem (edits_of text l) text q.0 q.1 e) w
-kept_by l text (Err q) e a w = record { whole = w; ends = λ h. h; begins = λ h. h }
+kept_by : (way : FromLines) (l : PlainLetters) (text : List ℕ) (r : Together) → outcome l text ≡ r → FieldedBy (tree text) r → IsWhole way false (cut text) → IsKept way (cut text) (cut (text_left text r))
+kept_by way l text (Ok q) e a w = fielded_kept way text q.0 a (groups_read_back_lem (edits_of text l) text q.0 q.1 e) w
+kept_by way l text (Err q) e a w = record { whole = w; ends = λ h. h; begins = λ h. h }
 
-kept : (l : PlainLetters) (text : List ℕ) → AreMessage (cut text) → IsKept (cut text) (cut (filtered l text))
-kept l text m = kept_by l text (outcome l text) refl (together_fielded (edits_of text l) (tree text) (edits_root text l)) m.1
+pub filtered_kept : (way : FromLines) (l : PlainLetters) (text : List ℕ) → IsWhole way false (cut text) → IsKept way (cut text) (cut (filtered l text))
+filtered_kept way l text w = kept_by way l text (outcome l text) refl (together_fielded (edits_of text l) (tree text) (edits_root text l)) w
+
+kept : (way : FromLines) (l : PlainLetters) (text : List ℕ) (alone : Bool) → AreMessage way (cut text) → IsKept way (cut text) (cut (if alone then text else filtered l text))
+kept way l text true m = record { whole = m.1; ends = λ h. h; begins = λ h. h }
+kept way l text false m = filtered_kept way l text m.1
 
 pub filtered_apart : FilteredStayApart
-filtered_apart l text = kept_apart (filtered l) (kept l) text
+filtered_apart way l text = kept_apart way (filtered_in way l) (λ message m. kept way l message (is_left_alone way message) m) text

@@ -10,3 +10,4 @@ pub mod BuiltNames
 pub mod FieldNames
 pub mod MailChains
 pub mod FilteredMail
+pub mod RoundsMade

@@ -1,22 +1,22 @@
 -- Texts that are messages of one mailbox: joined they are cut into these messages again.
+use Rattle.mk_mailbox.specs.declared.from_lines.FromLines.{FromLines}
 use Rattle.std.proofs.Common.{◌≡◌, ◌++◌, ℕ, Bool, true, false, List, [], ◌∷◌, refl, ap, sym, ◌∙◌, subst, inl, inr, map, filter, append-nil}
 use Rattle.std.specs.List.{flat_map}
 use Rattle.std.proofs.lemmas.Bool.{cases_Bool}
-use Rattle.mk_line.specs.Kinds.{is_from_line}
 use Rattle.mk_line.specs.declared.cutting.Ending.{Ending}
 use Rattle.mk_line.specs.declared.cutting.Ending.TheVariants.{Crlf, Lf, Missing}
 use Rattle.mk_line.specs.Lines.{AreLines, IsLine, TextLine, cut, is_nil, text_line, text_of}
 use Rattle.mk_line.proofs.Cuts.{cut_text, lines_cut, text_append, text_cut}
 use Rattle.mk_head.specs.Splits.{has_line}
 use Rattle.mk_mail.specs.Filtered.{is_left}
-use Rattle.mk_mailbox.specs.Pieces.{is_first, front, later, parted, mailbox_pieces}
+use Rattle.mk_mailbox.specs.Pieces.{is_first, is_mail_start, front, later, parted, mailbox_pieces}
 use Rattle.mk_mail.proofs.FieldNames.{both_true}
 use Rattle.mk_mailbox.proofs.PieceLaws.{lines_front}
 
 -- no line begins a message, where `e` says whether the line before the first is empty
-abbrev pub IsWhole : Bool → List TextLine → Type 0
-IsWhole e [] = Unit {0}
-IsWhole e (l ∷ ls) = (is_first e l.content ≡ false) × IsWhole (is_nil l.content) ls
+abbrev pub IsWhole : FromLines → Bool → List TextLine → Type 0
+IsWhole way e [] = Unit {0}
+IsWhole way e (l ∷ ls) = (is_first way e l.content ≡ false) × IsWhole way (is_nil l.content) ls
 
 -- whether the last line is empty; `e` where there is none
 abbrev pub ends_empty : Bool → List TextLine → Bool
@@ -24,62 +24,62 @@ ends_empty e [] = e
 ends_empty e (l ∷ ls) = ends_empty (is_nil l.content) ls
 
 -- the first line is a From-line
-abbrev pub begins_from : List TextLine → Bool
-begins_from [] = false
-begins_from (l ∷ ls) = is_from_line l.content
+abbrev pub begins_from : FromLines → List TextLine → Bool
+begins_from way [] = false
+begins_from way (l ∷ ls) = is_mail_start way l.content
 
 -- lines of a message: some, none of which begins another
-abbrev pub AreMessage : List TextLine → Type 0
-AreMessage ls = (has_line ls ≡ true) × IsWhole false ls
+abbrev pub AreMessage : FromLines → List TextLine → Type 0
+AreMessage way ls = (has_line ls ≡ true) × IsWhole way false ls
 
 -- what stands before other messages ends with an empty line, and they begin with a From-line
-abbrev pub AreBefore : Bool → List (List TextLine) → Type 0
-AreBefore t [] = Unit {0}
-AreBefore t (m ∷ ms) = (t ≡ true) × (begins_from m ≡ true)
+abbrev pub AreBefore : FromLines → Bool → List (List TextLine) → Type 0
+AreBefore way t [] = Unit {0}
+AreBefore way t (m ∷ ms) = (t ≡ true) × (begins_from way m ≡ true)
 
 -- the lines of the messages of a mailbox
-abbrev pub AreMail : List (List TextLine) → Type 0
-AreMail [] = Unit {0}
-AreMail (m ∷ ms) = AreMessage m × AreBefore (ends_empty false m) ms × AreMail ms
+abbrev pub AreMail : FromLines → List (List TextLine) → Type 0
+AreMail way [] = Unit {0}
+AreMail way (m ∷ ms) = AreMessage way m × AreBefore way (ends_empty false m) ms × AreMail way ms
 
 -- texts that are the messages of one mailbox
-abbrev pub IsMail : List (List ℕ) → Type 0
-IsMail ps = AreMail (map cut ps)
+abbrev pub IsMail : FromLines → List (List ℕ) → Type 0
+IsMail way ps = AreMail way (map cut ps)
 
 -- ---- joined lines are parted again
 
-front_whole : (e : Bool) (ls ms : List TextLine) → IsWhole e ls → front e (ls ++ ms) ≡ ls ++ front (ends_empty e ls) ms
-front_whole e [] ms w = refl
-front_whole e (l ∷ ls) ms w = rw w.0 (ap (λ (xs : List TextLine). l ∷ xs) (front_whole (is_nil l.content) ls ms w.1))
+front_whole : (way : FromLines) (e : Bool) (ls ms : List TextLine) → IsWhole way e ls → front way e (ls ++ ms) ≡ ls ++ front way (ends_empty e ls) ms
+front_whole way e [] ms w = refl
+front_whole way e (l ∷ ls) ms w = rw w.0 (ap (λ (xs : List TextLine). l ∷ xs) (front_whole way (is_nil l.content) ls ms w.1))
 
-later_whole : (e : Bool) (ls ms : List TextLine) → IsWhole e ls → later e (ls ++ ms) ≡ later (ends_empty e ls) ms
-later_whole e [] ms w = refl
-later_whole e (l ∷ ls) ms w = rw w.0 (later_whole (is_nil l.content) ls ms w.1)
+later_whole : (way : FromLines) (e : Bool) (ls ms : List TextLine) → IsWhole way e ls → later way e (ls ++ ms) ≡ later way (ends_empty e ls) ms
+later_whole way e [] ms w = refl
+later_whole way e (l ∷ ls) ms w = rw w.0 (later_whole way (is_nil l.content) ls ms w.1)
 
-front_from : (ms : List TextLine) → begins_from ms ≡ true → front true ms ≡ []
-front_from [] b = refl
-front_from (m ∷ ms) b = rw b refl
+front_from : (way : FromLines) (ms : List TextLine) → begins_from way ms ≡ true → front way true ms ≡ []
+front_from way [] b = refl
+front_from way (m ∷ ms) b = rw b refl
 
-later_from : (ms : List TextLine) → begins_from ms ≡ true → later true ms ≡ parted ms
-later_from [] b = refl
-later_from (m ∷ ms) b = rw b refl
+later_from : (way : FromLines) (ms : List TextLine) → begins_from way ms ≡ true → later way true ms ≡ parted way ms
+later_from way [] b = refl
+later_from way (m ∷ ms) b = rw b refl
 
 -- the lines of a message, and after them those of others
-parted_before : (ls ms : List TextLine) → AreMessage ls → ends_empty false ls ≡ true → begins_from ms ≡ true → parted (ls ++ ms) ≡ ls ∷ parted ms
-parted_before [] ms a e b = cc
-parted_before (l ∷ ls) ms a e b =
+parted_before : (way : FromLines) (ls ms : List TextLine) → AreMessage way ls → ends_empty false ls ≡ true → begins_from way ms ≡ true → parted way (ls ++ ms) ≡ ls ∷ parted way ms
+parted_before way [] ms a e b = cc
+parted_before way (l ∷ ls) ms a e b =
     let i = is_nil l.content in
-    let front_is : front i (ls ++ ms) ≡ ls = front_whole i ls ms a.1.1 ∙ (ap (λ x. ls ++ front x ms) e ∙ (ap (λ xs. ls ++ xs) (front_from ms b) ∙ append-nil ls)) in
-    let later_is : later i (ls ++ ms) ≡ parted ms = later_whole i ls ms a.1.1 ∙ (ap (λ x. later x ms) e ∙ later_from ms b) in
+    let front_is : front way i (ls ++ ms) ≡ ls = front_whole way i ls ms a.1.1 ∙ (ap (λ x. ls ++ front way x ms) e ∙ (ap (λ xs. ls ++ xs) (front_from way ms b) ∙ append-nil ls)) in
+    let later_is : later way i (ls ++ ms) ≡ parted way ms = later_whole way i ls ms a.1.1 ∙ (ap (λ x. later way x ms) e ∙ later_from way ms b) in
     (λ k. (l ∷ front_is k) ∷ later_is k)
 
 -- the lines of a message alone
-parted_alone : (ls : List TextLine) → AreMessage ls → parted ls ≡ ls ∷ []
-parted_alone [] a = cc
-parted_alone (l ∷ ls) a =
+parted_alone : (way : FromLines) (ls : List TextLine) → AreMessage way ls → parted way ls ≡ ls ∷ []
+parted_alone way [] a = cc
+parted_alone way (l ∷ ls) a =
     let i = is_nil l.content in
-    let front_is : front i ls ≡ ls = ap (front i) (sym (append-nil ls)) ∙ (front_whole i ls [] a.1.1 ∙ append-nil ls) in
-    let later_is : later i ls ≡ [] = ap (later i) (sym (append-nil ls)) ∙ later_whole i ls [] a.1.1 in
+    let front_is : front way i ls ≡ ls = ap (front way i) (sym (append-nil ls)) ∙ (front_whole way i ls [] a.1.1 ∙ append-nil ls) in
+    let later_is : later way i ls ≡ [] = ap (later way i) (sym (append-nil ls)) ∙ later_whole way i ls [] a.1.1 in
     (λ k. (l ∷ front_is k) ∷ later_is k)
 
 -- ---- joined texts
@@ -107,92 +107,92 @@ cut_joined p rest t =
     ap cut (λ i. sym (text_cut p) i ++ sym (text_cut rest) i)
     ∙ (ap cut (sym (text_append (cut p) (cut rest))) ∙ cut_text (cut p ++ cut rest) (lines_joined false (cut p) (cut rest) (lines_cut p) t (lines_cut rest)))
 
-begins_on : (ls ms : List TextLine) → begins_from ls ≡ true → begins_from (ls ++ ms) ≡ true
-begins_on [] ms b = cc
-begins_on (l ∷ ls) ms b = b
+begins_on : (way : FromLines) (ls ms : List TextLine) → begins_from way ls ≡ true → begins_from way (ls ++ ms) ≡ true
+begins_on way [] ms b = cc
+begins_on way (l ∷ ls) ms b = b
 
 -- all texts of a mailbox begin as the first does
-begins_joined : (q : List ℕ) (qs : List (List ℕ)) → AreBefore (ends_empty false (cut q)) (map cut qs) → begins_from (cut q) ≡ true → begins_from (cut (q ++ flat_map (λ p. p) qs)) ≡ true
-begins_joined q [] j b = ap (λ x. begins_from (cut x)) (append-nil q) ∙ b
-begins_joined q (r ∷ rs) j b = ap begins_from (cut_joined q (flat_map (λ p. p) (r ∷ rs)) j.0) ∙ begins_on (cut q) (cut (flat_map (λ p. p) (r ∷ rs))) b
+begins_joined : (way : FromLines) (q : List ℕ) (qs : List (List ℕ)) → AreBefore way (ends_empty false (cut q)) (map cut qs) → begins_from way (cut q) ≡ true → begins_from way (cut (q ++ flat_map (λ p. p) qs)) ≡ true
+begins_joined way q [] j b = ap (λ x. begins_from way (cut x)) (append-nil q) ∙ b
+begins_joined way q (r ∷ rs) j b = ap (begins_from way) (cut_joined q (flat_map (λ p. p) (r ∷ rs)) j.0) ∙ begins_on way (cut q) (cut (flat_map (λ p. p) (r ∷ rs))) b
 
-pub mail_parted : (ps : List (List ℕ)) → IsMail ps → mailbox_pieces (flat_map (λ p. p) ps) ≡ ps
-mail_parted [] h = refl
-mail_parted (p ∷ []) h =
-    ap mailbox_pieces (append-nil p)
-    ∙ (ap (λ ls. map text_of ls) (parted_alone (cut p) h.0) ∙ ap (λ x. x ∷ []) (text_cut p))
-mail_parted (p ∷ q ∷ qs) h =
+pub mail_parted : (way : FromLines) (ps : List (List ℕ)) → IsMail way ps → mailbox_pieces way (flat_map (λ p. p) ps) ≡ ps
+mail_parted way [] h = refl
+mail_parted way (p ∷ []) h =
+    ap (mailbox_pieces way) (append-nil p)
+    ∙ (ap (λ ls. map text_of ls) (parted_alone way (cut p) h.0) ∙ ap (λ x. x ∷ []) (text_cut p))
+mail_parted way (p ∷ q ∷ qs) h =
     let rest = flat_map (λ p. p) (q ∷ qs) in
-    ap (λ ls. map text_of (parted ls)) (cut_joined p rest h.1.0)
-    ∙ (ap (λ ls. map text_of ls) (parted_before (cut p) (cut rest) h.0 h.1.0 (begins_joined q qs h.2.1 h.1.1))
-    ∙ (λ i. text_cut p i ∷ mail_parted (q ∷ qs) h.2 i))
+    ap (λ ls. map text_of (parted way ls)) (cut_joined p rest h.1.0)
+    ∙ (ap (λ ls. map text_of ls) (parted_before way (cut p) (cut rest) h.0 h.1.0 (begins_joined way q qs h.2.1 h.1.1))
+    ∙ (λ i. text_cut p i ∷ mail_parted way (q ∷ qs) h.2 i))
 
 -- ---- the messages of a mailbox are so
 
-whole_front : (e : Bool) (ls : List TextLine) → IsWhole e (front e ls)
-whole_front e [] = tt
-whole_front e (l ∷ ls) =
-    elim (cases_Bool (is_first e l.content)) [
+whole_front : (way : FromLines) (e : Bool) (ls : List TextLine) → IsWhole way e (front way e ls)
+whole_front way e [] = tt
+whole_front way e (l ∷ ls) =
+    elim (cases_Bool (is_first way e l.content)) [
       | inl t ↦ rw t tt
-      | inr n ↦ rw n (n, whole_front (is_nil l.content) ls)
+      | inr n ↦ rw n (n, whole_front way (is_nil l.content) ls)
     ]
 
-before_later : (e : Bool) (ls : List TextLine) → AreBefore (ends_empty e (front e ls)) (later e ls)
-before_later e [] = tt
-before_later e (l ∷ ls) =
-    elim (cases_Bool (is_first e l.content)) [
-      | inl t ↦ rw t (both_true e (is_from_line l.content) t)
-      | inr n ↦ rw n (before_later (is_nil l.content) ls)
+before_later : (way : FromLines) (e : Bool) (ls : List TextLine) → AreBefore way (ends_empty e (front way e ls)) (later way e ls)
+before_later way e [] = tt
+before_later way e (l ∷ ls) =
+    elim (cases_Bool (is_first way e l.content)) [
+      | inl t ↦ rw t (both_true e (is_mail_start way l.content) t)
+      | inr n ↦ rw n (before_later way (is_nil l.content) ls)
     ]
 
-mail_later : (e : Bool) (ls : List TextLine) → AreMail (later e ls)
-mail_later e [] = tt
-mail_later e (l ∷ ls) =
+mail_later : (way : FromLines) (e : Bool) (ls : List TextLine) → AreMail way (later way e ls)
+mail_later way e [] = tt
+mail_later way e (l ∷ ls) =
     let i = is_nil l.content in
-    elim (cases_Bool (is_first e l.content)) [
-      | inl t ↦ rw t ((refl, (refl, whole_front i ls)), before_later i ls, mail_later i ls)
-      | inr n ↦ rw n (mail_later i ls)
+    elim (cases_Bool (is_first way e l.content)) [
+      | inl t ↦ rw t ((refl, (refl, whole_front way i ls)), before_later way i ls, mail_later way i ls)
+      | inr n ↦ rw n (mail_later way i ls)
     ]
 
-mail_lines : (ls : List TextLine) → AreMail (parted ls)
-mail_lines [] = tt
-mail_lines (l ∷ ls) = let i = is_nil l.content in ((refl, (refl, whole_front i ls)), before_later i ls, mail_later i ls)
+mail_lines : (way : FromLines) (ls : List TextLine) → AreMail way (parted way ls)
+mail_lines way [] = tt
+mail_lines way (l ∷ ls) = let i = is_nil l.content in ((refl, (refl, whole_front way i ls)), before_later way i ls, mail_later way i ls)
 
 -- the lines of a message are those of its text
 abbrev AllLines : List (List TextLine) → Type 0
 AllLines [] = Unit {0}
 AllLines (m ∷ ms) = AreLines m × AllLines ms
 
-lines_message : (l : TextLine) (ls : List TextLine) → AreLines (l ∷ ls) → AreLines (l ∷ front (is_nil l.content) ls)
-lines_message l ls h = (h.0, (λ o. ap (front (is_nil l.content)) (h.1 o)), lines_front (is_nil l.content) ls h.2)
+lines_message : (way : FromLines) (l : TextLine) (ls : List TextLine) → AreLines (l ∷ ls) → AreLines (l ∷ front way (is_nil l.content) ls)
+lines_message way l ls h = (h.0, (λ o. ap (front way (is_nil l.content)) (h.1 o)), lines_front way (is_nil l.content) ls h.2)
 
-lines_later : (e : Bool) (ls : List TextLine) → AreLines ls → AllLines (later e ls)
-lines_later e [] h = tt
-lines_later e (l ∷ ls) h =
-    let rest = lines_later (is_nil l.content) ls h.2 in
-    elim (cases_Bool (is_first e l.content)) [
-      | inl t ↦ rw t (lines_message l ls h, rest)
+lines_later : (way : FromLines) (e : Bool) (ls : List TextLine) → AreLines ls → AllLines (later way e ls)
+lines_later way e [] h = tt
+lines_later way e (l ∷ ls) h =
+    let rest = lines_later way (is_nil l.content) ls h.2 in
+    elim (cases_Bool (is_first way e l.content)) [
+      | inl t ↦ rw t (lines_message way l ls h, rest)
       | inr n ↦ rw n rest
     ]
 
-lines_parted : (ls : List TextLine) → AreLines ls → AllLines (parted ls)
-lines_parted [] h = tt
-lines_parted (l ∷ ls) h = (lines_message l ls h, lines_later (is_nil l.content) ls h.2)
+lines_parted : (way : FromLines) (ls : List TextLine) → AreLines ls → AllLines (parted way ls)
+lines_parted way [] h = tt
+lines_parted way (l ∷ ls) h = (lines_message way l ls h, lines_later way (is_nil l.content) ls h.2)
 
 cut_again : (ms : List (List TextLine)) → AllLines ms → map cut (map text_of ms) ≡ ms
 cut_again [] h = refl
 cut_again (m ∷ ms) h = (λ i. cut_text m h.0 i ∷ cut_again ms h.1 i)
 
-pub mail_of : (text : List ℕ) → IsMail (mailbox_pieces text)
-mail_of text = subst AreMail (sym (cut_again (parted (cut text)) (lines_parted (cut text) (lines_cut text)))) (mail_lines (cut text))
+pub mail_of : (way : FromLines) (text : List ℕ) → IsMail way (mailbox_pieces way text)
+mail_of way text = subst (AreMail way) (sym (cut_again (parted way (cut text)) (lines_parted way (cut text) (lines_cut text)))) (mail_lines way (cut text))
 
 -- ---- messages changed one by one
 
 -- lines in the place of those of a message: none begins another, and they begin and end as these do
-pub record IsKept (old new : List TextLine) : Type 0 where
-  pub whole : IsWhole false new
+pub record IsKept (way : FromLines) (old new : List TextLine) : Type 0 where
+  pub whole : IsWhole way false new
   pub ends : ends_empty false old ≡ true → ends_empty false new ≡ true
-  pub begins : begins_from old ≡ true → begins_from new ≡ true
+  pub begins : begins_from way old ≡ true → begins_from way new ≡ true
 
 some_lines : (p : List ℕ) (ls : List TextLine) → cut p ≡ ls → is_left p ≡ true → has_line ls ≡ true
 some_lines p [] e t = ap is_left (sym (ap text_of e) ∙ text_cut p) ∙ t
@@ -202,31 +202,31 @@ ends_left : (p : List ℕ) → ends_empty false (cut p) ≡ true → is_left p �
 ends_left [] h = cc
 ends_left (x ∷ xs) h = refl
 
-begins_left : (p : List ℕ) → begins_from (cut p) ≡ true → is_left p ≡ true
-begins_left [] h = cc
-begins_left (x ∷ xs) h = refl
+begins_left : (way : FromLines) (p : List ℕ) → begins_from way (cut p) ≡ true → is_left p ≡ true
+begins_left way [] h = cc
+begins_left way (x ∷ xs) h = refl
 
-pub mail_kept : (f : List ℕ → List ℕ) → ((p : List ℕ) → AreMessage (cut p) → IsKept (cut p) (cut (f p))) → (ps : List (List ℕ)) → IsMail ps → IsMail (filter is_left (map f ps))
-mail_kept f k [] h = tt
-mail_kept f k (p ∷ []) h =
+pub mail_kept : (way : FromLines) (f : List ℕ → List ℕ) → ((p : List ℕ) → AreMessage way (cut p) → IsKept way (cut p) (cut (f p))) → (ps : List (List ℕ)) → IsMail way ps → IsMail way (filter is_left (map f ps))
+mail_kept way f k [] h = tt
+mail_kept way f k (p ∷ []) h =
     let kp = k p h.0 in
     elim (cases_Bool (is_left (f p))) [
       | inl t ↦ rw t ((some_lines (f p) (cut (f p)) refl t, kp.whole), tt, tt)
       | inr n ↦ rw n tt
     ]
-mail_kept f k (p ∷ q ∷ qs) h =
+mail_kept way f k (p ∷ q ∷ qs) h =
     let kp = k p h.0 in
     let kq = k q h.2.0 in
     let ends = kp.ends h.1.0 in
     let begins = kq.begins h.1.1 in
     let first : is_left (f p) ≡ true = ends_left (f p) ends in
-    let second : is_left (f q) ≡ true = begins_left (f q) begins in
+    let second : is_left (f q) ≡ true = begins_left way (f q) begins in
     let rest_is : filter is_left (map f (q ∷ qs)) ≡ f q ∷ filter is_left (map f qs) = rw second refl in
     let all_is : filter is_left (map f (p ∷ q ∷ qs)) ≡ f p ∷ filter is_left (map f (q ∷ qs)) = rw first refl in
-    subst IsMail (sym (all_is ∙ ap (λ xs. f p ∷ xs) rest_is)) (
+    subst (IsMail way) (sym (all_is ∙ ap (λ xs. f p ∷ xs) rest_is)) (
       (some_lines (f p) (cut (f p)) refl first, kp.whole),
       (ends, begins),
-      subst IsMail rest_is (mail_kept f k (q ∷ qs) h.2),
+      subst (IsMail way) rest_is (mail_kept way f k (q ∷ qs) h.2),
     )
 
 -- an empty text adds nothing
@@ -240,8 +240,8 @@ joined_map f [] = refl
 joined_map f (p ∷ ps) = ap (λ x. f p ++ x) (joined_map f ps)
 
 -- messages that are changed one by one so stay apart
-pub kept_apart : (f : List ℕ → List ℕ) → ((p : List ℕ) → AreMessage (cut p) → IsKept (cut p) (cut (f p))) → (text : List ℕ)
-    → mailbox_pieces (flat_map f (mailbox_pieces text)) ≡ filter is_left (map f (mailbox_pieces text))
-kept_apart f k text =
-    let ps = mailbox_pieces text in
-    ap mailbox_pieces (joined_map f ps ∙ sym (joined_left (map f ps))) ∙ mail_parted (filter is_left (map f ps)) (mail_kept f k ps (mail_of text))
+pub kept_apart : (way : FromLines) (f : List ℕ → List ℕ) → ((p : List ℕ) → AreMessage way (cut p) → IsKept way (cut p) (cut (f p))) → (text : List ℕ)
+    → mailbox_pieces way (flat_map f (mailbox_pieces way text)) ≡ filter is_left (map f (mailbox_pieces way text))
+kept_apart way f k text =
+    let ps = mailbox_pieces way text in
+    ap (mailbox_pieces way) (joined_map f ps ∙ sym (joined_left (map f ps))) ∙ mail_parted way (filter is_left (map f ps)) (mail_kept way f k ps (mail_of way text))

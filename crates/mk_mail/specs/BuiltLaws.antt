@@ -9,6 +9,7 @@ use Rattle.mk_tree.specs.Documents.{Document, tree}
 use Rattle.mk_tree.specs.Forms.{kind_in}
 use Rattle.mk_tree.specs.Sections.{Placed, children, section_at}
 use Rattle.mk_build.specs.Building.{Attached, build_refusal, built, is_said, named_in_utf8}
+use Rattle.mk_build.specs.Multiparts.{Multipart, built_as, refusal_as}
 use Rattle.mk_view.specs.Extracts.{IsExtract}
 use Rattle.mk_view.specs.TextNames.{text_name}
 
@@ -33,6 +34,15 @@ pub record GivesBack (parts : List Attached) (t : Document) : Type 0 where
 abbrev pub BuiltMessagesGiveBack : Type 0
 BuiltMessagesGiveBack = (eol : Ending) (fields : List (List ℕ)) (parts : List Attached) (boundary : List ℕ) → eol ≢ Missing → HaveBytes parts
     → build_refusal fields parts boundary ≡ None → GivesBack parts (tree (built eol fields parts boundary))
+
+-- a multipart of a subtype, with a boundary, whose texts name no charset
+abbrev pub plain : List ℕ → List ℕ → Multipart
+plain subtype boundary = record { subtype = subtype; charset = None; boundary = boundary }
+
+-- so does each message that is built as a multipart of any subtype, a digest too, where no charset is named
+abbrev pub BuiltMultipartsGiveBack : Type 0
+BuiltMultipartsGiveBack = (eol : Ending) (fields : List (List ℕ)) (parts : List Attached) (subtype boundary : List ℕ) → eol ≢ Missing → HaveBytes parts
+    → refusal_as fields parts (plain subtype boundary) ≡ None → GivesBack parts (tree (built_as eol fields parts (plain subtype boundary)))
 
 -- a file whose name is written as people write it has just that name in each message that is built in UTF-8
 abbrev pub BuiltNamesAreSaid : Type 0

@@ -1,11 +1,12 @@
 -- What letters make of the messages of a mailbox (own).
-use Rattle.std.specs.Prelude.{◌≡◌, ℕ, Bool, not, Ok, Err, List, filter, map}
+use Rattle.std.specs.Prelude.{◌≡◌, if◌then◌else◌, ℕ, Bool, not, Ok, Err, List, filter, map}
 use Rattle.std.specs.List.{flat_map}
 use Rattle.mk_line.specs.Lines.{is_nil}
 use Rattle.mk_tree.specs.Documents.{printed, tree}
 use Rattle.mk_edit.specs.Groups.{Together, together}
 use Rattle.mk_mail.specs.Letters.{PlainLetters, edits_of}
-use Rattle.mk_mailbox.specs.Pieces.{mailbox_pieces}
+use Rattle.mk_mailbox.specs.declared.from_lines.FromLines.{FromLines}
+use Rattle.mk_mailbox.specs.Pieces.{is_left_alone, mailbox_pieces}
 
 -- what the edits of letters give of a message, made one after another
 abbrev pub outcome : PlainLetters → List ℕ → Together
@@ -20,6 +21,10 @@ text_left text (Err q) = text
 abbrev pub filtered : PlainLetters → List ℕ → List ℕ
 filtered l text = text_left text (outcome l text)
 
+-- what is left of a message of a mailbox that is cut at these From-lines
+abbrev pub filtered_in : FromLines → PlainLetters → List ℕ → List ℕ
+filtered_in way l text = if is_left_alone way text then text else filtered l text
+
 -- a byte of it is left
 abbrev pub is_left : List ℕ → Bool
 is_left text = not (is_nil text)
@@ -27,5 +32,5 @@ is_left text = not (is_nil text)
 -- the filtered messages of a mailbox, one after another, are cut into just these messages again, but for one of which no byte
 -- is left
 abbrev pub FilteredStayApart : Type 0
-FilteredStayApart = (l : PlainLetters) (text : List ℕ) →
-    mailbox_pieces (flat_map (filtered l) (mailbox_pieces text)) ≡ filter is_left (map (filtered l) (mailbox_pieces text))
+FilteredStayApart = (way : FromLines) (l : PlainLetters) (text : List ℕ) →
+    mailbox_pieces way (flat_map (filtered_in way l) (mailbox_pieces way text)) ≡ filter is_left (map (filtered_in way l) (mailbox_pieces way text))

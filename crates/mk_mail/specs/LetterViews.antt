@@ -1,17 +1,23 @@
 -- Letters in memory as plain data.
-use Rattle.std.specs.Prelude.{ℕ, Option, List}
+use Rattle.std.specs.Prelude.{ℕ, Option, List, map}
 use Rattle.std.specs.Global.{Vec}
 use Rattle.std.specs.Option.{option_map}
 use Rattle.mk_mail.specs.declared.letters.Letters.{Letters}
-use Rattle.mk_mail.specs.Letters.{PlainLetters}
+use Rattle.mk_mail.specs.declared.patterns.NamePattern.{NamePattern}
+use Rattle.mk_mail.specs.Letters.{PlainLetters, PlainPattern}
 
 -- the bytes of a text, where there is one
 abbrev pub bytes_in : Option (Vec ℕ) → Option (List ℕ)
 bytes_in o = option_map (λ v. v.items) o
 
+-- a pattern as it is
+abbrev pub pattern_of : NamePattern → PlainPattern
+pattern_of p = record { text = p.text.items; is_front = p.is_front }
+
 -- letters as they are
 abbrev pub letters_of : Letters → PlainLetters
 letters_of l = record {
+  drops = map pattern_of l.drops.items;
   rename = option_map (λ p. (p.0.items, p.1.items)) l.rename;
   add_if = bytes_in l.add_if;
   add = bytes_in l.add;

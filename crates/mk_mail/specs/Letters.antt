@@ -1,5 +1,5 @@
 -- Letters: a filter of the fields of a message, as a list of edits of its root (own, after formail).
-use Rattle.std.specs.Prelude.{◌+◌, ◌++◌, ◌&&◌, ◌||◌, if◌then◌else◌, ℕ, Bool, true, false, not, Option, None, Some, List, [], ◌∷◌, codes, drop, filter, is_some, map, nat_lt, take, unwrap_or}
+use Rattle.std.specs.Prelude.{◌+◌, ◌++◌, ◌==◌, ◌&&◌, ◌||◌, if◌then◌else◌, ℕ, Bool, true, false, not, Option, None, Some, List, [], ◌∷◌, codes, drop, filter, is_some, length, map, nat_lt, take, unwrap_or}
 use Rattle.std.specs.List.{list_all, list_any, prefix_len}
 use Rattle.std.specs.Str.{bytes_eq, str_to_ascii_lowercase}
 use Rattle.mk_line.specs.declared.cutting.Ending.{Ending}
@@ -13,8 +13,15 @@ use Rattle.mk_decide.specs.Edits.{PlainEdit, AddField, RemoveField, RenameField}
 use Rattle.mk_line.specs.Kinds.{is_name}
 use Rattle.mk_line.specs.Lines.{ends_open}
 
+-- names of fields: one, or all that begin so
+pub record PlainPattern : Type 0 where
+  pub text : List ℕ
+  pub is_front : Bool
+
 -- what is asked for; a name stands without its colon
 pub record PlainLetters : Type 0 where
+  -- `--drop`: the fields of these names go
+  pub drops : List PlainPattern
   -- `--rename`: each field of a name gets another
   pub rename : Option (List ℕ × List ℕ)
   -- `-a`: a field, unless one of its name is there
@@ -50,6 +57,10 @@ is_full_field text = is_given_field text && not (is_bare text)
 abbrev pub are_names : List ℕ × List ℕ → Bool
 are_names p = is_name p.0 && is_name p.1
 
+-- the text of a pattern is a name
+abbrev pub is_pattern : PlainPattern → Bool
+is_pattern p = is_name p.text
+
 -- what is asked for passes a test
 abbrev pub passes : {X : Type 0} → (X → Bool) → Option X → Bool
 passes test None = true
@@ -57,7 +68,7 @@ passes test (Some x) = test x
 
 -- whether a letter that edits is there
 abbrev pub edits_some : PlainLetters → Bool
-edits_some l = is_some l.rename || is_some l.add_if || is_some l.add || is_some l.prefixed || is_some l.only || is_some l.first || is_some l.last
+edits_some l = not (length l.drops == 0) || is_some l.rename || is_some l.add_if || is_some l.add || is_some l.prefixed || is_some l.only || is_some l.first || is_some l.last
 
 -- `-x` and `-X` stand alone
 abbrev pub stand_together : PlainLetters → Bool
@@ -66,7 +77,7 @@ stand_together l = not (is_some l.take && is_some l.whole) && not ((is_some l.ta
 -- the values that letters may have
 abbrev pub have_values : PlainLetters → Bool
 have_values l =
-    passes are_names l.rename && passes is_full_field l.add_if && passes is_full_field l.add && passes is_given_field l.prefixed && passes is_given_field l.only
+    list_all is_pattern l.drops && passes are_names l.rename && passes is_full_field l.add_if && passes is_full_field l.add && passes is_given_field l.prefixed && passes is_given_field l.only
     && passes is_name l.first && passes is_name l.last && passes is_name l.take && passes is_name l.whole
 
 -- letters that may be asked for
@@ -84,6 +95,14 @@ same_name name own = bytes_eq (str_to_ascii_lowercase own) (str_to_ascii_lowerca
 -- those of some names that are one, and the others
 abbrev pub those : List ℕ → List (List ℕ) → List (List ℕ)
 those name names = filter (same_name name) names
+
+-- a name that a pattern means: its text, or what begins with it, without regard to ASCII case
+abbrev pub is_meant : PlainPattern → List ℕ → Bool
+is_meant p own = same_name p.text (if p.is_front then take (length p.text) own else own)
+
+-- a name that one of some patterns means
+abbrev pub is_dropped : List PlainPattern → List ℕ → Bool
+is_dropped ps own = list_any (λ p. is_meant p own) ps
 
 -- the names that are not that one
 abbrev pub others : List ℕ → List (List ℕ) → List (List ℕ)
@@ -175,6 +194,13 @@ removed_all name names = record { names = others name names; edits = map (λ own
 abbrev pub only_letter : Ending → List ℕ → List (List ℕ) → Work
 only_letter eol field names = then_do (removed_all (name_in field) names) (added_full eol field)
 
+-- `--drop`, the first letter: all fields whose names patterns mean go, each as the first of its name
+abbrev pub dropped : List PlainPattern → List (List ℕ) → Work
+dropped ps names = record {
+  names = filter (λ own. not (is_dropped ps own)) names;
+  edits = map (λ own. RemoveField root_path own 1) (filter (is_dropped ps) names);
+}
+
 -- the names but for those that are one and aren't the first such
 abbrev pub with_first : List ℕ → List (List ℕ) → List (List ℕ)
 with_first name [] = []
@@ -206,7 +232,7 @@ worked eol l names =
     (letter (prefixed_letter eol) l.prefixed
     (letter (added eol) l.add
     (letter (add_if_letter eol) l.add_if
-    (letter rename_letter l.rename (untouched names))))))
+    (letter rename_letter l.rename (dropped l.drops names))))))
 
 -- the edits of all letters, on fields of these names
 abbrev pub letter_edits : Ending → PlainLetters → List (List ℕ) → List PlainEdit

@@ -1,14 +1,15 @@
 //! The fields of a message by their names, and the edits that letters make of them.
-ghost use Rattle.std.specs.Prelude.{◌≡◌, ◌≤◌, ◌++◌, Some, false, drop, length, map, IfOk, OnOk};
+ghost use Rattle.std.specs.Prelude.{◌≡◌, ◌≤◌, ◌++◌, Some, false, drop, filter, length, map, not, IfOk, OnOk};
 ghost use Rattle.std.specs.List.{list_all, list_any, prefix_len};
 ghost use Rattle.mk_line.specs.Ascii.{is_blank as blank, is_name_byte as name_byte};
 ghost use Rattle.mk_line.specs.Lines.{ending_bytes};
 ghost use Rattle.mk_decide.specs.Edits.{AddField, RemoveField, RenameField};
 ghost use Rattle.mk_decide.specs.Views.{edit_of};
 ghost use Rattle.mk_mail.specs.LetterWork.{plain_edits, texts_of, work_of};
-ghost use Rattle.mk_mail.specs.Letters.{add_if_letter, added as added_field, added_full, first_letter, is_bare as bare, last_of, made_old, name_in, old_name, only_letter, others, prefixed_letter, removed_all, rename_letter, renamed_all as all_renamed, replaced, respelling, respelt, root_names, root_path, same_name, then_do, those, untouched, with_first};
-ghost use Rattle.mk_mail.specs.LetterViews.{bytes_in};
+ghost use Rattle.mk_mail.specs.Letters.{add_if_letter, added as added_field, added_full, dropped, first_letter, is_bare as bare, is_dropped as is_dropped_name, last_of, made_old, name_in, old_name, only_letter, others, prefixed_letter, removed_all, rename_letter, renamed_all as all_renamed, replaced, respelling, respelt, root_names, root_path, same_name, then_do, those, untouched, with_first};
+ghost use Rattle.mk_mail.specs.LetterViews.{bytes_in, pattern_of};
 
+use crate::patterns::{NamePattern, is_dropped, is_same};
 use memchr::memchr;
 use mk_edit::Edit;
 use mk_head::each_field;
@@ -41,6 +42,15 @@ impl Filter {
             names: names_of(alloc, doc)?,
             edits: Vec::new(alloc),
         })
+    }
+
+    /// Removes the fields whose names patterns mean.
+    pub(crate) fn drop_fields(&mut self, drops: &[NamePattern]) -> Result<(), AllocError>
+        ensures { OnOk result (work_of self.new ≡ then_do (work_of self.old) (dropped (map pattern_of drops.now))) }
+    {
+        let names = self.take_names();
+        self.names = remove_dropped(names, &mut self.edits, drops)?;
+        Ok(())
     }
 
     /// Gives the fields of a name another.
@@ -147,6 +157,27 @@ fn names_of(alloc: Global, doc: &Doc) -> Result<Vec<Vec<u8>>, AllocError>
         names.push(Vec::from_slice(alloc, field.name)?)?;
     }
     Ok(names)
+}
+
+// Removes the fields whose names patterns mean.
+fn remove_dropped(
+    names: Vec<Vec<u8>>,
+    edits: &mut Vec<Edit>,
+    drops: &[NamePattern],
+) -> Result<Vec<Vec<u8>>, AllocError>
+    ensures names { IfOk result (λ r. texts_of r.items ≡ filter (λ own. not (is_dropped_name (map pattern_of drops.now) own)) (texts_of names.items)) }
+    ensures edits { OnOk result (plain_edits edits.new.items ≡ plain_edits edits.old.items ++ map (λ own. RemoveField root_path own 1) (filter (is_dropped_name (map pattern_of drops.now)) (texts_of names.items))) }
+{
+    let alloc = *names.allocator();
+    let mut list = Vec::new(alloc);
+    for own in names {
+        if is_dropped(drops, &own) {
+            edits.push(removal(alloc, &own, 1)?)?;
+        } else {
+            list.push(own)?;
+        }
+    }
+    Ok(list)
 }
 
 // Gives the fields of a name another, which isn't the same.
@@ -329,13 +360,6 @@ fn has_name(names: &[Vec<u8>], name: &[u8]) -> bool
         }
     }
     false
-}
-
-// Whether two names are the same, without regard to ASCII case.
-fn is_same(name: &[u8], own: &[u8]) -> bool
-    ensures { result ≡ same_name name.now own.now }
-{
-    own.eq_ignore_ascii_case(name)
 }
 
 /// Whether only blanks stand after the first colon.

@@ -1,7 +1,8 @@
 //! Laws of built messages, letters and mailboxes, over the definitions alone: each a function with an empty body whose
 //! clause is the law.
-ghost use Rattle.mk_mail.specs.BuiltLaws.{BuiltMessagesGiveBack, BuiltNamesAreSaid};
+ghost use Rattle.mk_mail.specs.BuiltLaws.{BuiltMessagesGiveBack, BuiltMultipartsGiveBack, BuiltNamesAreSaid};
 ghost use Rattle.mk_mail.specs.Filtered.{FilteredStayApart};
+ghost use Rattle.mk_mail.specs.Rounds.{OneRoundFilters, RoundsArePiped, RoundsStayApart};
 
 pub use mk_mailbox::laws::{
     calls_give_the_messages, ends_are_whole, ends_stay, pieces_are_all, pieces_are_some,
@@ -14,13 +15,35 @@ pub fn built_messages_give_back()
     ensures { BuiltMessagesGiveBack }
 {}
 
+/// So it is of a message that is built as a multipart of any subtype, a digest too, whose texts name no charset.
+pub fn built_multiparts_give_back()
+    ensures { BuiltMultipartsGiveBack }
+{}
+
 /// The part of a file whose name is written as people write it has just that name, in each message that is built in UTF-8.
 pub fn built_names_are_said()
     ensures { BuiltNamesAreSaid }
 {}
 
 /// The messages of a mailbox, each filtered by letters, are a mailbox of these messages: none is cut in two and no two
-/// become one. A message of which no byte is left is none.
+/// become one. A message of which no byte is left is none. With dates asked for, empty lines before the first From-line
+/// are left as they are.
 pub fn filtered_stay_apart()
     ensures { FilteredStayApart }
+{}
+
+/// One round of letters leaves what the letters leave by themselves.
+pub fn one_round_filters()
+    ensures { OneRoundFilters }
+{}
+
+/// Rounds behind others make of a text what they make of the text that the others made, as runs in a pipe do; and where one of
+/// the others is refused, nothing is made.
+pub fn rounds_are_piped()
+    ensures { RoundsArePiped }
+{}
+
+/// The messages of a mailbox stay apart after rounds of letters, as after letters.
+pub fn rounds_stay_apart()
+    ensures { RoundsStayApart }
 {}

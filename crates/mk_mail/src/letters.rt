@@ -8,16 +8,19 @@ ghost use Rattle.mk_mail.specs.LetterWork.{work_of};
 ghost use Rattle.mk_mail.specs.Letters.{add_if_letter, added, are_allowed, are_names, edits_of, edits_some as some_edits, first_letter, have_values as values_are_had, is_full_field as full_field, is_given_field as given_field, letter, only_letter, passes, prefixed_letter, rename_letter, stand_together as stand_so};
 
 use crate::filtering::{Filter, is_bare};
+use crate::patterns::{NamePattern, are_patterns};
 use mk_edit::Edit;
 use mk_head::one_field;
 use mk_line::{Ending, ends_open, eol_of, is_name};
 use mk_tree::Doc;
 use std::alloc::{AllocError, Global};
 
-/// What a filter of fields is asked for, each letter at most once. A name stands without its colon, a field without the
+/// What a filter of fields is asked for, each letter at most once but `--drop`. A name stands without its colon, a field without the
 /// ending of its last line. They work in this order, each on the fields that those before it left.
 #[derive(Debug, Drop)]
 pub struct Letters {
+    /// `--drop`: removes the fields of these names.
+    pub drops: Vec<NamePattern>,
     /// `--rename`: gives each field of the first name the second.
     pub rename: Option<(Vec<u8>, Vec<u8>)>,
     /// `-a`: adds a field, unless one of its name is there.
@@ -50,7 +53,8 @@ impl Letters {
     fn have_values(&self) -> bool
         ensures { result ≡ values_are_had (letters_of self.now) }
     {
-        may_rename(&self.rename)
+        are_patterns(&self.drops)
+            && may_rename(&self.rename)
             && is_full_field(&self.add_if)
             && is_full_field(&self.add)
             && is_given_field(&self.prefixed)
@@ -73,7 +77,8 @@ impl Letters {
     fn edits_some(&self) -> bool
         ensures { result ≡ some_edits (letters_of self.now) }
     {
-        self.rename.is_some()
+        !self.drops.is_empty()
+            || self.rename.is_some()
             || self.add_if.is_some()
             || self.add.is_some()
             || self.prefixed.is_some()
@@ -90,6 +95,7 @@ pub fn field_edits(alloc: Global, doc: &Doc, letters: &Letters) -> Result<Vec<Ed
 {
     let eol = eol_of(doc.text());
     let mut filter = Filter::new(alloc, doc)?;
+    filter.drop_fields(&letters.drops)?;
     rename(&mut filter, &letters.rename)?;
     add_if(&mut filter, &letters.add_if, eol)?;
     add(&mut filter, &letters.add, eol)?;

@@ -1,0 +1,75 @@
+-- Rounds of letters: what they make, one after another, and the messages of a mailbox that they leave.
+use Rattle.std.proofs.Common.{◌≡◌, ◌++◌, ◌&&◌, if◌then◌else◌, ℕ, Bool, true, false, Result, Ok, Err, List, [], ◌∷◌, refl, ap, sym, ◌∙◌}
+use Rattle.mk_mailbox.specs.declared.from_lines.FromLines.{FromLines}
+use Rattle.mk_mailbox.specs.Pieces.{is_left_alone}
+use Rattle.mk_line.specs.Lines.{TextLine, cut, eol_of, is_lf}
+use Rattle.mk_tree.specs.Documents.{printed, tree}
+use Rattle.mk_edit.specs.Groups.{Together}
+use Rattle.mk_mail.specs.Filtered.{outcome, text_left}
+use Rattle.mk_mail.specs.Letters.{PlainLetters}
+use Rattle.mk_mail.specs.Rounds.{Made, OneRoundFilters, PlainRound, RoundsArePiped, RoundsStayApart, left_of, letters_for, made_of, made_text, round_made, round_of_letters, rounds_left, rounds_left_in, rounds_made}
+use Rattle.mk_mail.proofs.FilteredMail.{filtered_kept}
+use Rattle.mk_mail.proofs.MailChains.{AreMessage, IsKept, IsWhole, kept_apart}
+
+one_text : (text : List ℕ) (r : Together) → left_of text (made_of (rounds_made []) (made_text r)) ≡ text_left text r
+one_text text (Ok p) = refl
+one_text text (Err q) = refl
+
+same_letters : (l : PlainLetters) (t : Bool) → (if t then l else l) ≡ l
+same_letters l true = refl
+same_letters l false = refl
+
+pub one_round : OneRoundFilters
+one_round l text =
+    ap (λ k. left_of text (made_of (rounds_made []) (made_text (outcome k text)))) (same_letters l (is_lf (eol_of (cut text))))
+    ∙ one_text text (outcome l text)
+
+piped_on : (rs more : List PlainRound) (m : Made) → ((text : List ℕ) → rounds_made (rs ++ more) text ≡ made_of (rounds_made more) (rounds_made rs text))
+    → made_of (rounds_made (rs ++ more)) m ≡ made_of (rounds_made more) (made_of (rounds_made rs) m)
+piped_on rs more (Ok text) h = h text
+piped_on rs more (Err reason) h = refl
+
+pub piped : RoundsArePiped
+piped [] more text = refl
+piped (r ∷ rs) more text = piped_on rs more (round_made r text) (λ next. piped rs more next)
+
+-- ---- what stays of a message
+
+unchanged : (way : FromLines) (ls : List TextLine) → IsWhole way false ls → IsKept way ls ls
+unchanged way ls w = record { whole = w; ends = λ h. h; begins = λ h. h }
+
+kept_on : (way : FromLines) (a b c : List TextLine) → IsKept way a b → IsKept way b c → IsKept way a c
+kept_on way a b c k m = record { whole = m.whole; ends = λ h. m.ends (k.ends h); begins = λ h. m.begins (k.begins h) }
+
+-- a text that was made keeps what makes a message of its lines
+abbrev IsMadeKept : FromLines → List ℕ → Made → Type 0
+IsMadeKept way text (Ok made) = IsKept way (cut text) (cut made)
+IsMadeKept way text (Err reason) = Unit {0}
+
+text_kept : (way : FromLines) (text : List ℕ) (r : Together) → IsKept way (cut text) (cut (text_left text r)) → IsMadeKept way text (made_text r)
+text_kept way text (Ok p) k = k
+text_kept way text (Err q) k = tt
+
+later_kept : (way : FromLines) (text made : List ℕ) (m : Made) → IsKept way (cut text) (cut made) → IsMadeKept way made m → IsMadeKept way text m
+later_kept way text made (Ok last) k h = kept_on way (cut text) (cut made) (cut last) k h
+later_kept way text made (Err reason) k h = tt
+
+made_kept : (way : FromLines) (text : List ℕ) (f : List ℕ → Made) (m : Made) → IsMadeKept way text m → ((made : List ℕ) → IsWhole way false (cut made) → IsMadeKept way made (f made)) → IsMadeKept way text (made_of f m)
+made_kept way text f (Ok made) k h = later_kept way text made (f made) k (h made k.whole)
+made_kept way text f (Err reason) k h = tt
+
+rounds_kept : (way : FromLines) (rs : List PlainRound) (text : List ℕ) → IsWhole way false (cut text) → IsMadeKept way text (rounds_made rs text)
+rounds_kept way [] text w = unchanged way (cut text) w
+rounds_kept way (r ∷ rs) text w =
+    made_kept way text (rounds_made rs) (round_made r text) (text_kept way text (outcome (letters_for r text) text) (filtered_kept way (letters_for r text) text w)) (λ made v. rounds_kept way rs made v)
+
+left_kept : (way : FromLines) (text : List ℕ) (m : Made) → IsWhole way false (cut text) → IsMadeKept way text m → IsKept way (cut text) (cut (left_of text m))
+left_kept way text (Ok made) w k = k
+left_kept way text (Err reason) w k = unchanged way (cut text) w
+
+message_kept : (way : FromLines) (rs : List PlainRound) (text : List ℕ) (alone : Bool) → AreMessage way (cut text) → IsKept way (cut text) (cut (if alone then text else rounds_left rs text))
+message_kept way rs text true m = unchanged way (cut text) m.1
+message_kept way rs text false m = left_kept way text (rounds_made rs text) m.1 (rounds_kept way rs text m.1)
+
+pub rounds_apart : RoundsStayApart
+rounds_apart way rs text = kept_apart way (rounds_left_in way rs) (λ message m. message_kept way rs message (is_left_alone way message) m) text

@@ -1,0 +1,73 @@
+-- Rounds of letters, each on what the one before it left (own).
+use Rattle.std.specs.Prelude.{◌≡◌, ◌++◌, if◌then◌else◌, ℕ, Result, Ok, Err, List, [], ◌∷◌, filter, map}
+use Rattle.std.specs.List.{flat_map}
+use Rattle.mk_line.specs.Lines.{cut, eol_of, is_lf}
+use Rattle.mk_tree.specs.Documents.{printed}
+use Rattle.mk_decide.specs.Edits.{Refusal}
+use Rattle.mk_edit.specs.Groups.{Together}
+use Rattle.mk_mail.specs.Filtered.{filtered, is_left, outcome}
+use Rattle.mk_mail.specs.Letters.{PlainLetters}
+use Rattle.mk_mailbox.specs.declared.from_lines.FromLines.{FromLines}
+use Rattle.mk_mailbox.specs.Pieces.{is_left_alone, mailbox_pieces}
+
+-- one round: the letters for a text whose lines end with LF, and those for one whose lines end with CR LF
+pub record PlainRound : Type 0 where
+  pub lf : PlainLetters
+  pub crlf : PlainLetters
+
+-- the same letters for each text
+abbrev pub round_of_letters : PlainLetters → PlainRound
+round_of_letters l = record { lf = l; crlf = l }
+
+-- the letters of a round for a text, by its ending
+abbrev pub letters_for : PlainRound → List ℕ → PlainLetters
+letters_for r text = if is_lf (eol_of (cut text)) then r.lf else r.crlf
+
+-- a text that was made, or the reason why it wasn't
+abbrev pub Made : Type 0
+Made = Result (List ℕ) Refusal
+
+-- the text of edits that were made, or the reason against the first that was refused
+abbrev pub made_text : Together → Made
+made_text (Ok p) = Ok (printed p.0)
+made_text (Err q) = Err q.1
+
+-- what a round makes of a text
+abbrev pub round_made : PlainRound → List ℕ → Made
+round_made r text = made_text (outcome (letters_for r text) text)
+
+-- what is made of a text that was made
+abbrev pub made_of : (List ℕ → Made) → Made → Made
+made_of f (Ok text) = f text
+made_of f (Err reason) = Err reason
+
+-- what rounds make of a text, each of what the one before it made, up to the first reason
+abbrev pub rounds_made : List PlainRound → List ℕ → Made
+rounds_made [] text = Ok text
+rounds_made (r ∷ rs) text = made_of (rounds_made rs) (round_made r text)
+
+-- the text that was made, or the text as it came
+abbrev pub left_of : List ℕ → Made → List ℕ
+left_of text (Ok made) = made
+left_of text (Err reason) = text
+
+-- what rounds leave of a text: where an edit of one is refused, all of it
+abbrev pub rounds_left : List PlainRound → List ℕ → List ℕ
+rounds_left rs text = left_of text (rounds_made rs text)
+
+-- what rounds leave of a message of a mailbox that is cut at these From-lines
+abbrev pub rounds_left_in : FromLines → List PlainRound → List ℕ → List ℕ
+rounds_left_in way rs text = if is_left_alone way text then text else rounds_left rs text
+
+-- one round of the same letters leaves what these letters leave
+abbrev pub OneRoundFilters : Type 0
+OneRoundFilters = (l : PlainLetters) (text : List ℕ) → rounds_left (round_of_letters l ∷ []) text ≡ filtered l text
+
+-- more rounds make of a text what they make of the text that the earlier ones made, as in a pipe
+abbrev pub RoundsArePiped : Type 0
+RoundsArePiped = (rs more : List PlainRound) (text : List ℕ) → rounds_made (rs ++ more) text ≡ made_of (rounds_made more) (rounds_made rs text)
+
+-- what rounds leave of the messages of a mailbox is cut into just these messages again, but for one of which no byte is left
+abbrev pub RoundsStayApart : Type 0
+RoundsStayApart = (way : FromLines) (rs : List PlainRound) (text : List ℕ) →
+    mailbox_pieces way (flat_map (rounds_left_in way rs) (mailbox_pieces way text)) ≡ filter is_left (map (rounds_left_in way rs) (mailbox_pieces way text))
