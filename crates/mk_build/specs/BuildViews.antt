@@ -32,5 +32,7 @@ abbrev pub IsBuildRefused : List (List ℕ) → List Attached → List ℕ → B
 IsBuildRefused fields parts boundary (build.BadField index) = build_refusal fields parts boundary ≡ Some (build.BadField index)
 IsBuildRefused fields parts boundary (build.BadType index) = build_refusal fields parts boundary ≡ Some (build.BadType index)
 IsBuildRefused fields parts boundary (build.BadName index) = build_refusal fields parts boundary ≡ Some (build.BadName index)
+IsBuildRefused fields parts boundary build.BadSubtype = build_refusal fields parts boundary ≡ Some build.BadSubtype
+IsBuildRefused fields parts boundary build.BadCharset = build_refusal fields parts boundary ≡ Some build.BadCharset
 IsBuildRefused fields parts boundary build.BadBoundary = build_refusal fields parts boundary ≡ Some build.BadBoundary
 IsBuildRefused fields parts boundary build.Memory = Unit {0}

@@ -1,2 +1,4 @@
 pub mod Building
 pub mod BuildViews
+pub mod Multiparts
+pub mod MultipartViews

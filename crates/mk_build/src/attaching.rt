@@ -1,9 +1,12 @@
 //! Parts of messages, from what is attached (RFC 2045, 5 and 6; RFC 2183).
 ghost use Rattle.std.specs.Prelude.{◌≡◌, ◌≢◌, ◌++◌, None, IfOk, IfErr, OnOk};
-ghost use Rattle.mk_build.specs.BuildViews.{attached_of, written_of, IsAttachRefused};
-ghost use Rattle.mk_build.specs.Building.{attach_refusal, attached as attached_text, disposition_line, encoded, encoding_line, encoding_name as name_of_encoding, name_param, said_param, type_line};
+ghost use Rattle.mk_build.specs.BuildViews.{attached_of, named_of, written_of, IsAttachRefused};
+ghost use Rattle.mk_build.specs.Building.{attach_refusal, attached as attached_text, disposition_line, encoded, encoding_line, encoding_name as name_of_encoding, name_param, said_param};
+ghost use Rattle.mk_build.specs.Multiparts.{attached_as, charset_param, type_line_as};
+ghost use Rattle.std.specs.Option.{option_map};
 
-use crate::attachment::{Attach, Written, as_given, has_name, is_media};
+use crate::attachment::{Attach, Written, as_given, has_name, in_utf8, is_media};
+use crate::multipart::charset_for;
 use mk_code::{push_b64, push_qp};
 use mk_line::Ending;
 use mk_param::push_percent;
@@ -42,41 +45,112 @@ pub fn attach(alloc: Global, attached: &Attach, eol: Ending) -> Result<Vec<u8>, 
     ensures text { IfOk result (λ text. (attach_refusal (attached_of attached.now) ≡ None) × (text.items ≡ attached_text eol (attached_of attached.now))) }
     ensures refused { IfErr result (λ error. IsAttachRefused (attached_of attached.now) error) }
 {
+    attach_as(alloc, attached, None, eol)
+}
+
+/// The same, with a name in UTF-8 that isn't printable ASCII also written as it is (RFC 2231, 4).
+pub fn attach_in_utf8(alloc: Global, attached: &Attach, eol: Ending) -> Result<Vec<u8>, AttachError>
+    requires { eol ≢ Ending.Missing }
+    ensures text { IfOk result (λ text. (attach_refusal (named_of attached.now) ≡ None) × (text.items ≡ attached_text eol (named_of attached.now))) }
+    ensures refused { IfErr result (λ error. IsAttachRefused (named_of attached.now) error) }
+{
+    attach_as_in_utf8(alloc, attached, None, eol)
+}
+
+/// The same of a part that names a charset where it is a text. Whether that is a charset, the caller has to ask.
+pub fn attach_as(
+    alloc: Global,
+    attached: &Attach,
+    charset: Option<&[u8]>,
+    eol: Ending,
+) -> Result<Vec<u8>, AttachError>
+    requires { eol ≢ Ending.Missing }
+    ensures text { IfOk result (λ text. (attach_refusal (attached_of attached.now) ≡ None) × (text.items ≡ attached_as eol (option_map (λ c. c.now) charset.entry) (attached_of attached.now))) }
+    ensures refused { IfErr result (λ error. IsAttachRefused (attached_of attached.now) error) }
+{
     let written = as_given(alloc, attached)?;
+    attach_of(alloc, &written, charset, eol)
+}
+
+/// The same, with a name in UTF-8 that isn't printable ASCII also written as it is (RFC 2231, 4).
+pub fn attach_as_in_utf8(
+    alloc: Global,
+    attached: &Attach,
+    charset: Option<&[u8]>,
+    eol: Ending,
+) -> Result<Vec<u8>, AttachError>
+    requires { eol ≢ Ending.Missing }
+    ensures text { IfOk result (λ text. (attach_refusal (named_of attached.now) ≡ None) × (text.items ≡ attached_as eol (option_map (λ c. c.now) charset.entry) (named_of attached.now))) }
+    ensures refused { IfErr result (λ error. IsAttachRefused (named_of attached.now) error) }
+{
+    let written = in_utf8(alloc, attached)?;
+    attach_of(alloc, &written, charset, eol)
+}
+
+// The part of what is written of it.
+fn attach_of(
+    alloc: Global,
+    written: &Written<'_>,
+    charset: Option<&[u8]>,
+    eol: Ending,
+) -> Result<Vec<u8>, AttachError>
+    requires { eol ≢ Ending.Missing }
+    ensures text { IfOk result (λ text. (attach_refusal (written_of written.now) ≡ None) × (text.items ≡ attached_as eol (option_map (λ c. c.now) charset.entry) (written_of written.now))) }
+    ensures refused { IfErr result (λ error. IsAttachRefused (written_of written.now) error) }
+{
     if !is_media(written.media) {
         return Err(AttachError::BadType);
     }
-    if !has_name(&written) {
+    if !has_name(written) {
         return Err(AttachError::BadName);
     }
     let mut text = Vec::new(alloc);
-    push_attached(&mut text, &written, eol)?;
+    push_attached(&mut text, written, charset, eol)?;
     Ok(text)
 }
 
-/// Writes what is attached as a part.
+/// Writes what is attached as a part, a text with the charset.
 pub(crate) fn push_attached(
     text: &mut Vec<u8>,
     written: &Written<'_>,
+    charset: Option<&[u8]>,
     eol: Ending,
 ) -> Result<(), AllocError>
     requires { eol ≢ Ending.Missing }
-    ensures { OnOk result (text.new.items ≡ text.old.items ++ attached_text eol (written_of written.now)) }
+    ensures { OnOk result (text.new.items ≡ text.old.items ++ attached_as eol (option_map (λ c. c.now) charset.entry) (written_of written.now)) }
 {
-    push_type(text, written, eol)?;
+    push_type(text, written, charset, eol)?;
     push_disposition(text, written, eol)?;
     push_encoding(text, written.base64, eol)?;
     text.extend_from_slice(eol.bytes())?;
     push_bytes(text, written, eol)
 }
 
-fn push_type(text: &mut Vec<u8>, written: &Written<'_>, eol: Ending) -> Result<(), AllocError>
-    ensures { OnOk result (text.new.items ≡ text.old.items ++ type_line eol (written_of written.now)) }
+fn push_type(
+    text: &mut Vec<u8>,
+    written: &Written<'_>,
+    charset: Option<&[u8]>,
+    eol: Ending,
+) -> Result<(), AllocError>
+    ensures { OnOk result (text.new.items ≡ text.old.items ++ type_line_as eol (option_map (λ c. c.now) charset.entry) (written_of written.now)) }
 {
     text.extend_from_slice(b"Content-Type: ")?;
     text.extend_from_slice(written.media)?;
+    push_charset(text, charset_for(charset, written.media))?;
     push_name(text, written)?;
     text.extend_from_slice(eol.bytes())
+}
+
+fn push_charset(text: &mut Vec<u8>, charset: Option<&[u8]>) -> Result<(), AllocError>
+    ensures { OnOk result (text.new.items ≡ text.old.items ++ charset_param (option_map (λ c. c.now) charset.entry)) }
+{
+    match charset {
+        Some(charset) => {
+            text.extend_from_slice(b"; charset=")?;
+            text.extend_from_slice(charset)
+        }
+        None => Ok(()),
+    }
 }
 
 fn push_name(text: &mut Vec<u8>, written: &Written<'_>) -> Result<(), AllocError>

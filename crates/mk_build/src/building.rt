@@ -4,11 +4,14 @@ ghost use Rattle.std.specs.List.{flat_map, starts_with};
 ghost use Rattle.mk_line.specs.Lines.{cut as lines_of};
 ghost use Rattle.mk_head.specs.Values.{lowered};
 ghost use Rattle.mk_build.specs.BuildViews.{attached_of, named_of, written_of, IsBuildRefused};
-ghost use Rattle.mk_build.specs.Building.{build_refusal, built, built_part, close_line, closed_field, first_failing, is_free_field as may_begin, is_free_start as begins_free, is_made_name as is_made, is_media as may_be_attached, is_name_or_none, made_head};
+ghost use Rattle.mk_build.specs.Building.{build_refusal, built, close_line, closed_field, first_failing, is_free_field as may_begin, is_free_start as begins_free, is_made_name as is_made, is_media as may_be_attached, is_name_or_none};
+ghost use Rattle.mk_build.specs.MultipartViews.{IsRefusedAs};
+ghost use Rattle.mk_build.specs.Multiparts.{built_as, head_as, mixed as plain_mixed, multipart_of, multipart_refusal, part_as, refusal_as};
 
 use crate::attaching::push_attached;
 use crate::attachment::{Attach, Written, as_given, has_name, in_utf8, is_media};
-use mk_head::{is_boundary, one_field};
+use crate::multipart::{MIXED, Multipart, is_charset};
+use mk_head::{is_boundary, is_token, one_field};
 use mk_line::{Ending, ends_open, first_line, name_len};
 use std::alloc::{AllocError, Global};
 use thiserror::Error;
@@ -31,6 +34,12 @@ pub enum BuildError {
     /// As for `attach`.
     #[error("the name of part {index} can't be written")]
     BadName { index: usize },
+    /// The subtype isn't a token (RFC 2045, 5.1).
+    #[error("the subtype is none")]
+    BadSubtype,
+    /// The charset isn't a token (RFC 2045, 5.1).
+    #[error("the charset is none")]
+    BadCharset,
     /// The boundary isn't one (RFC 2046, 5.1.1).
     #[error("the boundary is none")]
     BadBoundary,
@@ -63,8 +72,7 @@ pub fn build(
     ensures text { IfOk result (λ text. (build_refusal (map (λ f. f.items) fields.now) (map attached_of parts.now) boundary.now ≡ None) × (text.items ≡ built eol (map (λ f. f.items) fields.now) (map attached_of parts.now) boundary.now)) }
     ensures refused { IfErr result (λ error. IsBuildRefused (map (λ f. f.items) fields.now) (map attached_of parts.now) boundary.now error) }
 {
-    let parts = all_as_given(alloc, parts)?;
-    build_of(alloc, fields, &parts, boundary, eol)
+    build_as(alloc, fields, parts, &mixed(boundary), eol)
 }
 
 /// The same, with each name in UTF-8 that isn't printable ASCII also written as it is (RFC 2231, 4).
@@ -79,8 +87,50 @@ pub fn build_in_utf8(
     ensures text { IfOk result (λ text. (build_refusal (map (λ f. f.items) fields.now) (map named_of parts.now) boundary.now ≡ None) × (text.items ≡ built eol (map (λ f. f.items) fields.now) (map named_of parts.now) boundary.now)) }
     ensures refused { IfErr result (λ error. IsBuildRefused (map (λ f. f.items) fields.now) (map named_of parts.now) boundary.now error) }
 {
+    build_as_in_utf8(alloc, fields, parts, &mixed(boundary), eol)
+}
+
+/// A message as `build` makes it, in a multipart of any kind.
+pub fn build_as(
+    alloc: Global,
+    fields: &[Vec<u8>],
+    parts: &[Attach],
+    multipart: &Multipart<'_>,
+    eol: Ending,
+) -> Result<Vec<u8>, BuildError>
+    requires { eol ≢ Ending.Missing }
+    ensures text { IfOk result (λ text. (refusal_as (map (λ f. f.items) fields.now) (map attached_of parts.now) (multipart_of multipart.now) ≡ None) × (text.items ≡ built_as eol (map (λ f. f.items) fields.now) (map attached_of parts.now) (multipart_of multipart.now))) }
+    ensures refused { IfErr result (λ error. IsRefusedAs (map (λ f. f.items) fields.now) (map attached_of parts.now) (multipart_of multipart.now) error) }
+{
+    let parts = all_as_given(alloc, parts)?;
+    build_of(alloc, fields, &parts, multipart, eol)
+}
+
+/// A message as `build_in_utf8` makes it, in a multipart of any kind.
+pub fn build_as_in_utf8(
+    alloc: Global,
+    fields: &[Vec<u8>],
+    parts: &[Attach],
+    multipart: &Multipart<'_>,
+    eol: Ending,
+) -> Result<Vec<u8>, BuildError>
+    requires { eol ≢ Ending.Missing }
+    ensures text { IfOk result (λ text. (refusal_as (map (λ f. f.items) fields.now) (map named_of parts.now) (multipart_of multipart.now) ≡ None) × (text.items ≡ built_as eol (map (λ f. f.items) fields.now) (map named_of parts.now) (multipart_of multipart.now))) }
+    ensures refused { IfErr result (λ error. IsRefusedAs (map (λ f. f.items) fields.now) (map named_of parts.now) (multipart_of multipart.now) error) }
+{
     let parts = all_in_utf8(alloc, parts)?;
-    build_of(alloc, fields, &parts, boundary, eol)
+    build_of(alloc, fields, &parts, multipart, eol)
+}
+
+// A multipart/mixed whose texts name no charset.
+fn mixed(boundary: &[u8]) -> Multipart<'_>
+    ensures { multipart_of result ≡ plain_mixed boundary.now }
+{
+    Multipart {
+        subtype: MIXED,
+        charset: None,
+        boundary,
+    }
 }
 
 // What is written of all parts as they are given.
@@ -110,12 +160,12 @@ fn build_of(
     alloc: Global,
     fields: &[Vec<u8>],
     parts: &[Written<'_>],
-    boundary: &[u8],
+    multipart: &Multipart<'_>,
     eol: Ending,
 ) -> Result<Vec<u8>, BuildError>
     requires { eol ≢ Ending.Missing }
-    ensures text { IfOk result (λ text. (build_refusal (map (λ f. f.items) fields.now) (map written_of parts.now) boundary.now ≡ None) × (text.items ≡ built eol (map (λ f. f.items) fields.now) (map written_of parts.now) boundary.now)) }
-    ensures refused { IfErr result (λ error. IsBuildRefused (map (λ f. f.items) fields.now) (map written_of parts.now) boundary.now error) }
+    ensures text { IfOk result (λ text. (refusal_as (map (λ f. f.items) fields.now) (map written_of parts.now) (multipart_of multipart.now) ≡ None) × (text.items ≡ built_as eol (map (λ f. f.items) fields.now) (map written_of parts.now) (multipart_of multipart.now))) }
+    ensures refused { IfErr result (λ error. IsRefusedAs (map (λ f. f.items) fields.now) (map written_of parts.now) (multipart_of multipart.now) error) }
 {
     if let Some(index) = bad_field(fields) {
         return Err(BuildError::BadField { index });
@@ -126,15 +176,30 @@ fn build_of(
     if let Some(index) = bad_name(parts) {
         return Err(BuildError::BadName { index });
     }
-    if !is_boundary(boundary) {
-        return Err(BuildError::BadBoundary);
+    if let Some(reason) = refusal(multipart) {
+        return Err(reason);
     }
     let mut text = Vec::new(alloc);
     push_fields(&mut text, fields, eol)?;
-    push_head(&mut text, boundary, eol)?;
-    push_parts(&mut text, parts, boundary, eol)?;
-    push_close(&mut text, boundary, eol)?;
+    push_head(&mut text, multipart, eol)?;
+    push_parts(&mut text, parts, multipart, eol)?;
+    push_close(&mut text, multipart.boundary, eol)?;
     Ok(text)
+}
+
+// Why a multipart can't be made, if it can't.
+fn refusal(multipart: &Multipart<'_>) -> Option<BuildError>
+    ensures { result ≡ multipart_refusal (multipart_of multipart.now) }
+{
+    if !is_token(multipart.subtype) {
+        Some(BuildError::BadSubtype)
+    } else if !is_charset(multipart.charset) {
+        Some(BuildError::BadCharset)
+    } else if !is_boundary(multipart.boundary) {
+        Some(BuildError::BadBoundary)
+    } else {
+        None
+    }
 }
 
 // The index of the first field that can't stand at the start, from 0.
@@ -228,14 +293,16 @@ fn push_field(text: &mut Vec<u8>, field: &[u8], eol: Ending) -> Result<(), Alloc
     }
 }
 
-fn push_head(text: &mut Vec<u8>, boundary: &[u8], eol: Ending) -> Result<(), AllocError>
-    ensures { OnOk result (text.new.items ≡ text.old.items ++ made_head eol boundary.now) }
+fn push_head(text: &mut Vec<u8>, multipart: &Multipart<'_>, eol: Ending) -> Result<(), AllocError>
+    ensures { OnOk result (text.new.items ≡ text.old.items ++ head_as eol (multipart_of multipart.now)) }
 {
     let ending = eol.bytes();
     text.extend_from_slice(b"MIME-Version: 1.0")?;
     text.extend_from_slice(ending)?;
-    text.extend_from_slice(b"Content-Type: multipart/mixed; boundary=\"")?;
-    text.extend_from_slice(boundary)?;
+    text.extend_from_slice(b"Content-Type: multipart/")?;
+    text.extend_from_slice(multipart.subtype)?;
+    text.extend_from_slice(b"; boundary=\"")?;
+    text.extend_from_slice(multipart.boundary)?;
     text.extend_from_slice(b"\"")?;
     text.extend_from_slice(ending)?;
     text.extend_from_slice(ending)
@@ -244,14 +311,14 @@ fn push_head(text: &mut Vec<u8>, boundary: &[u8], eol: Ending) -> Result<(), All
 fn push_parts(
     text: &mut Vec<u8>,
     parts: &[Written<'_>],
-    boundary: &[u8],
+    multipart: &Multipart<'_>,
     eol: Ending,
 ) -> Result<(), AllocError>
     requires { eol ≢ Ending.Missing }
-    ensures { OnOk result (text.new.items ≡ text.old.items ++ flat_map (built_part eol boundary.now) (map written_of parts.now)) }
+    ensures { OnOk result (text.new.items ≡ text.old.items ++ flat_map (part_as eol (multipart_of multipart.now)) (map written_of parts.now)) }
 {
     for part in parts {
-        push_part(text, part, boundary, eol)?;
+        push_part(text, part, multipart, eol)?;
     }
     Ok(())
 }
@@ -259,16 +326,16 @@ fn push_parts(
 fn push_part(
     text: &mut Vec<u8>,
     part: &Written<'_>,
-    boundary: &[u8],
+    multipart: &Multipart<'_>,
     eol: Ending,
 ) -> Result<(), AllocError>
     requires { eol ≢ Ending.Missing }
-    ensures { OnOk result (text.new.items ≡ text.old.items ++ built_part eol boundary.now (written_of part.now)) }
+    ensures { OnOk result (text.new.items ≡ text.old.items ++ part_as eol (multipart_of multipart.now) (written_of part.now)) }
 {
     text.extend_from_slice(HYPHENS)?;
-    text.extend_from_slice(boundary)?;
+    text.extend_from_slice(multipart.boundary)?;
     text.extend_from_slice(eol.bytes())?;
-    push_attached(text, part, eol)?;
+    push_attached(text, part, multipart.charset, eol)?;
     text.extend_from_slice(eol.bytes())
 }
 

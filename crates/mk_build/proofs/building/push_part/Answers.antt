@@ -1,15 +1,15 @@
 use Rattle.std.proofs.Common.{ap, ◌∙◌, ◌++◌, codes}
 use Rattle.mk_line.specs.Lines.{ending_bytes}
 use Rattle.mk_build.specs.BuildViews.{written_of}
-use Rattle.mk_build.specs.Building.{attached}
+use Rattle.mk_build.specs.Multiparts.{attached_as, multipart_of}
 use Rattle.mk_line.proofs.Joined.{on_ok, written, joined}
 use Rattle.mk_build.proofs.building.push_part.Goals as goal
 
 pub returns : goal.returns
 returns c =
     let end = ending_bytes c.args.eol in
-    let b = c.args.boundary.now in
-    let a = attached c.args.eol (written_of c.args.part.now) in
+    let b = c.args.multipart.now.boundary.now in
+    let a = attached_as c.args.eol (multipart_of c.args.multipart.now).charset (written_of c.args.part.now) in
     let one = c.extend_from_slice.new.self.items in
     let two = c.extend_from_slice-2.new.self.items in
     let three = c.extend_from_slice-3.new.self.items in

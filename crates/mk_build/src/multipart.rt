@@ -1,0 +1,55 @@
+//! The multipart around the parts of a message, and whether it can be made (RFC 2045, 5.1; RFC 2046, 5.1.1).
+ghost use Rattle.std.specs.Prelude.{◌≡◌};
+ghost use Rattle.std.specs.Option.{option_map};
+ghost use Rattle.mk_build.specs.Multiparts.{charset_for as charset_of_type, is_charset_or_none, is_text as is_of_text};
+
+use mk_head::is_token;
+use mk_line::split_at_first;
+
+/// The subtype of parts that have nothing to do with each other (RFC 2046, 5.1.3).
+pub const MIXED: &[u8; 5] = b"mixed";
+
+const SLASH: u8 = b'/';
+
+const TEXT: &[u8; 4] = b"text";
+
+/// The multipart around the parts of a message.
+#[derive(Clone, Copy, Debug)]
+pub struct Multipart<'a> {
+    /// What kind of multipart, as `mixed`: a token.
+    pub subtype: &'a [u8],
+    /// The charset that texts name, as `utf-8`: a token.
+    pub charset: Option<&'a [u8]>,
+    /// What stands between the parts.
+    pub boundary: &'a [u8],
+}
+
+/// Whether there is no charset, or it is a token.
+pub fn is_charset(charset: Option<&[u8]>) -> bool
+    ensures { result ≡ is_charset_or_none (option_map (λ c. c.now) charset.entry) }
+{
+    match charset {
+        Some(charset) => is_token(charset),
+        None => true,
+    }
+}
+
+/// The charset for a media type: none but for texts.
+pub(crate) fn charset_for<'a>(charset: Option<&'a [u8]>, media: &[u8]) -> Option<&'a [u8]>
+    ensures { option_map (λ c. c.now) result ≡ charset_of_type (option_map (λ c. c.now) charset.entry) media.now }
+{
+    match charset {
+        Some(charset) if is_text(media) => Some(charset),
+        _ => None,
+    }
+}
+
+// Whether a media type is one of texts, in any case.
+fn is_text(media: &[u8]) -> bool
+    ensures { result ≡ is_of_text media.now }
+{
+    match split_at_first(media, SLASH) {
+        Some((main, _)) => main.eq_ignore_ascii_case(TEXT),
+        None => false,
+    }
+}
