@@ -1,0 +1,13 @@
+pub mod Attached
+pub mod FieldsFound
+pub mod PathsPlaced
+pub mod ContentsBack
+pub mod Base64Read
+pub mod FirstFields
+pub mod EncodingsKept
+pub mod Recodings
+pub mod GrownLines
+pub mod KeptContents
+pub mod GrownTexts
+pub mod KeptPlaces
+pub mod AppendsKept

@@ -1,0 +1,44 @@
+-- A part after the last one of a multipart (own).
+use Rattle.std.specs.Prelude.{◌++◌, if◌then◌else◌, ℕ, nat_le, Bool, true, Option, None, Some, List, [], ◌∷◌, length}
+use Rattle.mk_line.specs.declared.cutting.Ending.{Ending}
+use Rattle.mk_line.specs.Lines.{ending_bytes}
+use Rattle.mk_head.specs.Fields.{counted}
+use Rattle.mk_tree.specs.Sections.{Placed, children, raw_of}
+use Rattle.mk_decide.specs.Edits.{PlainEdit, InsertPart, SetSection}
+use Rattle.mk_expand.specs.Contents.{divided}
+
+-- a section gets an ending where no line follows it, so that it keeps its content when one does
+abbrev pub divided_at : Ending → List ℕ → Option Placed → List PlainEdit
+divided_at eol path None = []
+divided_at eol path (Some p) = if p.followed then [] else SetSection path (divided eol (raw_of p)) ∷ []
+
+-- so does the last of so many parts
+abbrev pub last_divided : Ending → List ℕ → ℕ → List Placed → List PlainEdit
+last_divided eol path number parts = divided_at eol (path ++ number ∷ []) (counted number parts)
+
+-- the greatest number of parts that an edit can name
+abbrev pub most_parts : ℕ
+most_parts = 4294967295
+
+-- a part after so many others
+abbrev pub after_parts : Ending → List ℕ → List ℕ → ℕ → List Placed → List PlainEdit
+after_parts eol path text count parts =
+    if nat_le count most_parts then last_divided eol path count parts ++ InsertPart path count text ∷ [] else InsertPart path most_parts text ∷ []
+
+-- a part after the others of a section, as far as numbers go
+abbrev pub appended : Ending → List ℕ → List ℕ → Placed → List PlainEdit
+appended eol path text p = after_parts eol path text (length (children p)) (children p)
+
+-- whether a line follows a section, where there is one
+abbrev pub followed_at : Option Placed → Bool
+followed_at None = true
+followed_at (Some p) = p.followed
+
+-- whether a line follows the last part of a section, as far as numbers go; without parts one does
+abbrev pub follows_last : Placed → Bool
+follows_last p = if nat_le (length (children p)) most_parts then followed_at (counted (length (children p)) (children p)) else true
+
+-- a made part as it goes after the others: with an ending where a line follows, since that ending isn't content (RFC 2046, 5.1.1)
+abbrev pub made_part : Ending → List ℕ → Option Placed → List ℕ
+made_part eol text None = text
+made_part eol text (Some p) = if follows_last p then text ++ ending_bytes eol else text

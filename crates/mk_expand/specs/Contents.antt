@@ -1,0 +1,28 @@
+-- Bytes as the content of a leaf: in its transfer encoding, and apart from the line after it (own; RFC 2045, 6; RFC 2046, 5.1.1).
+use Rattle.std.specs.Prelude.{◌++◌, if◌then◌else◌, ℕ, Bool, Option, None, Some, List}
+use Rattle.mk_line.specs.declared.cutting.Ending.{Ending}
+use Rattle.mk_line.specs.declared.cutting.Ending.TheVariants.{Crlf}
+use Rattle.mk_line.specs.Lines.{ending_bytes, ends_in_return}
+use Rattle.mk_head.specs.declared.encodings.Encoding.{Encoding}
+use Rattle.mk_head.specs.declared.encodings.Encoding.TheVariants.{Identity, Qp, Base64, Other}
+use Rattle.mk_code.specs.Base64Text.{base64_encoded}
+use Rattle.mk_code.specs.QuotedPrintable.{qp_encoded}
+
+-- bytes in a transfer encoding; there is none that is unknown
+abbrev pub encoded_in : Encoding → Ending → List ℕ → Option (List ℕ)
+encoded_in Identity eol bytes = Some bytes
+encoded_in Qp eol bytes = Some (qp_encoded eol bytes)
+encoded_in Base64 eol bytes = Some (base64_encoded eol bytes)
+encoded_in Other eol bytes = None
+
+-- the ending between a text and a line after it: CR LF after a CR, of which LF alone would make an ending
+abbrev pub dividing : Ending → List ℕ → List ℕ
+dividing eol text = ending_bytes (if ends_in_return text then Crlf else eol)
+
+-- a text with such an ending
+abbrev pub divided : Ending → List ℕ → List ℕ
+divided eol text = text ++ dividing eol text
+
+-- a body whose content is a text: where a line follows, the ending before it isn't content (RFC 2046, 5.1.1)
+abbrev pub body_with : Ending → Bool → List ℕ → List ℕ
+body_with eol followed text = if followed then divided eol text else text

@@ -1,0 +1,10 @@
+pub mod Paths
+pub mod Contents
+pub mod Appends
+pub mod Meanings
+pub mod FieldWords
+pub mod Encodings
+pub mod Pieces
+pub mod Words
+pub mod Views
+pub mod ExpandLaws

@@ -1,0 +1,43 @@
+//! Why a word stands for no edits.
+
+ghost use Rattle.std.specs.Prelude.{◌≡◌};
+ghost use Rattle.mk_expand.specs.declared.errors.WordError.TheVariants.{Memory};
+
+use std::alloc::{AllocError, AllocFailed};
+use thiserror::Error;
+
+/// Why a word of a script stands for no edits.
+#[derive(Clone, Copy, Debug, PartialEq, Eq, Error)]
+pub enum WordError {
+    /// The transfer encoding of the leaf is one that nothing can be written in (RFC 2045, 6).
+    #[error("the transfer encoding is unknown")]
+    UnknownEncoding,
+    /// The content of the leaf is said to be base64, and its letters are no encoding of any bytes.
+    #[error("the content is no base64")]
+    BadBase64,
+    /// The media type can't be attached.
+    #[error("the media type can't be attached")]
+    BadType,
+    /// The name can't be written.
+    #[error("the name can't be written")]
+    BadName,
+    /// Memory ran out.
+    #[error("out of memory")]
+    Memory,
+}
+
+impl From<AllocError> for WordError {
+    ghost from_gives = { λ _ e. e ≡ Memory };
+
+    fn from(_error: AllocError) -> WordError {
+        WordError::Memory
+    }
+}
+
+impl<T: Drop> From<AllocFailed<T>> for WordError {
+    ghost from_gives = { λ _ e. e ≡ Memory };
+
+    fn from(_error: AllocFailed<T>) -> WordError {
+        WordError::Memory
+    }
+}

@@ -1,0 +1,202 @@
+//! The words of a script, and what they stand for in a document.
+
+ghost use Rattle.std.specs.Prelude.{◌≡◌, ◌≢◌, ◌∷◌, [], Ok, IfOk, IfErr, OnOk};
+ghost use Rattle.mk_decide.specs.Views.{edit_of};
+ghost use Rattle.mk_tree.specs.Documents.{tree};
+ghost use Rattle.mk_tree.specs.Sections.{section_at};
+ghost use Rattle.mk_build.specs.Building.{closed_field};
+ghost use Rattle.mk_script.specs.ScriptViews.{said_by};
+ghost use Rattle.mk_show.specs.Parts.{attached_file};
+ghost use Rattle.mk_expand.specs.Views.{pieces_of, plain_edits, IsFault};
+ghost use Rattle.mk_expand.specs.Words.{attach_file, field_text, is_plain as stands_alone, meaning_of};
+
+use crate::appending::{append, part_to_append};
+use crate::contents::set_content;
+use crate::encodings::set_encoding;
+use crate::errors::WordError;
+use crate::field_words::{drop_all, put};
+use crate::ordering::removals;
+use crate::pieces::Pieces;
+use mk_build::{AttachError, attach};
+use mk_decide::Edit;
+use mk_line::{Ending, ends_open};
+use mk_script::{Target, Word};
+use mk_show::Spec;
+use mk_tree::Doc;
+use std::alloc::{AllocError, Global};
+
+/// Whether a word stands for one edit, the same in every document.
+pub fn is_plain(word: &Word) -> bool
+    ensures { result ≡ stands_alone (said_by word.now) }
+{
+    match word {
+        Word::Remove { paths } => paths.len() == 1,
+        Word::Add { .. }
+        | Word::Delete(_)
+        | Word::Rename { .. }
+        | Word::Set { .. }
+        | Word::Body { .. }
+        | Word::Replace { .. }
+        | Word::Insert { .. }
+        | Word::Wrap { .. } => true,
+        Word::Content { .. }
+        | Word::Encode { .. }
+        | Word::Put { .. }
+        | Word::PutPiece { .. }
+        | Word::DropAll { .. }
+        | Word::Append { .. }
+        | Word::Attach { .. } => false,
+    }
+}
+
+/// The edits that a word stands for in a document, in the order in which they are made. Lines that are made, and fields, end
+/// with `eol`. A path that leads nowhere is no fault: the edit that is refused for it stands for the word.
+pub fn edits_for(
+    alloc: Global,
+    word: Word,
+    doc: &Doc,
+    pieces: Pieces<'_>,
+    eol: Ending,
+) -> Result<Vec<Edit>, WordError>
+    requires { eol ≢ Ending.Missing }
+    ensures edits { IfOk result (λ edits. meaning_of (pieces_of pieces.entry) eol (tree doc.now) (said_by word) ≡ Ok (plain_edits edits.items)) }
+    ensures fault { IfErr result (λ error. IsFault error (meaning_of (pieces_of pieces.entry) eol (tree doc.now) (said_by word))) }
+{
+    match word {
+        Word::Add { path, top, field } => {
+            let text = ended(field, eol)?;
+            alone(alloc, Edit::AddField { path, top, text })
+        }
+        Word::Delete(target) => {
+            let Target { path, name, k } = target;
+            alone(alloc, Edit::RemoveField { path, name, k })
+        }
+        Word::Rename { target, to } => {
+            let Target { path, name, k } = target;
+            alone(alloc, Edit::RenameField { path, name, k, to })
+        }
+        Word::Set { target, field } => {
+            let Target { path, name, k } = target;
+            let text = ended(field, eol)?;
+            alone(
+                alloc,
+                Edit::SetField {
+                    path,
+                    name,
+                    k,
+                    text,
+                },
+            )
+        }
+        Word::Body { path, piece } => {
+            let text = pieces.lines(alloc, piece, eol)?;
+            alone(alloc, Edit::SetBody { path, text })
+        }
+        Word::Replace { path, piece } => {
+            let text = pieces.lines(alloc, piece, eol)?;
+            alone(alloc, Edit::SetSection { path, text })
+        }
+        Word::Insert { path, place, piece } => {
+            let text = pieces.lines(alloc, piece, eol)?;
+            alone(alloc, Edit::InsertPart { path, place, text })
+        }
+        Word::Remove { paths } => Ok(removals(alloc, paths)?),
+        Word::Wrap {
+            path,
+            subtype,
+            boundary,
+        } => alone(
+            alloc,
+            Edit::Wrap {
+                path,
+                subtype,
+                boundary,
+            },
+        ),
+        Word::Content { path, piece } => {
+            let bytes = pieces.lines(alloc, piece, eol)?;
+            set_content(alloc, doc, path, &bytes, eol)
+        }
+        Word::Encode { path, to } => set_encoding(alloc, doc, path, to, eol),
+        Word::Put { path, field } => {
+            let text = ended(field, eol)?;
+            Ok(put(alloc, doc, &path, &text)?)
+        }
+        Word::PutPiece { path, piece } => {
+            let text = closed(pieces.lines(alloc, piece, eol)?, eol)?;
+            Ok(put(alloc, doc, &path, &text)?)
+        }
+        Word::DropAll { path, name } => Ok(drop_all(alloc, doc, &path, &name)?),
+        Word::Append { path, piece } => {
+            let text = pieces.lines(alloc, piece, eol)?;
+            Ok(append(alloc, doc, path, text, eol)?)
+        }
+        Word::Attach {
+            path,
+            media,
+            name,
+            piece,
+        } => {
+            let text = Vec::from_slice(alloc, pieces.text(piece))?;
+            let file = Spec {
+                media: &media,
+                path: &name,
+            };
+            attach_to(alloc, doc, path, &file, text, eol)
+        }
+    }
+}
+
+/// One edit, and nothing else.
+pub(crate) fn alone(alloc: Global, edit: Edit) -> Result<Vec<Edit>, WordError>
+    ensures edits { IfOk result (λ edits. plain_edits edits.items ≡ edit_of edit ∷ []) }
+    ensures memory { IfErr result (λ error. error ≡ WordError.Memory) }
+{
+    let mut edits = Vec::new(alloc);
+    edits.push(edit)?;
+    Ok(edits)
+}
+
+// A file as a part after the others.
+fn attach_to(
+    alloc: Global,
+    doc: &Doc,
+    path: Vec<u32>,
+    file: &Spec<'_>,
+    text: Vec<u8>,
+    eol: Ending,
+) -> Result<Vec<Edit>, WordError>
+    requires { eol ≢ Ending.Missing }
+    ensures edits { IfOk result (λ edits. attach_file eol path.items (attached_file (record { media = file.now.media.now; path = file.now.path.now }) text.items) (section_at path.items (tree doc.now)) ≡ Ok (plain_edits edits.items)) }
+    ensures fault { IfErr result (λ error. IsFault error (attach_file eol path.items (attached_file (record { media = file.now.media.now; path = file.now.path.now }) text.items) (section_at path.items (tree doc.now)))) }
+{
+    let part = file.attach(alloc, text)?;
+    match attach(alloc, &part, eol) {
+        Ok(text) => {
+            let text = part_to_append(doc, &path, text, eol)?;
+            Ok(append(alloc, doc, path, text, eol)?)
+        }
+        Err(AttachError::BadType) => Err(WordError::BadType),
+        Err(AttachError::BadName) => Err(WordError::BadName),
+        Err(AttachError::Memory) => Err(WordError::Memory),
+    }
+}
+
+// A field with an ending.
+fn ended(field: Vec<u8>, eol: Ending) -> Result<Vec<u8>, AllocError>
+    ensures { IfOk result (λ text. text.items ≡ field_text eol field.items) }
+{
+    let mut text = field;
+    text.extend_from_slice(eol.bytes())?;
+    Ok(text)
+}
+
+// A field that is a piece, with an ending where its last line has none.
+fn closed(field: Vec<u8>, eol: Ending) -> Result<Vec<u8>, AllocError>
+    ensures { IfOk result (λ text. text.items ≡ closed_field eol field.items) }
+{
+    if ends_open(&field) {
+        return ended(field, eol);
+    }
+    Ok(field)
+}
