@@ -7,3 +7,5 @@ pub mod LineLemmas
 pub mod ScriptTurns
 pub mod WrittenLemmas
 pub mod PieceWords
+pub mod PlacedWords
+pub mod JobWords

@@ -96,3 +96,8 @@ pieces_of-whole separator text e = elim (cases_Bool (nat_lt (place_of separator 
 abbrev pub numbers_onto : List ℕ → Option (List ℕ) → Option (List ℕ)
 numbers_onto read None = None
 numbers_onto read (Some numbers) = Some (read ++ numbers)
+
+-- paths that were read, and then those of the rest
+abbrev pub paths_onto : List (List ℕ) → Option (List (List ℕ)) → Option (List (List ℕ))
+paths_onto read None = None
+paths_onto read (Some paths) = Some (read ++ paths)

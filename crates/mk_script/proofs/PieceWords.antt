@@ -1,69 +1,20 @@
 -- The words of a script that change more than fields, as they are written.
-use Rattle.std.proofs.Common.{◌≡◌, ◌<◌, ◌^◌, ℕ, true, if◌then◌else◌, List, ◌∷◌, ◌++◌, Some, None, codes, decimal, nat_le, refl, ap, ◌∙◌, subst, inl, inr, arith}
-use Rattle.std.proofs.lemmas.Bool.{cases_Bool, leb-true, le-leb}
-use Rattle.std.proofs.lemmas.Slice.Eq.{bytes_eq-Decides}
+use Rattle.std.proofs.Common.{◌≡◌, ◌<◌, ◌^◌, ℕ, true, List, [], ◌∷◌, ◌++◌, Option, Some, None, codes, decimal, length, map, refl, sym, ap, ◌∙◌, subst, inl, inr, arith}
+use Rattle.std.proofs.lemmas.Bool.{cases_Bool}
+use Rattle.std.specs.List.{join_with_byte}
 use Rattle.std.specs.Option.{option_map, option_and_then}
 use Rattle.std.specs.Str.{bytes_eq}
 use Rattle.mk_line.specs.Ascii.{space}
-use Rattle.mk_script.specs.Paths.{parted, number_of, path_of}
+use Rattle.mk_script.specs.Paths.{parted, pieces_of, path_of}
 use Rattle.mk_script.specs.Targets.{is_name, count_of}
-use Rattle.mk_script.specs.Script.{ScriptWord, Bodies, Replaces, Inserts, Removes, Wraps, piece_of, with_piece, placing, with_place, with_places, inserting, removing, with_subtype, with_wrapping, wrapping, word_on}
-use Rattle.mk_script.specs.Written.{IsPath, IsPiece, written_path, written_place, IsWord, written}
-use Rattle.mk_script.proofs.NumberLemmas.{some_same, none_some, number_of-decimal, number_of-written, decimal_digits}
-use Rattle.mk_script.proofs.PieceLemmas.{HoldsNo-digits, parted-append, parted-joined}
+use Rattle.mk_script.specs.Script.{ScriptWord, Bodies, Replaces, Inserts, Removes, Wraps, piece_of, with_path, paths_of, with_place, with_places, inserting, removing, with_subtype, with_wrapping, wrapping, word_on}
+use Rattle.mk_script.specs.Written.{ArePaths, IsPath, IsPiece, written_path, IsWord, written}
+use Rattle.mk_script.proofs.NumberLemmas.{some_same, none_some, decimal_digits}
+use Rattle.mk_script.proofs.PieceLemmas.{AllHoldNo, HasFirst, HoldsNo-digits, join-pieces_of, parted-append, parted-joined, pieces_of-join, pieces_of-some}
+use Rattle.mk_script.proofs.PlacedWords.{named, piece-read, piece-written, placing-read}
+use Rattle.mk_script.proofs.JobWords.{job_of-parts}
 use Rattle.mk_script.proofs.WrittenLemmas.{path_of-decimal, path_of-written}
 use Rattle.mk_script.proofs.TargetLemmas.{and_then-some, map-some, path_holds, name_holds, count_of-decimal, count_of-written}
-
--- a word's name, a space and what it is given make up the line
-pub named : (name line : List ℕ) (word : ScriptWord) (p : List ℕ × List ℕ) → line ≡ p.0 ++ (space ∷ p.1) → bytes_eq p.0 name ≡ true
-    → name ++ (space ∷ p.1) ≡ written word → line ≡ written word
-named name line word p parts same is = parts ∙ ap (λ n. n ++ (space ∷ p.1)) ((bytes_eq-Decides p.0 name).0 same) ∙ is
-
--- the number of a piece
-piece-read : (count : ℕ) (text : List ℕ) (piece : ℕ) → piece_of count text ≡ Some piece → IsPiece count piece × (text ≡ decimal piece)
-piece-read count text piece e =
-    let found = and_then-some (λ k. if nat_le k count then Some k else None) (number_of text) piece e in
-    elim (cases_Bool (nat_le found.0 count)) [
-      | inr f ↦ absurd (none_some (rw f at found.2))
-      | inl t ↦
-          let same : found.0 ≡ piece = some_same (rw t at found.2) in
-          let read = number_of-decimal text found.0 found.1 in
-          subst (λ k. IsPiece count k × (text ≡ decimal k)) same (record { some = read.0; fits = read.1; there = leb-true found.0 count t }, read.2)
-    ]
-
-piece-written : (count piece : ℕ) → IsPiece count piece → piece_of count (decimal piece) ≡ Some piece
-piece-written count piece h = let there : nat_le piece count ≡ true = le-leb piece count h.there in rw (number_of-written piece h.some h.fits, there) refl
-
--- a path and a piece
-with_piece-read : (count : ℕ) (make : List ℕ → ℕ → ScriptWord) (p : List ℕ × List ℕ) (word : ScriptWord) → with_piece count make p ≡ Some word
-    → (path : List ℕ) × (piece : ℕ) × IsPath path × IsPiece count piece × (p.0 ≡ written_path path) × (p.1 ≡ decimal piece) × (make path piece ≡ word)
-with_piece-read count make p word e =
-    let q = and_then-some (λ path. option_map (make path) (piece_of count p.1)) (path_of p.0) word e in
-    let k = map-some (make q.0) (piece_of count p.1) word q.2 in
-    let path = path_of-decimal p.0 q.0 q.1 in
-    let piece = piece-read count p.1 k.0 k.1 in
-    (q.0, k.0, path.0, piece.0, path.1, piece.1, k.2)
-
-placing-read : (count : ℕ) (make : List ℕ → ℕ → ScriptWord) (rest : List ℕ) (word : ScriptWord) → placing count make rest ≡ Some word
-    → (path : List ℕ) × (piece : ℕ) × IsPath path × IsPiece count piece × (rest ≡ written_place path piece) × (make path piece ≡ word)
-placing-read count make rest word e =
-    let p = and_then-some (with_piece count make) (parted space rest) word e in
-    let r = with_piece-read count make p.0 word p.2 in
-    let joined : rest ≡ p.0.0 ++ (space ∷ p.0.1) = parted-joined space rest p.0 p.1 in
-    (r.0, r.1, r.2, r.3, joined ∙ (ap (λ front. front ++ (space ∷ p.0.1)) r.4 ∙ ap (λ n. written_path r.0 ++ (space ∷ n)) r.5), r.6)
-
-pub placing-written : (count : ℕ) (make : List ℕ → ℕ → ScriptWord) (path : List ℕ) (piece : ℕ) → IsPath path → IsPiece count piece → placing count make (written_place path piece) ≡ Some (make path piece)
-placing-written count make path piece h k = rw (parted-append space (written_path path) (decimal piece) (path_holds path h), path_of-written path h, piece-written count piece k) refl
-
-body-read : (count : ℕ) (rest : List ℕ) (word : ScriptWord) → placing count (λ path piece. Bodies path piece) rest ≡ Some word → IsWord count word × (codes "body" ++ (space ∷ rest) ≡ written word)
-body-read count rest word e =
-    let r = placing-read count (λ path piece. Bodies path piece) rest word e in
-    subst (λ w. IsWord count w × (codes "body" ++ (space ∷ rest) ≡ written w)) r.5 ((r.2, r.3), ap (λ l. codes "body" ++ (space ∷ l)) r.4)
-
-replace-read : (count : ℕ) (rest : List ℕ) (word : ScriptWord) → placing count (λ path piece. Replaces path piece) rest ≡ Some word → IsWord count word × (codes "replace" ++ (space ∷ rest) ≡ written word)
-replace-read count rest word e =
-    let r = placing-read count (λ path piece. Replaces path piece) rest word e in
-    subst (λ w. IsWord count w × (codes "replace" ++ (space ∷ rest) ≡ written w)) r.5 ((r.2, r.3), ap (λ l. codes "replace" ++ (space ∷ l)) r.4)
 
 -- a part more
 place-read : (count : ℕ) (path : List ℕ) (p : List ℕ × List ℕ) (word : ScriptWord) → with_place count path p ≡ Some word
@@ -93,11 +44,49 @@ inserting-written count path place piece h small k =
     let number = HoldsNo-digits space (decimal place) (omega arith) (decimal_digits place small) in
     rw (parted-append space (written_path path) (decimal place ++ (space ∷ decimal piece)) (path_holds path h), path_of-written path h, parted-append space (decimal place) (decimal piece) number, count_of-written place small, piece-written count piece k) refl
 
+-- paths, each as it is written
+paths_of-with : (text : List ℕ) (texts : List (List ℕ)) (paths : List (List ℕ)) (first : Option (List ℕ)) (others : Option (List (List ℕ)))
+    → path_of text ≡ first → ((ps : List (List ℕ)) → others ≡ Some ps → ArePaths ps × (texts ≡ map written_path ps))
+    → with_path first others ≡ Some paths → ArePaths paths × (text ∷ texts ≡ map written_path paths)
+paths_of-with text texts paths None others f rest e = absurd (none_some e)
+paths_of-with text texts paths (Some p) None f rest e = absurd (none_some e)
+paths_of-with text texts paths (Some p) (Some ps) f rest e =
+    let same : p ∷ ps ≡ paths = some_same e in
+    let one = path_of-decimal text p f in
+    let more = rest ps refl in
+    subst (λ all. ArePaths all × (text ∷ texts ≡ map written_path all)) same ((one.0, more.0), ap (λ t. t ∷ texts) one.1 ∙ ap (λ ts. written_path p ∷ ts) more.1)
+
+paths_of-read : (texts : List (List ℕ)) (paths : List (List ℕ)) → paths_of texts ≡ Some paths → ArePaths paths × (texts ≡ map written_path paths)
+paths_of-read [] paths e =
+    let none : [] ≡ paths = some_same e in
+    subst (λ all. ArePaths all × ([] ≡ map written_path all)) none (tt, refl)
+paths_of-read (text ∷ texts) paths e = paths_of-with text texts paths (path_of text) (paths_of texts) refl (λ ps. paths_of-read texts ps) e
+
+paths_of-written : (paths : List (List ℕ)) → ArePaths paths → paths_of (map written_path paths) ≡ Some paths
+paths_of-written [] h = refl
+paths_of-written (p ∷ ps) h = rw (path_of-written p h.0, paths_of-written ps h.1) refl
+
+some_paths : (paths : List (List ℕ)) → HasFirst (map written_path paths) → 0 < length paths
+some_paths [] h = absurd h
+some_paths (p ∷ ps) h = omega arith
+
+all_hold : (paths : List (List ℕ)) → ArePaths paths → AllHoldNo space (map written_path paths)
+all_hold [] h = tt
+all_hold (p ∷ ps) h = (path_holds p h.0, all_hold ps h.1)
+
 remove-read : (count : ℕ) (rest : List ℕ) (word : ScriptWord) → removing rest ≡ Some word → IsWord count word × (codes "remove" ++ (space ∷ rest) ≡ written word)
 remove-read count rest word e =
-    let found = map-some (λ path. Removes path) (path_of rest) word e in
-    let read = path_of-decimal rest found.0 found.1 in
-    subst (λ w. IsWord count w × (codes "remove" ++ (space ∷ rest) ≡ written w)) found.2 (read.0, ap (λ l. codes "remove" ++ (space ∷ l)) read.1)
+    let found = map-some (λ paths. Removes paths) (paths_of (pieces_of space rest)) word e in
+    let read = paths_of-read (pieces_of space rest) found.0 found.1 in
+    let some : HasFirst (map written_path found.0) = subst HasFirst read.1 (pieces_of-some space rest) in
+    let is : rest ≡ join_with_byte space (map written_path found.0) = sym (join-pieces_of space rest) ∙ ap (join_with_byte space) read.1 in
+    subst (λ w. IsWord count w × (codes "remove" ++ (space ∷ rest) ≡ written w)) found.2 ((some_paths found.0 some, read.0), ap (λ l. codes "remove" ++ (space ∷ l)) is)
+
+pub removing-written : (paths : List (List ℕ)) → 0 < length paths → ArePaths paths → removing (join_with_byte space (map written_path paths)) ≡ Some (Removes paths)
+removing-written [] some h = absurd (omega arith)
+removing-written (p ∷ ps) some h =
+    let parts = pieces_of-join space (written_path p) (map written_path ps) (all_hold (p ∷ ps) h) in
+    rw (parts, paths_of-written (p ∷ ps) h) refl
 
 wrap-read : (count : ℕ) (rest : List ℕ) (word : ScriptWord) → wrapping rest ≡ Some word → IsWord count word × (codes "wrap" ++ (space ∷ rest) ≡ written word)
 wrap-read count rest word e =
@@ -121,16 +110,16 @@ wrapping-written path subtype boundary h n =
 
 pub word_on-parts : (count : ℕ) (line : List ℕ) (word : ScriptWord) (p : List ℕ × List ℕ) → line ≡ p.0 ++ (space ∷ p.1) → word_on count p ≡ Some word → IsWord count word × (line ≡ written word)
 word_on-parts count line word p parts said = elim (cases_Bool (bytes_eq p.0 (codes "body"))) [
-  | inl body ↦ let read = body-read count p.1 word (rw body at said) in (read.0, named (codes "body") line word p parts body read.1)
+  | inl body ↦ let read = placing-read count (codes "body") (λ path piece. Bodies path piece) p.1 word (λ path piece h k. ((h, k), refl)) (rw body at said) in (read.0, named (codes "body") line word p parts body read.1)
   | inr other ↦ elim (cases_Bool (bytes_eq p.0 (codes "replace"))) [
-    | inl replace ↦ let read = replace-read count p.1 word (rw (other, replace) at said) in (read.0, named (codes "replace") line word p parts replace read.1)
+    | inl replace ↦ let read = placing-read count (codes "replace") (λ path piece. Replaces path piece) p.1 word (λ path piece h k. ((h, k), refl)) (rw (other, replace) at said) in (read.0, named (codes "replace") line word p parts replace read.1)
     | inr neither ↦ elim (cases_Bool (bytes_eq p.0 (codes "insert"))) [
       | inl insert ↦ let read = insert-read count p.1 word (rw (other, neither, insert) at said) in (read.0, named (codes "insert") line word p parts insert read.1)
       | inr more ↦ elim (cases_Bool (bytes_eq p.0 (codes "remove"))) [
         | inl remove ↦ let read = remove-read count p.1 word (rw (other, neither, more, remove) at said) in (read.0, named (codes "remove") line word p parts remove read.1)
         | inr last ↦ elim (cases_Bool (bytes_eq p.0 (codes "wrap"))) [
           | inl wrap ↦ let read = wrap-read count p.1 word (rw (other, neither, more, last, wrap) at said) in (read.0, named (codes "wrap") line word p parts wrap read.1)
-          | inr none ↦ absurd (none_some (rw (other, neither, more, last, none) at said))
+          | inr none ↦ job_of-parts count line word p parts (rw (other, neither, more, last, none) at said)
         ]
       ]
     ]

@@ -1,18 +1,21 @@
 -- The words of a script, as they are written.
-use Rattle.std.proofs.Common.{◌≡◌, ℕ, Bool, true, false, if◌then◌else◌, List, ◌∷◌, ◌++◌, Some, None, Option, codes, decimal, refl, ap, ◌∙◌, subst, inl, inr, arith}
+use Rattle.std.proofs.Common.{◌≡◌, ℕ, Bool, true, false, if◌then◌else◌, List, ◌∷◌, ◌++◌, Some, None, Option, codes, decimal, map, refl, ap, ◌∙◌, subst, inl, inr}
 use Rattle.std.proofs.lemmas.Bool.{cases_Bool}
+use Rattle.std.specs.List.{join_with_byte}
 use Rattle.std.specs.Option.{option_map, option_and_then}
 use Rattle.std.specs.Str.{bytes_eq}
 use Rattle.mk_line.specs.Ascii.{space}
 use Rattle.mk_script.specs.Paths.{parted, path_of}
 use Rattle.mk_script.specs.Targets.{Target, is_name, whole_target, target_front}
-use Rattle.mk_script.specs.Script.{ScriptWord, Adds, Deletes, Renames, Sets, Bodies, Replaces, Inserts, Removes, Wraps, adding, deleting, renaming, setting, word_at, word_with, word_of}
-use Rattle.mk_script.specs.Written.{IsPath, written_path, written_target, written_place, IsWord, written}
+use Rattle.mk_script.specs.Script.{ScriptWord, Adds, Deletes, Renames, Sets, Bodies, Replaces, Inserts, Removes, Wraps, SetsContent, Encodes, Puts, PutsPiece, DropsAll, Appends, Attaches, adding, deleting, renaming, setting, word_at, word_with, word_of}
+use Rattle.mk_script.specs.Written.{IsPath, encoding_word, written_path, written_target, written_place, IsWord, written}
 use Rattle.mk_script.proofs.NumberLemmas.{some_same, none_some}
-use Rattle.mk_script.proofs.PieceLemmas.{HoldsNo, parted-append, parted-joined}
+use Rattle.mk_script.proofs.PieceLemmas.{parted-append, parted-joined}
 use Rattle.mk_script.proofs.WrittenLemmas.{path_of-decimal, path_of-written}
-use Rattle.mk_script.proofs.PieceWords.{named, word_on-parts, placing-written, inserting-written, wrapping-written}
-use Rattle.mk_script.proofs.TargetLemmas.{and_then-some, map-some, path_holds, whole_target-read, whole_target-written, target_front-read, target_front-written}
+use Rattle.mk_script.proofs.PlacedWords.{named, placing-written}
+use Rattle.mk_script.proofs.PieceWords.{word_on-parts, inserting-written, removing-written, wrapping-written}
+use Rattle.mk_script.proofs.JobWords.{encoding-written, putting-written, dropping-written, attaching-written}
+use Rattle.mk_script.proofs.TargetLemmas.{and_then-some, map-some, name_holds, path_holds, whole_target-read, whole_target-written, target_front-read, target_front-written}
 
 -- the name of a word that adds a field
 abbrev name_of : Bool → List ℕ
@@ -95,33 +98,30 @@ adding-written top path field h =
 
 -- a word that is written is said by the line
 pub word_of-written : (count : ℕ) (word : ScriptWord) → IsWord count word → word_of count (written word) ≡ Some word
-word_of-written count (Adds path false field) h =
-    let name : HoldsNo space (codes "add") = ((λ e. omega arith), ((λ e. omega arith), ((λ e. omega arith), tt))) in
-    rw (parted-append space (codes "add") (written_path path ++ (space ∷ field)) name) (adding-written false path field h)
-word_of-written count (Adds path true field) h =
-    let name : HoldsNo space (codes "top") = ((λ e. omega arith), ((λ e. omega arith), ((λ e. omega arith), tt))) in
-    rw (parted-append space (codes "top") (written_path path ++ (space ∷ field)) name) (adding-written true path field h)
-word_of-written count (Deletes target) h =
-    let name : HoldsNo space (codes "del") = ((λ e. omega arith), ((λ e. omega arith), ((λ e. omega arith), tt))) in
-    rw (parted-append space (codes "del") (written_target target) name, whole_target-written target h) refl
+word_of-written count (Adds path false field) h = rw (parted-append space (codes "add") (written_path path ++ (space ∷ field)) (name_holds (codes "add") refl)) (adding-written false path field h)
+word_of-written count (Adds path true field) h = rw (parted-append space (codes "top") (written_path path ++ (space ∷ field)) (name_holds (codes "top") refl)) (adding-written true path field h)
+word_of-written count (Deletes target) h = rw (parted-append space (codes "del") (written_target target) (name_holds (codes "del") refl), whole_target-written target h) refl
 word_of-written count (Renames target to) h =
-    let name : HoldsNo space (codes "ren") = ((λ e. omega arith), ((λ e. omega arith), ((λ e. omega arith), tt))) in
-    rw (parted-append space (codes "ren") (written_target target ++ (space ∷ to)) name, target_front-written target to h.0, h.1) refl
-word_of-written count (Sets target field) h =
-    let name : HoldsNo space (codes "set") = ((λ e. omega arith), ((λ e. omega arith), ((λ e. omega arith), tt))) in
-    rw (parted-append space (codes "set") (written_target target ++ (space ∷ field)) name, target_front-written target field h) refl
+    rw (parted-append space (codes "ren") (written_target target ++ (space ∷ to)) (name_holds (codes "ren") refl), target_front-written target to h.0, h.1) refl
+word_of-written count (Sets target field) h = rw (parted-append space (codes "set") (written_target target ++ (space ∷ field)) (name_holds (codes "set") refl), target_front-written target field h) refl
 word_of-written count (Bodies path piece) h =
-    let name : HoldsNo space (codes "body") = ((λ e. omega arith), ((λ e. omega arith), ((λ e. omega arith), ((λ e. omega arith), tt)))) in
-    rw (parted-append space (codes "body") (written_place path piece) name) (placing-written count (λ p k. Bodies p k) path piece h.0 h.1)
+    rw (parted-append space (codes "body") (written_place path piece) (name_holds (codes "body") refl)) (placing-written count (λ p k. Bodies p k) path piece h.0 h.1)
 word_of-written count (Replaces path piece) h =
-    let name : HoldsNo space (codes "replace") = ((λ e. omega arith), ((λ e. omega arith), ((λ e. omega arith), ((λ e. omega arith), ((λ e. omega arith), ((λ e. omega arith), ((λ e. omega arith), tt))))))) in
-    rw (parted-append space (codes "replace") (written_place path piece) name) (placing-written count (λ p k. Replaces p k) path piece h.0 h.1)
+    rw (parted-append space (codes "replace") (written_place path piece) (name_holds (codes "replace") refl)) (placing-written count (λ p k. Replaces p k) path piece h.0 h.1)
 word_of-written count (Inserts path place piece) h =
-    let name : HoldsNo space (codes "insert") = ((λ e. omega arith), ((λ e. omega arith), ((λ e. omega arith), ((λ e. omega arith), ((λ e. omega arith), ((λ e. omega arith), tt)))))) in
-    rw (parted-append space (codes "insert") (written_path path ++ (space ∷ (decimal place ++ (space ∷ decimal piece)))) name) (inserting-written count path place piece h.0 h.1 h.2)
-word_of-written count (Removes path) h =
-    let name : HoldsNo space (codes "remove") = ((λ e. omega arith), ((λ e. omega arith), ((λ e. omega arith), ((λ e. omega arith), ((λ e. omega arith), ((λ e. omega arith), tt)))))) in
-    rw (parted-append space (codes "remove") (written_path path) name, path_of-written path h) refl
+    rw (parted-append space (codes "insert") (written_path path ++ (space ∷ (decimal place ++ (space ∷ decimal piece)))) (name_holds (codes "insert") refl)) (inserting-written count path place piece h.0 h.1 h.2)
+word_of-written count (Removes paths) h =
+    rw (parted-append space (codes "remove") (join_with_byte space (map written_path paths)) (name_holds (codes "remove") refl)) (removing-written paths h.0 h.1)
 word_of-written count (Wraps path subtype boundary) h =
-    let name : HoldsNo space (codes "wrap") = ((λ e. omega arith), ((λ e. omega arith), ((λ e. omega arith), ((λ e. omega arith), tt)))) in
-    rw (parted-append space (codes "wrap") (written_path path ++ (space ∷ (subtype ++ (space ∷ boundary)))) name) (wrapping-written path subtype boundary h.0 h.1)
+    rw (parted-append space (codes "wrap") (written_path path ++ (space ∷ (subtype ++ (space ∷ boundary)))) (name_holds (codes "wrap") refl)) (wrapping-written path subtype boundary h.0 h.1)
+word_of-written count (SetsContent path piece) h =
+    rw (parted-append space (codes "content") (written_place path piece) (name_holds (codes "content") refl)) (placing-written count (λ p k. SetsContent p k) path piece h.0 h.1)
+word_of-written count (Encodes path to) h = rw (parted-append space (codes "encode") (written_path path ++ (space ∷ encoding_word to)) (name_holds (codes "encode") refl)) (encoding-written path to h)
+word_of-written count (Puts path field) h = rw (parted-append space (codes "put") (written_path path ++ (space ∷ field)) (name_holds (codes "put") refl)) (putting-written path field h)
+word_of-written count (PutsPiece path piece) h =
+    rw (parted-append space (codes "put-piece") (written_place path piece) (name_holds (codes "put-piece") refl)) (placing-written count (λ p k. PutsPiece p k) path piece h.0 h.1)
+word_of-written count (DropsAll path name) h = rw (parted-append space (codes "drop") (written_path path ++ (space ∷ name)) (name_holds (codes "drop") refl)) (dropping-written path name h.0 h.1)
+word_of-written count (Appends path piece) h =
+    rw (parted-append space (codes "append") (written_place path piece) (name_holds (codes "append") refl)) (placing-written count (λ p k. Appends p k) path piece h.0 h.1)
+word_of-written count (Attaches path media name piece) h =
+    rw (parted-append space (codes "attach") (written_path path ++ (space ∷ (media ++ (space ∷ (name ++ (space ∷ decimal piece)))))) (name_holds (codes "attach") refl)) (attaching-written count path media name piece h.0 h.1 h.2 h.3)

@@ -4,3 +4,4 @@ pub mod ScriptSteps
 pub mod ScriptViews
 pub mod Targets
 pub mod Written
+pub mod Reasons

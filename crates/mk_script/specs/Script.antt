@@ -4,7 +4,9 @@ use Rattle.std.specs.Option.{option_map, option_and_then}
 use Rattle.std.specs.Str.{bytes_eq}
 use Rattle.mk_line.specs.Ascii.{space}
 use Rattle.mk_line.specs.Lines.{TextLine, cut}
-use Rattle.mk_script.specs.Paths.{parted, number_of, path_of}
+use Rattle.mk_script.specs.declared.script.ChosenEncoding.{ChosenEncoding}
+use Rattle.mk_script.specs.declared.script.ChosenEncoding.TheVariants.{QuotedPrintable, Base64, EightBit}
+use Rattle.mk_script.specs.Paths.{parted, pieces_of, number_of, path_of}
 use Rattle.mk_script.specs.Targets.{Target, is_name, count_of, whole_target, target_front}
 
 -- b'#'
@@ -20,8 +22,15 @@ pub data ScriptWord : Type 0 where
   Bodies : (path : List ℕ) (piece : ℕ) → ScriptWord
   Replaces : (path : List ℕ) (piece : ℕ) → ScriptWord
   Inserts : (path : List ℕ) (place piece : ℕ) → ScriptWord
-  Removes : (path : List ℕ) → ScriptWord
+  Removes : (paths : List (List ℕ)) → ScriptWord
   Wraps : (path subtype boundary : List ℕ) → ScriptWord
+  SetsContent : (path : List ℕ) (piece : ℕ) → ScriptWord
+  Encodes : (path : List ℕ) (to : ChosenEncoding) → ScriptWord
+  Puts : (path field : List ℕ) → ScriptWord
+  PutsPiece : (path : List ℕ) (piece : ℕ) → ScriptWord
+  DropsAll : (path name : List ℕ) → ScriptWord
+  Appends : (path : List ℕ) (piece : ℕ) → ScriptWord
+  Attaches : (path media name : List ℕ) (piece : ℕ) → ScriptWord
 
 -- what one line of a script says: an edit, to take the last step back, to make it again, and where a group begins and ends
 pub data ScriptLine : Type 0 where
@@ -55,13 +64,17 @@ within count number = option_and_then (λ k. if nat_le k count then Some k else 
 abbrev pub piece_of : ℕ → List ℕ → Option ℕ
 piece_of count text = within count (number_of text)
 
--- a word that is given a path and a piece
-abbrev pub with_piece : ℕ → (List ℕ → ℕ → ScriptWord) → List ℕ × List ℕ → Option ScriptWord
-with_piece count word p = option_and_then (λ path. option_map (word path) (piece_of count p.1)) (path_of p.0)
+-- a path, and a piece after it
+abbrev pub with_piece : ℕ → List ℕ × List ℕ → Option (List ℕ × ℕ)
+with_piece count p = option_and_then (λ path. option_map (λ piece. (path, piece)) (piece_of count p.1)) (path_of p.0)
 
--- `body` and `replace` are given a path and a piece
+-- a path and a piece, parted by one space
+abbrev pub placed : ℕ → List ℕ → Option (List ℕ × ℕ)
+placed count rest = option_and_then (with_piece count) (parted space rest)
+
+-- `body`, `replace`, `content`, `put-piece` and `append` are given a path and a piece
 abbrev pub placing : ℕ → (List ℕ → ℕ → ScriptWord) → List ℕ → Option ScriptWord
-placing count word rest = option_and_then (with_piece count word) (parted space rest)
+placing count word rest = option_map (λ p. word p.0 p.1) (placed count rest)
 
 -- `insert` is given a path, how many parts stand before the new one, and a piece
 abbrev pub with_place : ℕ → List ℕ → List ℕ × List ℕ → Option ScriptWord
@@ -75,9 +88,19 @@ with_places count p = option_and_then (λ path. option_and_then (with_place coun
 abbrev pub inserting : ℕ → List ℕ → Option ScriptWord
 inserting count rest = option_and_then (with_places count) (parted space rest)
 
--- `remove` is given a path
+-- a path before others, where all are there
+abbrev pub with_path : Option (List ℕ) → Option (List (List ℕ)) → Option (List (List ℕ))
+with_path None paths = None
+with_path (Some path) paths = option_map (λ ps. path ∷ ps) paths
+
+-- the paths that texts write, where each writes one
+abbrev pub paths_of : List (List ℕ) → Option (List (List ℕ))
+paths_of [] = Some []
+paths_of (text ∷ texts) = with_path (path_of text) (paths_of texts)
+
+-- `remove` is given one path or more, parted by one space
 abbrev pub removing : List ℕ → Option ScriptWord
-removing rest = option_map (λ path. Removes path) (path_of rest)
+removing rest = option_map (λ paths. Removes paths) (paths_of (pieces_of space rest))
 
 -- `wrap` is given a path, a subtype, and a boundary, which may hold spaces and may be empty
 abbrev pub with_subtype : List ℕ → List ℕ × List ℕ → Option ScriptWord
@@ -91,6 +114,48 @@ with_wrapping p = option_and_then (λ path. option_and_then (with_subtype path) 
 abbrev pub wrapping : List ℕ → Option ScriptWord
 wrapping rest = option_and_then with_wrapping (parted space rest)
 
+-- the transfer encoding of a name
+abbrev pub chosen : List ℕ → Option ChosenEncoding
+chosen name =
+    if bytes_eq name (codes "qp") then Some QuotedPrintable
+    else (if bytes_eq name (codes "base64") then Some Base64
+    else (if bytes_eq name (codes "8bit") then Some EightBit else None))
+
+-- `encode` is given a path and a transfer encoding
+abbrev pub encoding : List ℕ → Option ScriptWord
+encoding rest = option_and_then (λ p. option_and_then (λ path. option_map (λ to. Encodes path to) (chosen p.1)) (path_of p.0)) (parted space rest)
+
+-- `put` is given a path and then a field, which may hold spaces and may be empty
+abbrev pub putting : List ℕ → Option ScriptWord
+putting rest = option_and_then (λ p. option_map (λ path. Puts path p.1) (path_of p.0)) (parted space rest)
+
+-- `drop` is given a path and a name
+abbrev pub dropping : List ℕ → Option ScriptWord
+dropping rest = option_and_then (λ p. option_and_then (λ path. if is_name p.1 then Some (DropsAll path p.1) else None) (path_of p.0)) (parted space rest)
+
+-- a name and a piece after a path and a type
+abbrev pub with_name : ℕ → List ℕ → List ℕ → List ℕ × List ℕ → Option ScriptWord
+with_name count path media p = if is_name p.0 then option_map (λ piece. Attaches path media p.0 piece) (piece_of count p.1) else None
+
+-- a type, and then a name and a piece, after a path
+abbrev pub with_media : ℕ → List ℕ → List ℕ × List ℕ → Option ScriptWord
+with_media count path p = if is_name p.0 then option_and_then (with_name count path p.0) (parted space p.1) else None
+
+-- `attach` is given a path, a media type, a name and a piece
+abbrev pub attaching : ℕ → List ℕ → Option ScriptWord
+attaching count rest = option_and_then (λ p. option_and_then (λ path. option_and_then (with_media count path) (parted space p.1)) (path_of p.0)) (parted space rest)
+
+-- a word that stands for more than one edit, where there are so many pieces
+abbrev pub job_of : ℕ → List ℕ × List ℕ → Option ScriptWord
+job_of count p =
+    if bytes_eq p.0 (codes "content") then placing count (λ path piece. SetsContent path piece) p.1
+    else (if bytes_eq p.0 (codes "encode") then encoding p.1
+    else (if bytes_eq p.0 (codes "put") then putting p.1
+    else (if bytes_eq p.0 (codes "put-piece") then placing count (λ path piece. PutsPiece path piece) p.1
+    else (if bytes_eq p.0 (codes "drop") then dropping p.1
+    else (if bytes_eq p.0 (codes "append") then placing count (λ path piece. Appends path piece) p.1
+    else (if bytes_eq p.0 (codes "attach") then attaching count p.1 else None))))))
+
 -- a word that changes more than fields, where there are so many pieces
 abbrev pub word_on : ℕ → List ℕ × List ℕ → Option ScriptWord
 word_on count p =
@@ -98,7 +163,7 @@ word_on count p =
     else (if bytes_eq p.0 (codes "replace") then placing count (λ path piece. Replaces path piece) p.1
     else (if bytes_eq p.0 (codes "insert") then inserting count p.1
     else (if bytes_eq p.0 (codes "remove") then removing p.1
-    else (if bytes_eq p.0 (codes "wrap") then wrapping p.1 else None))))
+    else (if bytes_eq p.0 (codes "wrap") then wrapping p.1 else job_of count p))))
 
 -- a word that changes a field which is there
 abbrev pub word_at : ℕ → List ℕ × List ℕ → Option ScriptWord

@@ -3,7 +3,7 @@ use Rattle.std.specs.Prelude.{◌≡◌, ℕ, List, Result, Err, map}
 use Rattle.std.specs.Global.{Vec}
 use Rattle.std.specs.Option.{option_map}
 use Rattle.mk_script.specs.declared.script.Word.{Word}
-use Rattle.mk_script.specs.declared.script.Word.TheVariants.{Add, Delete, Rename, Set, Body, Replace, Insert, Remove, Wrap}
+use Rattle.mk_script.specs.declared.script.Word.TheVariants.{Add, Delete, Rename, Set, Body, Replace, Insert, Remove, Wrap, Content, Encode, Put, PutPiece, DropAll, Append, Attach}
 use Rattle.mk_script.specs.declared.script.Said.{Said}
 use Rattle.mk_script.specs.declared.script.Said.TheVariants.{Edit, Undo, Redo, Begin, End}
 use Rattle.mk_script.specs.declared.script.NumberedLine.{NumberedLine as NumberedLineIn}
@@ -14,12 +14,16 @@ use Rattle.mk_script.specs.declared.groups.ScriptError.{ScriptError}
 use Rattle.mk_script.specs.declared.groups.ScriptError.TheVariants.{Syntax, Memory}
 use Rattle.mk_script.specs.declared.targets.Target.{Target as TargetIn}
 use Rattle.mk_script.specs.Targets.{Target}
-use Rattle.mk_script.specs.Script.{ScriptWord, Adds, Deletes, Renames, Sets, Bodies, Replaces, Inserts, Removes, Wraps, ScriptLine, Edits, Undoes, Redoes, Begins, Ends, NumberedLine}
+use Rattle.mk_script.specs.Script.{ScriptWord, Adds, Deletes, Renames, Sets, Bodies, Replaces, Inserts, Removes, Wraps, SetsContent, Encodes, Puts, PutsPiece, DropsAll, Appends, Attaches, ScriptLine, Edits, Undoes, Redoes, Begins, Ends, NumberedLine}
 use Rattle.mk_script.specs.ScriptSteps.{ScriptStep, Makes, Groups, TakesBack, MakesAgain}
 
 -- the field that a word picks
 abbrev pub picked_by : TargetIn → Target
 picked_by t = record { path = t.path.items; name = t.name.items; k = t.k }
+
+-- paths in memory
+abbrev pub paths_in : List (Vec ℕ) → List (List ℕ)
+paths_in paths = map (λ v. v.items) paths
 
 -- what a word says
 abbrev pub said_by : Word → ScriptWord
@@ -30,8 +34,15 @@ said_by (Set target field) = Sets (picked_by target) field.items
 said_by (Body path piece) = Bodies path.items piece
 said_by (Replace path piece) = Replaces path.items piece
 said_by (Insert path place piece) = Inserts path.items place piece
-said_by (Remove path) = Removes path.items
+said_by (Remove paths) = Removes (paths_in paths.items)
 said_by (Wrap path subtype boundary) = Wraps path.items subtype.items boundary.items
+said_by (Content path piece) = SetsContent path.items piece
+said_by (Encode path to) = Encodes path.items to
+said_by (Put path field) = Puts path.items field.items
+said_by (PutPiece path piece) = PutsPiece path.items piece
+said_by (DropAll path name) = DropsAll path.items name.items
+said_by (Append path piece) = Appends path.items piece
+said_by (Attach path media name piece) = Attaches path.items media.items name.items piece
 
 -- what a line says
 abbrev pub line_by : Said → ScriptLine

@@ -2,9 +2,11 @@
 use Rattle.std.specs.Prelude.{◌≡◌, ◌<◌, ◌≤◌, ◌^◌, ◌↔◌, if◌then◌else◌, true, ℕ, List, [], ◌∷◌, ◌++◌, Some, length, map, codes, decimal}
 use Rattle.std.specs.List.{join_with_byte}
 use Rattle.mk_line.specs.Ascii.{space}
+use Rattle.mk_script.specs.declared.script.ChosenEncoding.{ChosenEncoding}
+use Rattle.mk_script.specs.declared.script.ChosenEncoding.TheVariants.{QuotedPrintable, Base64, EightBit}
 use Rattle.mk_script.specs.Paths.{dot, max_components}
 use Rattle.mk_script.specs.Targets.{Target, is_name}
-use Rattle.mk_script.specs.Script.{ScriptWord, Adds, Deletes, Renames, Sets, Bodies, Replaces, Inserts, Removes, Wraps, ScriptLine, Edits, Undoes, Redoes, Begins, Ends, line_of}
+use Rattle.mk_script.specs.Script.{ScriptWord, Adds, Deletes, Renames, Sets, Bodies, Replaces, Inserts, Removes, Wraps, SetsContent, Encodes, Puts, PutsPiece, DropsAll, Appends, Attaches, ScriptLine, Edits, Undoes, Redoes, Begins, Ends, line_of}
 
 -- numbers from 1 on that fit 32 bits
 abbrev pub AreComponents : List ℕ → Type 0
@@ -37,6 +39,11 @@ pub record IsPiece (count piece : ℕ) : Type 0 where
   pub fits : piece < 2 ^ 32
   pub there : piece ≤ count
 
+-- each of some paths may lead to a section
+abbrev pub ArePaths : List (List ℕ) → Type 0
+ArePaths [] = Unit {0}
+ArePaths (path ∷ paths) = IsPath path × ArePaths paths
+
 -- a word that may be written where there are so many pieces: what it is given may be
 abbrev pub IsWord : ℕ → ScriptWord → Type 0
 IsWord count (Adds path top field) = IsPath path
@@ -46,8 +53,15 @@ IsWord count (Sets target field) = IsTarget target
 IsWord count (Bodies path piece) = IsPath path × IsPiece count piece
 IsWord count (Replaces path piece) = IsPath path × IsPiece count piece
 IsWord count (Inserts path place piece) = IsPath path × (place < 2 ^ 32) × IsPiece count piece
-IsWord count (Removes path) = IsPath path
+IsWord count (Removes paths) = (0 < length paths) × ArePaths paths
 IsWord count (Wraps path subtype boundary) = IsPath path × (is_name subtype ≡ true)
+IsWord count (SetsContent path piece) = IsPath path × IsPiece count piece
+IsWord count (Encodes path to) = IsPath path
+IsWord count (Puts path field) = IsPath path
+IsWord count (PutsPiece path piece) = IsPath path × IsPiece count piece
+IsWord count (DropsAll path name) = IsPath path × (is_name name ≡ true)
+IsWord count (Appends path piece) = IsPath path × IsPiece count piece
+IsWord count (Attaches path media name piece) = IsPath path × (is_name media ≡ true) × (is_name name ≡ true) × IsPiece count piece
 
 -- a line that may be written where there are so many pieces
 abbrev pub IsLine : ℕ → ScriptLine → Type 0
@@ -61,6 +75,12 @@ IsLine count Ends = Unit {0}
 abbrev pub written_place : List ℕ → ℕ → List ℕ
 written_place path number = written_path path ++ (space ∷ decimal number)
 
+-- the name of a transfer encoding
+abbrev pub encoding_word : ChosenEncoding → List ℕ
+encoding_word QuotedPrintable = codes "qp"
+encoding_word Base64 = codes "base64"
+encoding_word EightBit = codes "8bit"
+
 -- a word is written as its name and what it is given, parted by one space; a field is written as it is
 abbrev pub written : ScriptWord → List ℕ
 written (Adds path top field) = (if top then codes "top" else codes "add") ++ (space ∷ (written_path path ++ (space ∷ field)))
@@ -70,8 +90,15 @@ written (Sets target field) = codes "set" ++ (space ∷ (written_target target +
 written (Bodies path piece) = codes "body" ++ (space ∷ written_place path piece)
 written (Replaces path piece) = codes "replace" ++ (space ∷ written_place path piece)
 written (Inserts path place piece) = codes "insert" ++ (space ∷ (written_path path ++ (space ∷ (decimal place ++ (space ∷ decimal piece)))))
-written (Removes path) = codes "remove" ++ (space ∷ written_path path)
+written (Removes paths) = codes "remove" ++ (space ∷ join_with_byte space (map written_path paths))
 written (Wraps path subtype boundary) = codes "wrap" ++ (space ∷ (written_path path ++ (space ∷ (subtype ++ (space ∷ boundary)))))
+written (SetsContent path piece) = codes "content" ++ (space ∷ written_place path piece)
+written (Encodes path to) = codes "encode" ++ (space ∷ (written_path path ++ (space ∷ encoding_word to)))
+written (Puts path field) = codes "put" ++ (space ∷ (written_path path ++ (space ∷ field)))
+written (PutsPiece path piece) = codes "put-piece" ++ (space ∷ written_place path piece)
+written (DropsAll path name) = codes "drop" ++ (space ∷ (written_path path ++ (space ∷ name)))
+written (Appends path piece) = codes "append" ++ (space ∷ written_place path piece)
+written (Attaches path media name piece) = codes "attach" ++ (space ∷ (written_path path ++ (space ∷ (media ++ (space ∷ (name ++ (space ∷ decimal piece)))))))
 
 -- a line is written as its word
 abbrev pub written_line : ScriptLine → List ℕ

@@ -2,13 +2,16 @@
 #![tactic(auto)]
 
 mod groups;
+mod jobs;
 pub mod laws;
 mod paths;
 mod pieces;
+mod reasons;
 mod script;
 mod targets;
 
 pub use groups::{ScriptError, Step, steps, steps_as_one};
 pub use paths::{numbers, parted, path};
-pub use script::{NumberedWord, Word};
+pub use reasons::{InvalidLine, LineFault, first_invalid};
+pub use script::{ChosenEncoding, NumberedWord, Word};
 pub use targets::{SPACE, Target};

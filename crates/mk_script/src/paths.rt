@@ -56,7 +56,7 @@ pub fn numbers(alloc: Global, text: &[u8]) -> Result<Option<Vec<u32>>, AllocErro
     let mut numbers = Vec::new(alloc);
     let mut rest = text;
     'each: loop {
-        let (piece, more) = first_piece(rest);
+        let (piece, more) = first_piece(rest, DOT);
         let Some(number) = number(piece) else {
             return Ok(None);
         };
@@ -68,12 +68,12 @@ pub fn numbers(alloc: Global, text: &[u8]) -> Result<Option<Vec<u32>>, AllocErro
     }
 }
 
-// The text before the first dot, and the text after that dot.
-fn first_piece(text: &[u8]) -> (&[u8], Option<&[u8]>)
-    ensures pieces { pieces_of dot text.now ≡ result.0.now ∷ pieces_behind dot (option_copied result.1) }
+/// The text before the first separator, and the text after it.
+pub(crate) fn first_piece(text: &[u8], separator: u8) -> (&[u8], Option<&[u8]>)
+    ensures pieces { pieces_of separator text.now ≡ result.0.now ∷ pieces_behind separator (option_copied result.1) }
     ensures less { IfSome result.1 (λ rest. length rest.now < length text.now) }
 {
-    match parted(text, DOT) {
+    match parted(text, separator) {
         Some((piece, behind)) => (piece, Some(behind)),
         None => (text, None),
     }

@@ -1,11 +1,14 @@
 //! Words of a script that change more than fields, most by a piece: a text that the script names by its number (own).
 
-ghost use Rattle.std.specs.Prelude.{◌≡◌, IfOk, IfSome};
+ghost use Rattle.std.specs.Prelude.{◌≡◌, IfOk};
+ghost use Rattle.mk_line.specs.Ascii.{space};
 ghost use Rattle.std.specs.Option.{option_map};
-ghost use Rattle.mk_script.specs.Script.{inserting, piece_of, placing, removing, word_on, wrapping, Bodies, Replaces};
-ghost use Rattle.mk_script.specs.ScriptViews.{said_by};
+ghost use Rattle.mk_script.specs.Script.{inserting, paths_of, piece_of, placed as placed_in, placing, removing, word_on, wrapping, Bodies, Replaces};
+ghost use Rattle.mk_script.specs.Paths.{pieces_of};
+ghost use Rattle.mk_script.specs.ScriptViews.{paths_in, said_by};
 
-use crate::paths::{count, number, parted, path};
+use crate::jobs::read_job;
+use crate::paths::{count, first_piece, number, parted, path};
 use crate::script::Word;
 use crate::targets::{SPACE, is_name};
 use std::alloc::{AllocError, Global};
@@ -34,11 +37,11 @@ pub fn read_on(
     if name == b"wrap".as_slice() {
         return read_wrap(alloc, rest);
     }
-    Ok(None)
+    read_job(alloc, name, rest, pieces)
 }
 
-// The number of a piece, from 1 on, where there are so many.
-fn piece(text: &[u8], pieces: usize) -> Option<u32>
+/// The number of a piece, from 1 on, where there are so many.
+pub(crate) fn piece(text: &[u8], pieces: usize) -> Option<u32>
     ensures { result ≡ piece_of pieces text.now }
 {
     let number = number(text)?;
@@ -49,9 +52,13 @@ fn piece(text: &[u8], pieces: usize) -> Option<u32>
     }
 }
 
-// The word for another body, which is given a path and a piece.
-fn read_body(alloc: Global, rest: &[u8], pieces: usize) -> Result<Option<Word>, AllocError>
-    ensures { IfOk result (λ word. option_map said_by word ≡ placing pieces (λ path piece. Bodies path piece) rest.now) }
+/// The path and the piece that a word is given.
+pub(crate) fn placed(
+    alloc: Global,
+    rest: &[u8],
+    pieces: usize,
+) -> Result<Option<(Vec<u32>, u32)>, AllocError>
+    ensures { IfOk result (λ found. option_map (λ p. (p.0.items, p.1)) found ≡ placed_in pieces rest.now) }
 {
     let Some((place, number)) = parted(rest, SPACE) else {
         return Ok(None);
@@ -60,7 +67,17 @@ fn read_body(alloc: Global, rest: &[u8], pieces: usize) -> Result<Option<Word>, 
         return Ok(None);
     };
     match piece(number, pieces) {
-        Some(piece) => Ok(Some(Word::Body { path, piece })),
+        Some(piece) => Ok(Some((path, piece))),
+        None => Ok(None),
+    }
+}
+
+// The word for another body, which is given a path and a piece.
+fn read_body(alloc: Global, rest: &[u8], pieces: usize) -> Result<Option<Word>, AllocError>
+    ensures { IfOk result (λ word. option_map said_by word ≡ placing pieces (λ path piece. Bodies path piece) rest.now) }
+{
+    match placed(alloc, rest, pieces)? {
+        Some((path, piece)) => Ok(Some(Word::Body { path, piece })),
         None => Ok(None),
     }
 }
@@ -69,14 +86,8 @@ fn read_body(alloc: Global, rest: &[u8], pieces: usize) -> Result<Option<Word>, 
 fn read_replace(alloc: Global, rest: &[u8], pieces: usize) -> Result<Option<Word>, AllocError>
     ensures { IfOk result (λ word. option_map said_by word ≡ placing pieces (λ path piece. Replaces path piece) rest.now) }
 {
-    let Some((place, number)) = parted(rest, SPACE) else {
-        return Ok(None);
-    };
-    let Some(path) = path(alloc, place)? else {
-        return Ok(None);
-    };
-    match piece(number, pieces) {
-        Some(piece) => Ok(Some(Word::Replace { path, piece })),
+    match placed(alloc, rest, pieces)? {
+        Some((path, piece)) => Ok(Some(Word::Replace { path, piece })),
         None => Ok(None),
     }
 }
@@ -103,13 +114,32 @@ fn read_insert(alloc: Global, rest: &[u8], pieces: usize) -> Result<Option<Word>
     }
 }
 
-// The word that takes a part out, which is given its path.
+// The word that takes parts out, which is given their paths.
 fn read_remove(alloc: Global, rest: &[u8]) -> Result<Option<Word>, AllocError>
     ensures { IfOk result (λ word. option_map said_by word ≡ removing rest.now) }
 {
-    match path(alloc, rest)? {
-        Some(path) => Ok(Some(Word::Remove { path })),
+    match paths(alloc, rest)? {
+        Some(paths) => Ok(Some(Word::Remove { paths })),
         None => Ok(None),
+    }
+}
+
+// The paths that a text writes, parted by one space.
+fn paths(alloc: Global, text: &[u8]) -> Result<Option<Vec<Vec<u32>>>, AllocError>
+    ensures { IfOk result (λ found. option_map (λ v. paths_in v.items) found ≡ paths_of (pieces_of space text.now)) }
+{
+    let mut all = Vec::new(alloc);
+    let mut rest = text;
+    'each: loop {
+        let (piece, more) = first_piece(rest, SPACE);
+        let Some(path) = path(alloc, piece)? else {
+            return Ok(None);
+        };
+        all.push(path)?;
+        let Some(behind) = more else {
+            return Ok(Some(all));
+        };
+        rest = behind;
     }
 }
 

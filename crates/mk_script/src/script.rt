@@ -13,6 +13,17 @@ use std::alloc::{AllocError, Global};
 
 const NUMBER_SIGN: u8 = b'#';
 
+/// A transfer encoding that a script can choose (RFC 2045, 6).
+#[derive(Clone, Copy, Debug, PartialEq, Eq)]
+pub enum ChosenEncoding {
+    /// `qp`
+    QuotedPrintable,
+    /// `base64`
+    Base64,
+    /// `8bit`
+    EightBit,
+}
+
 /// An edit that a line of a script asks for.
 #[derive(Debug, PartialEq, Eq, Drop)]
 pub enum Word {
@@ -51,15 +62,52 @@ pub enum Word {
         place: u32,
         piece: u32,
     },
-    /// `remove PATH`.
+    /// `remove PATH ..`: the parts at these paths, as they are before any of them goes.
     Remove {
-        path: Vec<u32>,
+        paths: Vec<Vec<u32>>,
     },
     /// `wrap PATH SUBTYPE BOUNDARY`.
     Wrap {
         path: Vec<u32>,
         subtype: Vec<u8>,
         boundary: Vec<u8>,
+    },
+    /// `content PATH PIECE`.
+    Content {
+        path: Vec<u32>,
+        piece: u32,
+    },
+    /// `encode PATH qp|base64|8bit`.
+    Encode {
+        path: Vec<u32>,
+        to: ChosenEncoding,
+    },
+    /// `put PATH FIELD`. The field is still without its line ending.
+    Put {
+        path: Vec<u32>,
+        field: Vec<u8>,
+    },
+    /// `put-piece PATH PIECE`.
+    PutPiece {
+        path: Vec<u32>,
+        piece: u32,
+    },
+    /// `drop PATH NAME`.
+    DropAll {
+        path: Vec<u32>,
+        name: Vec<u8>,
+    },
+    /// `append PATH PIECE`.
+    Append {
+        path: Vec<u32>,
+        piece: u32,
+    },
+    /// `attach PATH TYPE NAME PIECE`.
+    Attach {
+        path: Vec<u32>,
+        media: Vec<u8>,
+        name: Vec<u8>,
+        piece: u32,
     },
 }
 
@@ -117,8 +165,12 @@ fn is_skipped(line: &[u8]) -> bool
     }
 }
 
-// What a line says, or `None` where it says nothing.
-fn read_line(alloc: Global, line: &[u8], pieces: usize) -> Result<Option<Said>, AllocError>
+/// What a line says, or `None` where it says nothing.
+pub(crate) fn read_line(
+    alloc: Global,
+    line: &[u8],
+    pieces: usize,
+) -> Result<Option<Said>, AllocError>
     ensures { IfOk result (λ said. option_map line_by said ≡ line_of pieces line.now) }
 {
     if line == b"undo".as_slice() {

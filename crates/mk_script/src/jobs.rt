@@ -1,0 +1,173 @@
+//! Words of a script that stand for lists of edits, which the message decides (own).
+
+ghost use Rattle.std.specs.Prelude.{◌≡◌, IfOk};
+ghost use Rattle.std.specs.Option.{option_map};
+ghost use Rattle.mk_script.specs.Script.{attaching, chosen, dropping, encoding, job_of, placing, putting, Appends, PutsPiece, SetsContent};
+ghost use Rattle.mk_script.specs.ScriptViews.{said_by};
+
+use crate::paths::{parted, path};
+use crate::pieces::{piece, placed};
+use crate::script::{ChosenEncoding, Word};
+use crate::targets::{SPACE, is_name};
+use std::alloc::{AllocError, Global};
+
+/// The word of a name that stands for a list of edits, where the script is given so many pieces.
+pub(crate) fn read_job(
+    alloc: Global,
+    name: &[u8],
+    rest: &[u8],
+    pieces: usize,
+) -> Result<Option<Word>, AllocError>
+    ensures { IfOk result (λ word. option_map said_by word ≡ job_of pieces (name.now, rest.now)) }
+{
+    if name == b"content".as_slice() {
+        return read_content(alloc, rest, pieces);
+    }
+    if name == b"encode".as_slice() {
+        return read_encode(alloc, rest);
+    }
+    if name == b"put".as_slice() {
+        return read_put(alloc, rest);
+    }
+    if name == b"put-piece".as_slice() {
+        return read_put_piece(alloc, rest, pieces);
+    }
+    if name == b"drop".as_slice() {
+        return read_drop(alloc, rest);
+    }
+    if name == b"append".as_slice() {
+        return read_append(alloc, rest, pieces);
+    }
+    if name == b"attach".as_slice() {
+        return read_attach(alloc, rest, pieces);
+    }
+    Ok(None)
+}
+
+// The word for another content, which is given a path and a piece.
+fn read_content(alloc: Global, rest: &[u8], pieces: usize) -> Result<Option<Word>, AllocError>
+    ensures { IfOk result (λ word. option_map said_by word ≡ placing pieces (λ path piece. SetsContent path piece) rest.now) }
+{
+    match placed(alloc, rest, pieces)? {
+        Some((path, piece)) => Ok(Some(Word::Content { path, piece })),
+        None => Ok(None),
+    }
+}
+
+// The word for another transfer encoding, which is given a path and the encoding.
+fn read_encode(alloc: Global, rest: &[u8]) -> Result<Option<Word>, AllocError>
+    ensures { IfOk result (λ word. option_map said_by word ≡ encoding rest.now) }
+{
+    let Some((place, name)) = parted(rest, SPACE) else {
+        return Ok(None);
+    };
+    let Some(path) = path(alloc, place)? else {
+        return Ok(None);
+    };
+    match chosen_encoding(name) {
+        Some(to) => Ok(Some(Word::Encode { path, to })),
+        None => Ok(None),
+    }
+}
+
+// The transfer encoding of a name.
+fn chosen_encoding(name: &[u8]) -> Option<ChosenEncoding>
+    ensures { result ≡ chosen name.now }
+{
+    if name == b"qp".as_slice() {
+        return Some(ChosenEncoding::QuotedPrintable);
+    }
+    if name == b"base64".as_slice() {
+        return Some(ChosenEncoding::Base64);
+    }
+    if name == b"8bit".as_slice() {
+        return Some(ChosenEncoding::EightBit);
+    }
+    None
+}
+
+// The word for a field in the place of those of its name, which is given a path and the field.
+fn read_put(alloc: Global, rest: &[u8]) -> Result<Option<Word>, AllocError>
+    ensures { IfOk result (λ word. option_map said_by word ≡ putting rest.now) }
+{
+    let Some((place, field)) = parted(rest, SPACE) else {
+        return Ok(None);
+    };
+    let Some(path) = path(alloc, place)? else {
+        return Ok(None);
+    };
+    let field = Vec::from_slice(alloc, field)?;
+    Ok(Some(Word::Put { path, field }))
+}
+
+// The same for a field that is a piece.
+fn read_put_piece(alloc: Global, rest: &[u8], pieces: usize) -> Result<Option<Word>, AllocError>
+    ensures { IfOk result (λ word. option_map said_by word ≡ placing pieces (λ path piece. PutsPiece path piece) rest.now) }
+{
+    match placed(alloc, rest, pieces)? {
+        Some((path, piece)) => Ok(Some(Word::PutPiece { path, piece })),
+        None => Ok(None),
+    }
+}
+
+// The word that takes all fields of a name out, which is given a path and the name.
+fn read_drop(alloc: Global, rest: &[u8]) -> Result<Option<Word>, AllocError>
+    ensures { IfOk result (λ word. option_map said_by word ≡ dropping rest.now) }
+{
+    let Some((place, name)) = parted(rest, SPACE) else {
+        return Ok(None);
+    };
+    let Some(path) = path(alloc, place)? else {
+        return Ok(None);
+    };
+    if !is_name(name) {
+        return Ok(None);
+    }
+    let name = Vec::from_slice(alloc, name)?;
+    Ok(Some(Word::DropAll { path, name }))
+}
+
+// The word for a last part, which is given a path and a piece.
+fn read_append(alloc: Global, rest: &[u8], pieces: usize) -> Result<Option<Word>, AllocError>
+    ensures { IfOk result (λ word. option_map said_by word ≡ placing pieces (λ path piece. Appends path piece) rest.now) }
+{
+    match placed(alloc, rest, pieces)? {
+        Some((path, piece)) => Ok(Some(Word::Append { path, piece })),
+        None => Ok(None),
+    }
+}
+
+// The word for a file as the last part, which is given a path, a media type, a name and a piece.
+fn read_attach(alloc: Global, rest: &[u8], pieces: usize) -> Result<Option<Word>, AllocError>
+    ensures { IfOk result (λ word. option_map said_by word ≡ attaching pieces rest.now) }
+{
+    let Some((place, more)) = parted(rest, SPACE) else {
+        return Ok(None);
+    };
+    let Some(path) = path(alloc, place)? else {
+        return Ok(None);
+    };
+    let Some((media, more)) = parted(more, SPACE) else {
+        return Ok(None);
+    };
+    if !is_name(media) {
+        return Ok(None);
+    }
+    let Some((name, number)) = parted(more, SPACE) else {
+        return Ok(None);
+    };
+    if !is_name(name) {
+        return Ok(None);
+    }
+    let Some(piece) = piece(number, pieces) else {
+        return Ok(None);
+    };
+    let media = Vec::from_slice(alloc, media)?;
+    let name = Vec::from_slice(alloc, name)?;
+    Ok(Some(Word::Attach {
+        path,
+        media,
+        name,
+        piece,
+    }))
+}
