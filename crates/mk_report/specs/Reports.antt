@@ -1,4 +1,4 @@
--- The lines of a run that report why a line of the script was refused, or that a line is a fault (own).
+-- The lines of a run that report why a line of a script, or an edit of a message, was refused (own).
 use Rattle.std.specs.Prelude.{◌++◌, ◌∷◌, [], ℕ, List, codes, decimal, take}
 use Rattle.mk_line.specs.Ascii.{space, line_feed}
 use Rattle.mk_decide.specs.Edits.{Refusal, NoSuchSection, NotMultipart, NotLeaf, NotPart, NoSuchField, BadPlace, BadField, BadName, BadBoundary, BadSubtype, OpenLine, HoldsBoundary, Recut, NothingToUndo, NothingToRedo, Member}
@@ -32,6 +32,6 @@ behind_name path reason = []
 abbrev pub error_line : ℕ → List ℕ → Refusal → List ℕ
 error_line number path reason = codes "line " ++ (decimal number ++ (codes ": " ++ (reason_name reason ++ (behind_name path reason ++ line_feed ∷ []))))
 
--- the line that reports a fault of the script
-abbrev pub syntax_line : ℕ → List ℕ
-syntax_line number = codes "script: line " ++ decimal number ++ (codes ": syntax" ++ line_feed ∷ [])
+-- the line that reports a message for which an edit is refused, by its number from 1 on
+abbrev pub message_line : ℕ → Refusal → List ℕ
+message_line number reason = codes "message " ++ (decimal number ++ (codes ": " ++ (reason_name reason ++ (behind_name (1 ∷ []) reason ++ line_feed ∷ []))))

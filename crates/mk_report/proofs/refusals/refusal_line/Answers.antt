@@ -1,7 +1,7 @@
 use Rattle.std.proofs.Common.{◌≡◌, ◌++◌, codes, decimal}
 use Rattle.mk_decide.specs.Answers.{refusal_of}
-use Rattle.mk_run.proofs.RefusalLemmas.{report_joined}
-use Rattle.mk_run.proofs.report.refusal_line.Goals as goal
+use Rattle.mk_report.proofs.Lines.{report_joined}
+use Rattle.mk_report.proofs.refusals.refusal_line.Goals as goal
 
 pub returns : goal.returns
 returns c =

@@ -1,0 +1,23 @@
+use Rattle.std.proofs.Common.{◌≡◌, ◌≤◌, ◌+◌, ◌*◌, ◌⊎◌, ℕ, List, true, length}
+use Rattle.std.specs.Io.KnownBytes.{Appends, Consumes, IsAtEnd}
+use Rattle.mk_mailbox.specs.Devices.{IsFull}
+use Rattle.mk_mailbox.specs.Mailboxes.{chunk_bytes}
+use Rattle.mk_transfer.specs.RunClauses.{SameFailures, counts}
+use Rattle.mk_messages.specs.MessageLines.{lines_from}
+use Rattle.mk_messages.proofs.Taken.{AreTaken, size_of}
+use Rattle.mk_messages.proofs.listing.list_each.Given as goal
+
+abbrev pub invariant-loop-turn : goal.invariant-loop-turn
+invariant-loop-turn g l = record {
+  told : (text : List ℕ) × (done : List (List ℕ)) × Consumes (g.S.Source.remaining l.fn.input) (g.S.Source.remaining l.input) text
+      × AreTaken l.fn.from_lines text done l.mailbox × (l.turn ≡ length done) × (l.start ≡ size_of done)
+      × Appends (g.O.Sink.contents l.fn.out) (g.O.Sink.contents l.out) (lines_from 1 0 done);
+  ended : l.mailbox.ended ≡ true → IsAtEnd (g.S.Source.remaining l.input);
+  same : l.mailbox.from_lines ≡ l.fn.from_lines;
+  well : SameFailures
+      (counts (g.S.Source.failures l.fn.input) (g.S.Source.read_count l.fn.input) (g.O.Sink.failures l.fn.out) 0)
+      (counts (g.S.Source.failures l.input) (g.S.Source.read_count l.input) (g.O.Sink.failures l.out) 0);
+  unfinished : g.O.Sink.finished l.out ≡ g.O.Sink.finished l.fn.out;
+  turns : l.turn ≤ l.start;
+  count : (l.start + length l.mailbox.kept + chunk_bytes * g.S.Source.read_count l.fn.input ≤ chunk_bytes * g.S.Source.read_count l.input) ⊎ IsFull (g.S.Source.read_count l.input);
+}

@@ -1,0 +1,30 @@
+-- The messages of a mailbox, listed by a line for each (own).
+use Rattle.std.specs.Prelude.{◌+◌, ◌++◌, ◌∷◌, [], ℕ, suc, List, codes, decimal, length}
+use Rattle.mk_line.specs.Ascii.{line_feed}
+use Rattle.mk_line.specs.Lines.{cut}
+use Rattle.mk_mailbox.specs.declared.from_lines.FromLines.{FromLines}
+use Rattle.mk_mailbox.specs.Pieces.{mailbox_pieces}
+use Rattle.mk_tree.specs.Documents.{tree}
+use Rattle.mk_view.specs.Listing.{column, listing}
+
+-- how many sections a message has: the lines of its listing
+abbrev pub section_count : List ℕ → ℕ
+section_count text = length (cut (listing (tree text)))
+
+-- the line of a message: its number, where it begins and ends in bytes from 0, and how many sections it has
+abbrev pub message_line : ℕ → ℕ → List ℕ → List ℕ
+message_line number start text =
+    decimal number ++ (column (decimal start) ++ (column (decimal (start + length text)) ++ (column (decimal (section_count text)) ++ line_feed ∷ [])))
+
+-- the lines of messages in turn, of which the first has this number and begins here
+abbrev pub lines_from : ℕ → ℕ → List (List ℕ) → List ℕ
+lines_from number start [] = []
+lines_from number start (m ∷ ms) = message_line number start m ++ lines_from (suc number) (start + length m) ms
+
+-- the listing of a mailbox that is cut at these From-lines
+abbrev pub mailbox_listing : FromLines → List ℕ → List ℕ
+mailbox_listing way text = lines_from 1 0 (mailbox_pieces way text)
+
+-- the line that reports that a mailbox has no message of a number
+abbrev pub missing_line : ℕ → List ℕ
+missing_line number = codes "message " ++ decimal number ++ (codes ": NoSuchMessage" ++ line_feed ∷ [])
