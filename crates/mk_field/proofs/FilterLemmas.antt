@@ -7,22 +7,17 @@ use Rattle.std.proofs.lemmas.Bool.{and_parts}
 use Rattle.mk_line.specs.Lines.{cut, eol_of, is_lf, is_nil}
 use Rattle.mk_decide.specs.declared.errors.EditError.{EditError}
 use Rattle.mk_decide.specs.Answers.{is_unnamed, refusal_of}
-use Rattle.mk_edit.specs.Answers.{IsGroupRefusedBy}
-use Rattle.mk_edit.specs.declared.errors.GroupError.TheVariants.{Member as MemberIn}
-use Rattle.mk_decide.specs.Edits.{Refusal, Group, Member, NothingToUndo, PlainEdit}
-use Rattle.mk_edit.specs.Groups.{Together}
-use Rattle.mk_edit.specs.Histories.{grouped_by, started, step, text_now, with_step}
-use Rattle.mk_edit.specs.History.{History}
+use Rattle.mk_decide.specs.Edits.{Refusal}
 use Rattle.mk_head.specs.Fields.{FieldText, fields_of, is_named}
 use Rattle.mk_head.specs.Split.{fields_from}
-use Rattle.mk_tree.specs.Documents.{printed, tree}
+use Rattle.mk_tree.specs.Documents.{tree}
 use Rattle.mk_tree.specs.Sections.{head_text, root_of, section_fields}
 use Rattle.mk_mailbox.specs.Devices.{AppendsFront, IsFull, IsLong, Rose}
-use Rattle.mk_mail.specs.Filtered.{outcome, text_left}
 use Rattle.mk_mailbox.specs.Held.{Held as Kept}
-use Rattle.mk_mail.specs.Letters.{PlainLetters, are_allowed, edits_of}
+use Rattle.mk_mail.specs.Letters.{are_allowed}
+use Rattle.mk_mail.specs.Rounds.{Made, PlainRound, letters_for, rounds_made}
 use Rattle.mk_mailbox.specs.Mailboxes.{FitsReads, IsKnownWhole, IsNextPiece, IsOver, chunk_bytes}
-use Rattle.mk_mailbox.specs.Pieces.{mailbox_pieces}
+use Rattle.mk_mailbox.specs.Pieces.{is_left_alone, mailbox_pieces}
 use Rattle.mk_mail.proofs.FieldNames.{root_fields}
 use Rattle.mk_transfer.specs.declared.status.Status.{Status}
 use Rattle.mk_transfer.specs.declared.status.Status.TheVariants.{Well, Refused, Usage, Fault, Memory as NoRoom}
@@ -30,10 +25,11 @@ use Rattle.mk_transfer.specs.declared.status.Cause.{Cause}
 use Rattle.mk_transfer.specs.declared.status.Cause.TheVariants.{Read, Write, Memory}
 use Rattle.mk_transfer.specs.declared.transfer.Stop.{Stop}
 use Rattle.mk_transfer.specs.declared.transfer.Stop.TheVariants.{Fault as Stopped, Memory as Wanting}
-use Rattle.mk_run.specs.FilterClauses.{EndsFiltered, Filters, GivesKnown, IsBroken, IsEdited, IsFiltered, IsReason, SaysAll, SaysSome}
-use Rattle.mk_run.specs.declared.filters.ValueForm.{ValueForm}
-use Rattle.mk_run.specs.FilterViews.{is_allowed}
-use Rattle.mk_run.specs.Filtering.{PlainFilter, given_by, letters_for, message_line, report_of, said_by, said_from, said_of, said_of_edits, said_or}
+use Rattle.mk_field.specs.FilterClauses.{EndsFiltered, Filters, GivesKnown, IsBroken, IsEdited, IsFiltered, IsReason, SaysAll, SaysSome}
+use Rattle.mk_field.specs.declared.filters.ValueForm.{ValueForm}
+use Rattle.mk_field.specs.FilterViews.{is_round}
+use Rattle.mk_report.specs.Reports.{message_line}
+use Rattle.mk_field.specs.Filtering.{PlainFilter, given_of, report_of, said_alone, said_by, said_from, said_of, said_of_edits, said_or}
 use Rattle.mk_transfer.specs.RunClauses.{Counts, Held, IsBlamed, IsSent, IsStopped, Reason, WriteFailed, cause_of_writing, held, status_of}
 use Rattle.mk_transfer.specs.Said.{Run, shown, Said, said_behind, silence}
 use Rattle.mk_transfer.proofs.GivenUp.{not_reading}
@@ -83,80 +79,88 @@ none_said out err = record { output = AppendsFront-none out []; errors = Appends
 
 -- messages that went out: all that was read is these and what is kept, whatever is read later
 pub record AreOut (f : PlainFilter) (turn : ℕ) (refused : Bool) (text : List ℕ) (done : List (List ℕ)) (now : Kept) (out out_after err err_after : Option (List ℕ)) : Type 0 where
-  pub pieces : (more : List ℕ) → (now.ended ≡ true → more ≡ []) → mailbox_pieces (text ++ more) ≡ done ++ mailbox_pieces (now.kept ++ more)
+  pub pieces : (more : List ℕ) → (now.ended ≡ true → more ≡ []) → mailbox_pieces f.from_lines (text ++ more) ≡ done ++ mailbox_pieces f.from_lines (now.kept ++ more)
   pub says : SaysAll (said_from f 1 done) refused out out_after err err_after
   pub count : turn ≡ length done
+  pub same : now.from_lines ≡ f.from_lines
 
-pub none_out : (f : PlainFilter) (out err : Option (List ℕ)) (now : Kept) → now.kept ≡ [] → AreOut f 0 false [] [] now out out err err
-none_out f out err now e = record {
-  pieces = λ more _. ap (λ x. mailbox_pieces (x ++ more)) (sym e);
+pub none_out : (f : PlainFilter) (out err : Option (List ℕ)) (now : Kept) → now.kept ≡ [] → now.from_lines ≡ f.from_lines → AreOut f 0 false [] [] now out out err err
+none_out f out err now e w = record {
+  pieces = λ more _. ap (λ x. mailbox_pieces f.from_lines (x ++ more)) (sym e);
   says = record { output = Appends-nil out; errors = Appends-nil err; refused_is = refl };
   count = refl;
+  same = w;
 }
 
 -- what was read in a call, with what went before it
 read_with : (f : PlainFilter) (turn : ℕ) (refused : Bool) (text read : List ℕ) (done : List (List ℕ)) (now : Kept) (out out_after err err_after : Option (List ℕ))
     → AreOut f turn refused text done now out out_after err err_after → (now.ended ≡ true → read ≡ [])
-    → (more : List ℕ) → (now.ended ≡ true → more ≡ []) → mailbox_pieces ((text ++ read) ++ more) ≡ done ++ mailbox_pieces ((now.kept ++ read) ++ more)
+    → (more : List ℕ) → (now.ended ≡ true → more ≡ []) → mailbox_pieces f.from_lines ((text ++ read) ++ more) ≡ done ++ mailbox_pieces f.from_lines ((now.kept ++ read) ++ more)
 read_with f turn refused text read done now out out_after err err_after a r more m =
-    ap mailbox_pieces (append_assoc text read more)
-    ∙ (a.pieces (read ++ more) (λ e. (λ i. r e i ++ m e i)) ∙ ap (λ x. done ++ mailbox_pieces x) (sym (append_assoc now.kept read more)))
+    ap (mailbox_pieces f.from_lines) (append_assoc text read more)
+    ∙ (a.pieces (read ++ more) (λ e. (λ i. r e i ++ m e i)) ∙ ap (λ x. done ++ mailbox_pieces f.from_lines x) (sym (append_assoc now.kept read more)))
 
 -- the same where nothing more is read
 read_all : (f : PlainFilter) (turn : ℕ) (refused : Bool) (text read : List ℕ) (done : List (List ℕ)) (now : Kept) (out out_after err err_after : Option (List ℕ))
     → AreOut f turn refused text done now out out_after err err_after → (now.ended ≡ true → read ≡ [])
-    → mailbox_pieces (text ++ read) ≡ done ++ mailbox_pieces (now.kept ++ read)
+    → mailbox_pieces f.from_lines (text ++ read) ≡ done ++ mailbox_pieces f.from_lines (now.kept ++ read)
 read_all f turn refused text read done now out out_after err err_after a r =
-    ap mailbox_pieces (sym (append-nil (text ++ read)))
-    ∙ (read_with f turn refused text read done now out out_after err err_after a r [] (λ _. refl) ∙ ap (λ x. done ++ mailbox_pieces x) (append-nil (now.kept ++ read)))
+    ap (mailbox_pieces f.from_lines) (sym (append-nil (text ++ read)))
+    ∙ (read_with f turn refused text read done now out out_after err err_after a r [] (λ _. refl) ∙ ap (λ x. done ++ mailbox_pieces f.from_lines x) (append-nil (now.kept ++ read)))
+
+-- the next message, at the From-lines of the filter
+next_on : (f : PlainFilter) (m read : List ℕ) (old now : Kept) (more : List ℕ) → old.from_lines ≡ f.from_lines → IsNextPiece m old read now → (now.ended ≡ true → more ≡ [])
+    → mailbox_pieces f.from_lines ((old.kept ++ read) ++ more) ≡ m ∷ mailbox_pieces f.from_lines (now.kept ++ more)
+next_on f m read old now more w p e = subst (λ way. mailbox_pieces way ((old.kept ++ read) ++ more) ≡ m ∷ mailbox_pieces way (now.kept ++ more)) w (p.stays more e)
 
 -- a message more went out
 pub one_out : (f : PlainFilter) (turn : ℕ) (refused told : Bool) (text read m : List ℕ) (done : List (List ℕ)) (old now : Kept) (out out_mid out_after err err_mid err_after : Option (List ℕ))
-    → AreOut f turn refused text done old out out_mid err err_mid → (old.ended ≡ true → read ≡ []) → (old.ended ≡ true → now.ended ≡ true) → IsNextPiece m old read now
+    → AreOut f turn refused text done old out out_mid err err_mid → (old.ended ≡ true → read ≡ []) → (old.ended ≡ true → now.ended ≡ true) → now.from_lines ≡ old.from_lines → IsNextPiece m old read now
     → SaysAll (said_of f (turn + 1) m) told out_mid out_after err_mid err_after
     → AreOut f (turn + 1) (refused || told) (text ++ read) (done ++ m ∷ []) now out out_after err err_after
-one_out f turn refused told text read m done old now out out_mid out_after err err_mid err_after a r s p y = record {
+one_out f turn refused told text read m done old now out out_mid out_after err err_mid err_after a r s w p y = record {
   pieces = λ more e. read_with f turn refused text read done old out out_mid err err_mid a r more (λ t. e (s t))
-      ∙ (ap (λ xs. done ++ xs) (p.stays more e) ∙ sym (append_assoc done (m ∷ []) (mailbox_pieces (now.kept ++ more))));
+      ∙ (ap (λ xs. done ++ xs) (next_on f m read old now more a.same p e) ∙ sym (append_assoc done (m ∷ []) (mailbox_pieces f.from_lines (now.kept ++ more))));
   says = subst (λ said. SaysAll said (refused || told) out out_after err err_after) (sym (said_more f turn done m a.count))
       (says_on (said_from f 1 done) (said_of f (turn + 1) m) refused told out out_mid out_after err err_mid err_after a.says y);
   count = omega (arith, a.count, length-append done (m ∷ []));
+  same = w ∙ a.same;
 }
 
 -- a run that stops between two messages
 pub stopped_between : (f : PlainFilter) (turn : ℕ) (refused : Bool) (text read : List ℕ) (done : List (List ℕ)) (now : Kept) (out out_after err err_after : Option (List ℕ))
     → AreOut f turn refused text done now out out_after err err_after → (now.ended ≡ true → read ≡ [])
-    → SaysSome (said_from f 1 (mailbox_pieces (text ++ read))) out out_after err err_after
+    → SaysSome (said_from f 1 (mailbox_pieces f.from_lines (text ++ read))) out out_after err err_after
 stopped_between f turn refused text read done now out out_after err err_after a r =
-    let rest = mailbox_pieces (now.kept ++ read) in
+    let rest = mailbox_pieces f.from_lines (now.kept ++ read) in
     let all = read_all f turn refused text read done now out out_after err err_after a r in
-    some_on (said_from f 1 done) silence (said_from f (1 + length done) rest) (said_from f 1 (mailbox_pieces (text ++ read))) refused out out_after out_after err err_after err_after a.says (none_said out_after err_after)
+    some_on (said_from f 1 done) silence (said_from f (1 + length done) rest) (said_from f 1 (mailbox_pieces f.from_lines (text ++ read))) refused out out_after out_after err err_after err_after a.says (none_said out_after err_after)
     (ap (said_from f 1) all ∙ said_append f 1 done rest)
 
 -- the same where nothing more was read
 pub stopped_here : (f : PlainFilter) (turn : ℕ) (refused : Bool) (text : List ℕ) (done : List (List ℕ)) (now : Kept) (out out_after err err_after : Option (List ℕ))
-    → AreOut f turn refused text done now out out_after err err_after → SaysSome (said_from f 1 (mailbox_pieces text)) out out_after err err_after
+    → AreOut f turn refused text done now out out_after err err_after → SaysSome (said_from f 1 (mailbox_pieces f.from_lines text)) out out_after err err_after
 stopped_here f turn refused text done now out out_after err err_after a =
-    subst (λ x. SaysSome (said_from f 1 (mailbox_pieces x)) out out_after err err_after) (append-nil text) (stopped_between f turn refused text [] done now out out_after err err_after a (λ _. refl))
+    subst (λ x. SaysSome (said_from f 1 (mailbox_pieces f.from_lines x)) out out_after err err_after) (append-nil text) (stopped_between f turn refused text [] done now out out_after err err_after a (λ _. refl))
 
 -- a run that stops within a message
 pub stopped_within : (f : PlainFilter) (turn : ℕ) (refused : Bool) (text read m : List ℕ) (done : List (List ℕ)) (old now : Kept) (out out_mid out_after err err_mid err_after : Option (List ℕ))
     → AreOut f turn refused text done old out out_mid err err_mid → (old.ended ≡ true → read ≡ []) → IsNextPiece m old read now → SaysSome (said_of f (turn + 1) m) out_mid out_after err_mid err_after
-    → SaysSome (said_from f 1 (mailbox_pieces (text ++ read))) out out_after err err_after
+    → SaysSome (said_from f 1 (mailbox_pieces f.from_lines (text ++ read))) out out_after err err_after
 stopped_within f turn refused text read m done old now out out_mid out_after err err_mid err_after a r p y =
-    let rest = mailbox_pieces (now.kept ++ []) in
-    let all : mailbox_pieces (text ++ read) ≡ done ++ (m ∷ rest) =
-    ap mailbox_pieces (sym (append-nil (text ++ read))) ∙ (read_with f turn refused text read done old out out_mid err err_mid a r [] (λ _. refl) ∙ ap (λ xs. done ++ xs) (p.stays [] (λ _. refl))) in
-    some_on (said_from f 1 done) (said_of f (turn + 1) m) (said_from f (suc (1 + length done)) rest) (said_from f 1 (mailbox_pieces (text ++ read))) refused out out_mid out_after err err_mid err_after a.says y
+    let rest = mailbox_pieces f.from_lines (now.kept ++ []) in
+    let all : mailbox_pieces f.from_lines (text ++ read) ≡ done ++ (m ∷ rest) =
+    ap (mailbox_pieces f.from_lines) (sym (append-nil (text ++ read))) ∙ (read_with f turn refused text read done old out out_mid err err_mid a r [] (λ _. refl) ∙ ap (λ xs. done ++ xs) (next_on f m read old now [] a.same p (λ _. refl))) in
+    some_on (said_from f 1 done) (said_of f (turn + 1) m) (said_from f (suc (1 + length done)) rest) (said_from f 1 (mailbox_pieces f.from_lines (text ++ read))) refused out out_mid out_after err err_mid err_after a.says y
     (ap (said_from f 1) all ∙ (said_append f 1 done (m ∷ rest) ∙ ap (λ k. said_behind (said_from f 1 done) (said_behind (said_of f k m) (said_from f (suc (1 + length done)) rest))) (omega (arith, a.count))))
 
 -- all messages went out
 pub all_out : (f : PlainFilter) (turn : ℕ) (refused : Bool) (text read : List ℕ) (done : List (List ℕ)) (old now : Kept) (out out_after err err_after : Option (List ℕ))
     → AreOut f turn refused text done old out out_after err err_after → (old.ended ≡ true → read ≡ []) → IsOver old read now
-    → SaysAll (said_from f 1 (mailbox_pieces (text ++ read))) refused out out_after err err_after
+    → SaysAll (said_from f 1 (mailbox_pieces f.from_lines (text ++ read))) refused out out_after err err_after
 all_out f turn refused text read done old now out out_after err err_after a r o =
     subst (λ ms. SaysAll (said_from f 1 ms) refused out out_after err err_after)
-    (sym (read_all f turn refused text read done old out out_after err err_after a r ∙ (ap (λ x. done ++ mailbox_pieces x) o.none ∙ append-nil done))) a.says
+    (sym (read_all f turn refused text read done old out out_after err err_after a r ∙ (ap (λ x. done ++ mailbox_pieces f.from_lines x) o.none ∙ append-nil done))) a.says
 
 -- ---- reads
 
@@ -185,74 +189,35 @@ long_on turn kept before reads now c h =
 
 -- ---- the edits of one message
 
-abbrev text_by : Result History Refusal → List ℕ
-text_by (Ok h) = text_now h
-text_by (Err e) = []
-
-abbrev member_of : Refusal → Refusal
-member_of (Member index reason) = reason
-member_of reason = reason
-
-abbrev reason_by : Result History Refusal → Refusal
-reason_by (Ok h) = NothingToUndo
-reason_by (Err e) = member_of e
-
-not_both : {A : Type 0} (e : Refusal) (h : History) → ◌≡◌ {A = Result History Refusal} (Err e) (Ok h) → A
-not_both e h k = cc
-
-made_by : (text : List ℕ) (r : Together) (new : History) → grouped_by (started text) r ≡ Ok new → (text_now new ≡ text_left text r) × IsReason None r
-made_by text (Ok p) new e = (sym (ap text_by e), tt)
-made_by text (Err q) new e = not_both (Member q.0 q.1) new e
-
-refused_by : (text : List ℕ) (r : Together) (index : ℕ) (reason : Refusal) (error : EditError) → grouped_by (started text) r ≡ Err (Member index reason) → refusal_of error ≡ Some reason
-    → (text ≡ text_left text r) × IsReason (Some error) r
-refused_by text (Ok p) index reason error e n = not_both (Member index reason) (with_step (started text) (printed p.0) p.1) (sym e)
-refused_by text (Err q) index reason error e n = (refl, n ∙ ap (λ x. Some x) (sym (ap reason_by e)))
-
--- the edits of letters, made as a group in a text that was just read
-group_is : (l : PlainLetters) (text : List ℕ) (es : List PlainEdit) (old : History) → old ≡ started text → es ≡ edits_of text l → step (Group es) old ≡ grouped_by (started text) (outcome l text)
-group_is l text es old b e = λ i. step (Group (e i)) (b i)
-
-pub edited_well : (l : PlainLetters) (text : List ℕ) (es : List PlainEdit) (old new : History) → old ≡ started text → es ≡ edits_of text l → step (Group es) old ≡ Ok new → IsEdited l text None (text_now new)
-edited_well l text es old new b e h =
-    let m = made_by text (outcome l text) new (sym (group_is l text es old b e) ∙ h) in
-    record { left_is = m.0; reason = m.1 }
-
-pub edited_refused : (l : PlainLetters) (text : List ℕ) (es : List PlainEdit) (old new : History) (index : ℕ) (error : EditError) → old ≡ started text → es ≡ edits_of text l → new ≡ old
-    → IsGroupRefusedBy (MemberIn index error) (step (Group es) old) → IsEdited l text (Some error) (text_now new)
-edited_refused l text es old new index error b e n r =
-    let m = refused_by text (outcome l text) index r.0 error (sym (group_is l text es old b e) ∙ r.2) r.1 in
-    record { left_is = ap text_now (n ∙ b) ∙ m.0; reason = m.1 }
-
 -- the reason that is reported is that of the edit that was refused
-report_some : (P : List ℕ → Type 0) (number : ℕ) (r : Together) (error : EditError) → IsReason (Some error) r → IfSome (refusal_of error) (λ reason. P (message_line number reason)) → P (report_of number r)
-report_some P number (Ok p) error h s = absurd h
-report_some P number (Err q) error h s = rw h at s
+report_some : (P : List ℕ → Type 0) (number : ℕ) (m : Made) (error : EditError) → IsReason (Some error) m → IfSome (refusal_of error) (λ reason. P (message_line number reason)) → P (report_of number m)
+report_some P number (Ok made) error h s = absurd h
+report_some P number (Err reason) error h s = rw h at s
 
-report_none : (number : ℕ) (r : Together) → IsReason None r → report_of number r ≡ []
-report_none number (Ok p) h = refl
-report_none number (Err q) h = absurd h
+report_none : (number : ℕ) (m : Made) → IsReason None m → report_of number m ≡ []
+report_none number (Ok made) h = refl
+report_none number (Err reason) h = absurd h
 
 some_message : (o : Option Refusal) (number : ℕ) → IfSome o (λ reason. true ≡ not (is_nil (message_line number reason)))
 some_message None number = tt
 some_message (Some reason) number = refl
 
 -- what is left of a message went out, and the report too
-pub said_refused : (l : PlainLetters) (number : ℕ) (text shown left : List ℕ) (error : EditError) (out out_after err err_after : Option (List ℕ)) (before after : ℕ) → IsEdited l text (Some error) left → shown ≡ left
-    → Appends out out_after shown → IfSome (refusal_of error) (λ reason. IsSent (message_line number reason) err err_after before after) → SaysAll (said_of_edits l number text) true out out_after err err_after
-said_refused l number text shown left error out out_after err err_after before after e s o r =
-    let sent = report_some (λ bytes. IsSent bytes err err_after before after) number (outcome l text) error e.reason r in
+pub said_refused : (rs : List PlainRound) (number : ℕ) (text shown left : List ℕ) (error : EditError) (out out_after err err_after : Option (List ℕ)) (before after : ℕ) → IsEdited rs text (Some error) left → shown ≡ left
+    → Appends out out_after shown → IfSome (refusal_of error) (λ reason. IsSent (message_line number reason) err err_after before after) → SaysAll (said_of_edits rs number text) true out out_after err err_after
+said_refused rs number text shown left error out out_after err err_after before after e s o r =
+    let sent = report_some (λ bytes. IsSent bytes err err_after before after) number (rounds_made rs text) error e.reason r in
     record {
       output = subst (Appends out out_after) (s ∙ e.left_is) o;
       errors = sent.whole;
-      refused_is = report_some (λ bytes. true ≡ not (is_nil bytes)) number (outcome l text) error e.reason (some_message (refusal_of error) number);
+      refused_is = report_some (λ bytes. true ≡ not (is_nil bytes)) number (rounds_made rs text) error e.reason (some_message (refusal_of error) number);
     }
 
 -- it went out, and there is nothing to report
-pub said_accepted : (l : PlainLetters) (number : ℕ) (text shown left : List ℕ) (out out_after err : Option (List ℕ)) → IsEdited l text None left → shown ≡ left → Appends out out_after shown
-    → SaysAll (said_of_edits l number text) false out out_after err err
-said_accepted l number text shown left out out_after err e s o =
-    let none = report_none number (outcome l text) e.reason in
+pub said_accepted : (rs : List PlainRound) (number : ℕ) (text shown left : List ℕ) (out out_after err : Option (List ℕ)) → IsEdited rs text None left → shown ≡ left → Appends out out_after shown
+    → SaysAll (said_of_edits rs number text) false out out_after err err
+said_accepted rs number text shown left out out_after err e s o =
+    let none = report_none number (rounds_made rs text) e.reason in
     record {
       output = subst (Appends out out_after) (s ∙ e.left_is) o;
       errors = subst (Appends err err) (sym none) (Appends-nil err);
@@ -260,18 +225,18 @@ said_accepted l number text shown left out out_after err e s o =
     }
 
 -- it went out, and a front of the report
-pub said_partly : (l : PlainLetters) (number : ℕ) (text shown left : List ℕ) (error : EditError) (stop : Stop) (out out_after err err_after : Option (List ℕ)) (before after : ℕ) → IsEdited l text (Some error) left → shown ≡ left
-    → Appends out out_after shown → IfSome (refusal_of error) (λ reason. IsStopped stop (message_line number reason) err err_after before after) → SaysSome (said_of_edits l number text) out out_after err err_after
-said_partly l number text shown left error stop out out_after err err_after before after e s o r =
-    let stopped = report_some (λ bytes. IsStopped stop bytes err err_after before after) number (outcome l text) error e.reason r in
+pub said_partly : (rs : List PlainRound) (number : ℕ) (text shown left : List ℕ) (error : EditError) (stop : Stop) (out out_after err err_after : Option (List ℕ)) (before after : ℕ) → IsEdited rs text (Some error) left → shown ≡ left
+    → Appends out out_after shown → IfSome (refusal_of error) (λ reason. IsStopped stop (message_line number reason) err err_after before after) → SaysSome (said_of_edits rs number text) out out_after err err_after
+said_partly rs number text shown left error stop out out_after err err_after before after e s o r =
+    let stopped = report_some (λ bytes. IsStopped stop bytes err err_after before after) number (rounds_made rs text) error e.reason r in
     record { output = (shown, [], sym (s ∙ e.left_is) ∙ sym (append-nil shown), o); errors = stopped.front }
 
 -- a front of it went out
-pub said_hardly : (l : PlainLetters) (number : ℕ) (text shown left : List ℕ) (refusal : Option EditError) (out out_after err : Option (List ℕ)) → IsEdited l text refusal left → shown ≡ left → AppendsFront out out_after shown
-    → SaysSome (said_of_edits l number text) out out_after err err
-said_hardly l number text shown left refusal out out_after err e s o = record {
+pub said_hardly : (rs : List PlainRound) (number : ℕ) (text shown left : List ℕ) (refusal : Option EditError) (out out_after err : Option (List ℕ)) → IsEdited rs text refusal left → shown ≡ left → AppendsFront out out_after shown
+    → SaysSome (said_of_edits rs number text) out out_after err err
+said_hardly rs number text shown left refusal out out_after err e s o = record {
   output = subst (AppendsFront out out_after) (s ∙ e.left_is) o;
-  errors = AppendsFront-none err (report_of number (outcome l text));
+  errors = AppendsFront-none err (report_of number (rounds_made rs text));
 }
 
 -- what is known of sending a report, whatever the reason is
@@ -286,22 +251,34 @@ stopped_so (Some reason) number stop err err_after before after n s = s.fault
 
 -- ---- what is said of one message
 
--- what letters give of it goes out
-pub given_all : (form : ValueForm) (l : PlainLetters) (number : ℕ) (text given : List ℕ) (out out_after err : Option (List ℕ)) → Some given ≡ given_by form l.take l.whole text → Appends out out_after given → SaysAll (said_by form l number text) false out out_after err err
-given_all form l number text given out out_after err e o =
-    subst (λ x. SaysAll (said_or x (said_of_edits l number text)) false out out_after err err) e (record { output = o; errors = Appends-nil err; refused_is = refl })
+-- what rounds give of it goes out
+pub given_all : (form : ValueForm) (rs : List PlainRound) (number : ℕ) (text given : List ℕ) (out out_after err : Option (List ℕ)) → Some given ≡ given_of form rs text → Appends out out_after given → SaysAll (said_by form rs number text) false out out_after err err
+given_all form rs number text given out out_after err e o =
+    subst (λ x. SaysAll (said_or x (said_of_edits rs number text)) false out out_after err err) e (record { output = o; errors = Appends-nil err; refused_is = refl })
 
-pub given_some : (form : ValueForm) (l : PlainLetters) (number : ℕ) (text given : List ℕ) (out out_after err : Option (List ℕ)) → Some given ≡ given_by form l.take l.whole text → AppendsFront out out_after given → SaysSome (said_by form l number text) out out_after err err
-given_some form l number text given out out_after err e o =
-    subst (λ x. SaysSome (said_or x (said_of_edits l number text)) out out_after err err) e (record { output = o; errors = AppendsFront-none err [] })
+pub given_some : (form : ValueForm) (rs : List PlainRound) (number : ℕ) (text given : List ℕ) (out out_after err : Option (List ℕ)) → Some given ≡ given_of form rs text → AppendsFront out out_after given → SaysSome (said_by form rs number text) out out_after err err
+given_some form rs number text given out out_after err e o =
+    subst (λ x. SaysSome (said_or x (said_of_edits rs number text)) out out_after err err) e (record { output = o; errors = AppendsFront-none err [] })
 
 -- where they give nothing, it is what their edits leave
-pub given_none : (P : Said → Type 0) (form : ValueForm) (l : PlainLetters) (number : ℕ) (text : List ℕ) → None ≡ given_by form l.take l.whole text → P (said_of_edits l number text) → P (said_by form l number text)
-given_none P form l number text e h = subst (λ x. P (said_or x (said_of_edits l number text))) e h
+pub given_none : (P : Said → Type 0) (form : ValueForm) (rs : List PlainRound) (number : ℕ) (text : List ℕ) → None ≡ given_of form rs text → P (said_of_edits rs number text) → P (said_by form rs number text)
+given_none P form rs number text e h = subst (λ x. P (said_or x (said_of_edits rs number text))) e h
 
 pub on_err : {A E : Type 0} (r : Result A E) (P Q : Type 0) → OnErr r P → (P → Q) → OnErr r Q
 on_err (Ok x) P Q h f = tt
 on_err (Err e) P Q h f = f h
+
+-- a message that is left as it is went out in part
+alone_some : (f : PlainFilter) (number : ℕ) (text : List ℕ) (out out_after err : Option (List ℕ)) → is_left_alone f.from_lines text ≡ true → AppendsFront out out_after (said_alone f.rounds text).output → SaysSome (said_of f number text) out out_after err err
+alone_some f number text out out_after err t a = rw t (record { output = a; errors = AppendsFront-none err [] })
+
+-- the same by what the calls answer
+pub alone_by : (f : PlainFilter) (number : ℕ) (text second third : List ℕ) (alone : Bool) (out out_after err : Option (List ℕ)) → second ≡ text → third ≡ text
+    → alone ≡ is_left_alone f.from_lines second → alone ≡ true → AppendsFront out out_after (said_alone f.rounds third).output → SaysSome (said_of f number text) out out_after err err
+alone_by f number text second third alone out out_after err b c t y part =
+    let is_alone : is_left_alone f.from_lines text ≡ true = ap (is_left_alone f.from_lines) (sym b) ∙ (sym t ∙ y) in
+    let sent : AppendsFront out out_after (said_alone f.rounds text).output = subst (λ x. AppendsFront out out_after (said_alone f.rounds x).output) c part in
+    alone_some f number text out out_after err is_alone sent
 
 -- ---- the fields of a name
 
@@ -375,13 +352,13 @@ Filters-given_up why IsKnown each Memory said before input output between errors
 
 -- reading failed between two messages, and of what is kept none is known to be whole
 pub known_between : (f : PlainFilter) (turn : ℕ) (refused : Bool) (text read : List ℕ) (done : List (List ℕ)) (old new : Kept) (out out_after err err_after : Option (List ℕ))
-    → AreOut f turn refused text done old out out_after err err_after → (old.ended ≡ true → read ≡ []) → new.kept ≡ old.kept ++ read → (IsKnownWhole new.kept → ⊥)
+    → AreOut f turn refused text done old out out_after err err_after → (old.ended ≡ true → read ≡ []) → new.kept ≡ old.kept ++ read → (IsKnownWhole old.from_lines new.kept → ⊥)
     → GivesKnown f (text ++ read) out out_after
 known_between f turn refused text read done old new out out_after err err_after a r k u = record {
   given = done;
   rest = new.kept;
-  parts = read_all f turn refused text read done old out out_after err err_after a r ∙ ap (λ x. done ++ mailbox_pieces x) (sym k);
-  unknown = u;
+  parts = read_all f turn refused text read done old out out_after err err_after a r ∙ ap (λ x. done ++ mailbox_pieces f.from_lines x) (sym k);
+  unknown = λ known. u (subst (λ way. IsKnownWhole way new.kept) (sym a.same) known);
   output = a.says.output;
 }
 
@@ -406,10 +383,10 @@ not_both_stops stop a b = cc
 pub turns_out : (turn kept before reads : ℕ) → 18446744073709551615 ≤ turn → (turn + kept + chunk_bytes * before ≤ chunk_bytes * reads) ⊎ IsFull reads → IsLong before reads
 turns_out turn kept before reads end c = elim c [ inr full ↦ inr full | inl less ↦ inl (omega (arith, end, less)) ]
 
--- the letters for a message may be asked for
-pub allowed_for : (f : PlainFilter) (text : List ℕ) → is_allowed f ≡ true → are_allowed (letters_for f text) ≡ true
-allowed_for f text h = let both = and_parts (are_allowed f.lf) (are_allowed f.crlf) h in either (is_lf (eol_of (cut text))) both.0 both.1
+-- the letters for a text may be asked for
+pub allowed_for : (r : PlainRound) (text : List ℕ) → is_round r ≡ true → are_allowed (letters_for r text) ≡ true
+allowed_for r text h = let both = and_parts (are_allowed r.lf) (are_allowed r.crlf) h in either (is_lf (eol_of (cut text))) both.0 both.1
   where
-    either : (is_lf : Bool) → are_allowed f.lf ≡ true → are_allowed f.crlf ≡ true → are_allowed (if is_lf then f.lf else f.crlf) ≡ true
+    either : (is_lf : Bool) → are_allowed r.lf ≡ true → are_allowed r.crlf ≡ true → are_allowed (if is_lf then r.lf else r.crlf) ≡ true
     either true a b = a
     either false a b = b

@@ -5,8 +5,8 @@ use Rattle.std.proofs.lemmas.Bool.{cases_Bool}
 use Rattle.std.proofs.lemmas.Str.{IsUtf8-from_is_utf8, is_utf8-from_IsUtf8}
 use Rattle.mk_line.specs.declared.cutting.Ending.{Ending}
 use Rattle.mk_mail.specs.Letters.{PlainLetters}
-use Rattle.mk_run.specs.Asked.{PlainWords, asked, have_colons, letters_asked}
-use Rattle.mk_run.specs.Wording.{is_plain, needs_words, worded}
+use Rattle.mk_field.specs.Asked.{PlainWords, asked, have_colons, letters_asked}
+use Rattle.mk_field.specs.Wording.{is_plain, needs_words, worded}
 
 pub needed : (value : List ℕ) → IsUtf8 value → is_plain value ≡ false → needs_words value ≡ true
 needed value u p = rw (is_utf8-from_IsUtf8 value u, p) refl

@@ -1,14 +1,17 @@
 -- Letters as words of the command line (own, after formail).
-use Rattle.std.specs.Prelude.{◌&&◌, if◌then◌else◌, ℕ, Bool, Option, None, Some, List, is_some}
+use Rattle.std.specs.Prelude.{◌==◌, ◌-◌, ◌&&◌, if◌then◌else◌, ℕ, Bool, true, false, Option, None, Some, List, [], is_some, length, map, slice_index, take, unwrap_or}
+use Rattle.std.specs.List.{list_all}
 use Rattle.std.specs.Option.{option_and_then, option_map}
 use Rattle.mk_line.specs.Ascii.{colon}
 use Rattle.mk_line.specs.Lines.{is_nil}
-use Rattle.mk_mail.specs.Letters.{PlainLetters, passes}
+use Rattle.mk_mail.specs.Letters.{PlainLetters, PlainPattern, passes}
 use Rattle.mk_script.specs.Paths.{parted}
-use Rattle.mk_run.specs.declared.letters.LetterWords.{LetterWords}
+use Rattle.mk_field.specs.declared.letters.LetterWords.{LetterWords}
 
 -- the words that stand after letters, each where its letter was given
 pub record PlainWords : Type 0 where
+  -- --drop, each time
+  pub drops : List (List ℕ)
   -- --rename
   pub rename : Option (List ℕ)
   -- -a
@@ -31,6 +34,7 @@ pub record PlainWords : Type 0 where
 -- words as they are
 abbrev pub words_of : LetterWords → PlainWords
 words_of w = record {
+  drops = map (λ s. s.now) w.drops.items;
   rename = option_map (λ s. s.now) w.rename;
   add_if = option_map (λ s. s.now) w.add_if;
   add = option_map (λ s. s.now) w.add;
@@ -59,14 +63,32 @@ is_name_word word = is_some (name_in word)
 abbrev pub is_pair_word : List ℕ → Bool
 is_pair_word word = is_some (parted colon word)
 
+-- an asterisk
+abbrev pub asterisk : ℕ
+asterisk = 42
+
+-- the last byte of a name is an asterisk
+abbrev pub ends_in_asterisk : List ℕ → Bool
+ends_in_asterisk name = slice_index name (length name - 1) == asterisk
+
+-- a name as a pattern: what stands before an asterisk at its end is the front of names
+abbrev pub pattern_in : List ℕ → PlainPattern
+pattern_in name =
+    if ends_in_asterisk name then record { text = take (length name - 1) name; is_front = true } else record { text = name; is_front = false }
+
+-- the pattern of a word that is a name and a colon
+abbrev pub pattern_asked : List ℕ → PlainPattern
+pattern_asked word = pattern_in (unwrap_or (name_in word) [])
+
 -- the words that take names have their colons
 abbrev pub have_colons : PlainWords → Bool
 have_colons w =
-    passes is_name_word w.first && (passes is_name_word w.last && (passes is_name_word w.take && (passes is_name_word w.whole && passes is_pair_word w.rename)))
+    list_all is_name_word w.drops && passes is_name_word w.first && (passes is_name_word w.last && (passes is_name_word w.take && (passes is_name_word w.whole && passes is_pair_word w.rename)))
 
 -- what words ask for, each by the letter that takes it
 abbrev pub letters_asked : PlainWords → PlainLetters
 letters_asked w = record {
+  drops = map pattern_asked w.drops;
   rename = option_and_then (parted colon) w.rename;
   add_if = w.add_if;
   add = w.add;

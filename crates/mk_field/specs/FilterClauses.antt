@@ -4,17 +4,19 @@ use Rattle.std.specs.Io.KnownBytes.{Appends, Consumes, IsAtEnd, Keeps}
 use Rattle.mk_line.specs.Lines.{is_nil}
 use Rattle.mk_decide.specs.declared.errors.EditError.{EditError}
 use Rattle.mk_decide.specs.Answers.{refusal_of}
-use Rattle.mk_edit.specs.Groups.{Together}
+use Rattle.mk_edit.specs.Histories.{grouped_by, text_now}
+use Rattle.mk_edit.specs.History.{History}
 use Rattle.mk_mailbox.specs.Devices.{AppendsFront}
 use Rattle.mk_mailbox.specs.Mailboxes.{IsKnownWhole}
 use Rattle.mk_mailbox.specs.Pieces.{mailbox_pieces}
-use Rattle.mk_mail.specs.Filtered.{filtered, outcome}
+use Rattle.mk_mail.specs.Filtered.{outcome}
 use Rattle.mk_mail.specs.Letters.{PlainLetters}
+use Rattle.mk_mail.specs.Rounds.{Made, PlainRound, made_text, rounds_left, rounds_made}
 use Rattle.mk_transfer.specs.declared.status.Status.{Status}
 use Rattle.mk_transfer.specs.declared.status.Status.TheVariants.{Well, Refused, Usage, Fault, Memory}
 use Rattle.mk_transfer.specs.declared.status.Cause.{Cause}
 use Rattle.mk_transfer.specs.declared.status.Cause.TheVariants.{Read}
-use Rattle.mk_run.specs.Filtering.{PlainFilter, field_run, messages_of, said_from}
+use Rattle.mk_field.specs.Filtering.{PlainFilter, field_run, messages_of, said_from}
 use Rattle.mk_transfer.specs.RunClauses.{Held, IsDone, Reason, status_of}
 use Rattle.mk_transfer.specs.Said.{Run, Said}
 
@@ -22,8 +24,8 @@ use Rattle.mk_transfer.specs.Said.{Run, Said}
 pub record GivesKnown (f : PlainFilter) (text : List ℕ) (out out_after : Option (List ℕ)) : Type 0 where
   pub given : List (List ℕ)
   pub rest : List ℕ
-  pub parts : mailbox_pieces text ≡ given ++ mailbox_pieces rest
-  pub unknown : IsKnownWhole rest → ⊥
+  pub parts : mailbox_pieces f.from_lines text ≡ given ++ mailbox_pieces f.from_lines rest
+  pub unknown : IsKnownWhole f.from_lines rest → ⊥
   pub output : Appends out out_after (said_from f 1 given).output
 
 -- where messages go out one by one and reading fails, all that are known to be whole went out, unless so much was read that reading
@@ -77,16 +79,21 @@ pub record SaysSome (said : Said) (out out_after err err_after : Option (List �
   pub errors : AppendsFront err err_after said.errors
 
 -- the reason is that of the edit that was refused, where one was
-abbrev pub IsReason : Option EditError → Together → Type 0
-IsReason None (Ok p) = Unit {0}
-IsReason None (Err q) = ⊥
-IsReason (Some e) (Ok p) = ⊥
-IsReason (Some e) (Err q) = refusal_of e ≡ Some q.1
+abbrev pub IsReason : Option EditError → Made → Type 0
+IsReason None (Ok made) = Unit {0}
+IsReason None (Err reason) = ⊥
+IsReason (Some e) (Ok made) = ⊥
+IsReason (Some e) (Err reason) = refusal_of e ≡ Some reason
 
--- letters left this text of a message, and gave this reason where an edit was refused
-pub record IsEdited (l : PlainLetters) (text : List ℕ) (refusal : Option EditError) (left : List ℕ) : Type 0 where
-  pub left_is : left ≡ filtered l text
-  pub reason : IsReason refusal (outcome l text)
+-- what the edits of letters answered and left of a history: a step more, or the reason, and all as before
+abbrev pub IsRoundMade : PlainLetters → Option EditError → History → History → Type 0
+IsRoundMade l None old new = grouped_by old (outcome l (text_now old)) ≡ Ok new
+IsRoundMade l (Some e) old new = (new ≡ old) × IsReason (Some e) (made_text (outcome l (text_now old)))
+
+-- rounds left this text of a message, and gave this reason where an edit was refused
+pub record IsEdited (rs : List PlainRound) (text : List ℕ) (refusal : Option EditError) (left : List ℕ) : Type 0 where
+  pub left_is : left ≡ rounds_left rs text
+  pub reason : IsReason refusal (rounds_made rs text)
 
 -- all messages were filtered up to the end of the input
 pub record IsFiltered (said : Said) (refused : Bool) (before after : Held) : Type 0 where
@@ -108,7 +115,7 @@ FiltersSoFar IsKnown each (Err cause) said before after = IsBroken IsKnown each 
 abbrev pub LeavesSaid : Type 0 → PlainFilter → Bool → Result Bool Cause → Held → Held → Type 0
 LeavesSaid spent f each result before after =
     (text : List ℕ) × Consumes before.input after.input text
-    × FiltersSoFar (known_by f each spent text before.output after.output) each result (said_from f 1 (messages_of each text)) before after
+    × FiltersSoFar (known_by f each spent text before.output after.output) each result (said_from f 1 (messages_of f.from_lines each text)) before after
 
 -- what a run that filters leaves, where it may be given up
 abbrev pub LeavesFilteredSoFar : Type 0 → PlainFilter → Bool → Result Status Cause → Held → Held → Type 0

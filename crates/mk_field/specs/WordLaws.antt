@@ -7,8 +7,8 @@ use Rattle.mk_line.specs.declared.cutting.Ending.{Ending}
 use Rattle.mk_line.specs.Ascii.{carriage_return, line_feed}
 use Rattle.mk_line.specs.Kinds.{is_name}
 use Rattle.mk_head.specs.Values.{stripped}
-use Rattle.mk_run.specs.Filtering.{behind_colon}
-use Rattle.mk_run.specs.Wording.{decoded_value, worded_field}
+use Rattle.mk_field.specs.Filtering.{behind_colon}
+use Rattle.mk_field.specs.Wording.{decoded_value, worded_field}
 
 -- no byte ends a line
 abbrev pub is_one_line : List ℕ → Bool

@@ -10,9 +10,9 @@ use Rattle.mk_line.specs.Marks.{trimmed}
 use Rattle.mk_head.specs.Values.{stripped}
 use Rattle.mk_code.specs.EncodedWords.{has_pair, is_shown, unfolded, words_decoded, words_encoded}
 use Rattle.mk_script.specs.Paths.{parted}
-use Rattle.mk_run.specs.Asked.{PlainWords}
-use Rattle.mk_run.specs.declared.filters.ValueForm.{ValueForm}
-use Rattle.mk_run.specs.declared.filters.ValueForm.TheVariants.{AsWritten, Unfolded, Decoded}
+use Rattle.mk_field.specs.Asked.{PlainWords}
+use Rattle.mk_field.specs.declared.filters.ValueForm.{ValueForm}
+use Rattle.mk_field.specs.declared.filters.ValueForm.TheVariants.{AsWritten, Unfolded, Decoded}
 
 -- a byte of a line: a space in the place of a carriage return or a line feed
 abbrev pub line_byte : ℕ → ℕ
@@ -60,6 +60,7 @@ worded_field eol field = worded_by eol field (parted colon field)
 -- words of the command line of which those that are fields are worded
 abbrev pub worded : Ending → PlainWords → PlainWords
 worded eol w = record {
+  drops = w.drops;
   rename = w.rename;
   add_if = option_map (worded_field eol) w.add_if;
   add = option_map (worded_field eol) w.add;

@@ -4,13 +4,13 @@ ghost use Rattle.std.specs.Prelude.{◌≡◌, ◌⊎◌, ◌-◌, true, false, 
 ghost use Rattle.mk_mailbox.specs.Devices.{IsLong};
 ghost use Rattle.mk_mail.specs.LetterViews.{letters_of};
 ghost use Rattle.mk_mail.specs.Letters.{are_allowed};
-ghost use Rattle.mk_run.specs.FilterClauses.{LeavesFiltered, LeavesFilteredSoFar, LeavesSaid};
-ghost use Rattle.mk_run.specs.FilterViews.{filter_of, is_allowed};
-ghost use Rattle.mk_run.specs.Filtering.{of_letters};
+ghost use Rattle.mk_field.specs.FilterClauses.{LeavesFiltered, LeavesFilteredSoFar, LeavesSaid};
+ghost use Rattle.mk_field.specs.FilterViews.{filter_of, is_allowed};
+ghost use Rattle.mk_field.specs.Filtering.{of_letters};
 ghost use Rattle.mk_transfer.specs.RunClauses.{held, counts, reason, SameFailures, ReadFailed, WriteFailed, IsBlamed, ends_itself};
 
 use crate::fields::filter_message;
-use crate::filters::FieldFilter;
+use crate::filters::{FieldFilter, Round};
 use mk_mail::{Letters, MailFault, Mailbox, Sink, Source};
 use mk_mailbox::MOST_READS;
 use mk_transfer::{Cause, Status, finish, give_up, read_all, reading, writing};
@@ -46,7 +46,8 @@ pub fn run_field<S: Source, O: Sink, E: Sink>(
     ensures finished { ends_itself result ≡ true → O.finished out.new ≡ true }
     ensures unfinished { ends_itself result ≡ false → O.finished out.new ≡ O.finished out.old }
 {
-    match try_field(alloc, input, out, err, &FieldFilter::new(letters), each) {
+    let rounds = [Round::new(letters)];
+    match try_field(alloc, input, out, err, &FieldFilter::new(&rounds), each) {
         Ok(status) => status,
         Err(cause) => give_up(err, cause),
     }
@@ -168,7 +169,7 @@ fn filter_each<S: Source, O: Sink, E: Sink>(
     ensures unfinished { O.finished out.new ≡ O.finished out.old }
 {
     let before = input.reads();
-    let mut mailbox = Mailbox::new(alloc);
+    let mut mailbox = Mailbox::cut_at(alloc, filter.from_lines);
     let mut refused = false;
     for turn in 0..u64::MAX {
         if are_too_many(before, input.reads()) {

@@ -1,25 +1,31 @@
 //! Letters as words of the command line.
 
-ghost use Rattle.std.specs.Prelude.{◌≡◌, ◌≢◌, IfOk};
+ghost use Rattle.std.specs.Prelude.{◌≡◌, ◌≢◌, IfOk, map};
+ghost use Rattle.std.specs.List.{list_all};
 ghost use Rattle.std.specs.Option.{option_and_then, option_map};
 ghost use Rattle.mk_line.specs.Ascii.{colon};
-ghost use Rattle.mk_mail.specs.LetterViews.{bytes_in};
+ghost use Rattle.mk_mail.specs.LetterViews.{bytes_in, pattern_of};
 ghost use Rattle.mk_mail.specs.Letters.{passes};
-ghost use Rattle.mk_run.specs.Asked.{is_name_word, is_pair_word, name_in as name_in_word};
-ghost use Rattle.mk_run.specs.Wording.{worded_field as in_words};
+ghost use Rattle.mk_field.specs.Asked.{is_name_word, is_pair_word, name_in as name_in_word, pattern_asked, pattern_in};
+ghost use Rattle.mk_field.specs.Wording.{worded_field as in_words};
 ghost use Rattle.mk_script.specs.Paths.{parted as parted_at};
 
 use crate::wording::worded_field;
 use mk_line::Ending;
-use mk_mail::Letters;
+use mk_mail::{Letters, NamePattern};
 use mk_script::parted;
 use std::alloc::{AllocError, Global};
 
 const COLON: u8 = b':';
 
+/// What stands at the end of a name that is a front.
+const ASTERISK: u8 = b'*';
+
 /// The words that stand after the letters of `field`, each where its letter was given.
-#[derive(Clone, Copy, Debug, Default)]
+#[derive(Debug, Drop)]
 pub struct LetterWords<'a> {
+    /// `--drop NAME:` and `--drop NAME*:`, each time
+    pub drops: Vec<&'a str>,
     /// `--rename OLD:NEW`
     pub rename: Option<&'a str>,
     /// `-a FIELD`
@@ -44,8 +50,8 @@ impl LetterWords<'_> {
     ghost use Rattle.std.specs.Prelude.{◌≡◌, ◌≢◌, IfOk};
     ghost use Rattle.std.specs.Option.{option_map};
     ghost use Rattle.mk_mail.specs.LetterViews.{letters_of};
-    ghost use Rattle.mk_run.specs.Asked.{asked, have_colons as words_have_colons, words_of};
-    ghost use Rattle.mk_run.specs.Wording.{worded};
+    ghost use Rattle.mk_field.specs.Asked.{asked, have_colons as words_have_colons, words_of};
+    ghost use Rattle.mk_field.specs.Wording.{worded};
 
     /// What the words ask for. `None` where a name stands without its colon.
     pub fn letters(&self, alloc: Global) -> Result<Option<Letters>, AllocError>
@@ -55,6 +61,7 @@ impl LetterWords<'_> {
             return Ok(None);
         }
         Ok(Some(Letters {
+            drops: patterns(alloc, &self.drops)?,
             rename: names(alloc, self.rename)?,
             add_if: field(alloc, self.add_if)?,
             add: field(alloc, self.add)?,
@@ -91,7 +98,8 @@ impl LetterWords<'_> {
     fn have_colons(&self) -> bool
         ensures { result ≡ words_have_colons (words_of self.now) }
     {
-        may_name(self.first)
+        are_names(&self.drops)
+            && may_name(self.first)
             && may_name(self.last)
             && may_name(self.take)
             && may_name(self.whole)
@@ -99,12 +107,31 @@ impl LetterWords<'_> {
     }
 }
 
+// Whether each word is a name and a colon.
+fn are_names(words: &[&str]) -> bool
+    ensures { result ≡ list_all is_name_word (map (λ s. s.now) words.now) }
+{
+    for word in words {
+        if !is_named(*word) {
+            return false;
+        }
+    }
+    true
+}
+
+// Whether a word is a name and a colon.
+fn is_named(word: &str) -> bool
+    ensures { result ≡ is_name_word word.now }
+{
+    before_colon(word.as_bytes()).is_some()
+}
+
 // Whether a word is a name and a colon, where there is one.
 fn may_name(word: Option<&str>) -> bool
     ensures { result ≡ passes is_name_word (option_map (λ s. s.now) word.entry) }
 {
     match word {
-        Some(word) => before_colon(word.as_bytes()).is_some(),
+        Some(word) => is_named(word),
         None => true,
     }
 }
@@ -164,6 +191,43 @@ fn name(alloc: Global, word: Option<&str>) -> Result<Option<Vec<u8>>, AllocError
     match before_colon(word.as_bytes()) {
         Some(name) => Ok(Some(Vec::from_slice(alloc, name)?)),
         None => Ok(None),
+    }
+}
+
+// The patterns that words are, each before its colon.
+fn patterns(alloc: Global, words: &[&str]) -> Result<Vec<NamePattern>, AllocError>
+    ensures { IfOk result (λ patterns. map pattern_of patterns.items ≡ map pattern_asked (map (λ s. s.now) words.now)) }
+{
+    let mut patterns = Vec::new(alloc);
+    for word in words {
+        patterns.push(pattern_in_word(alloc, *word)?)?;
+    }
+    Ok(patterns)
+}
+
+// The pattern that a word is before its colon.
+fn pattern_in_word(alloc: Global, word: &str) -> Result<NamePattern, AllocError>
+    ensures { IfOk result (λ pattern. pattern_of pattern ≡ pattern_asked word.now) }
+{
+    match before_colon(word.as_bytes()) {
+        Some(name) => pattern(alloc, name),
+        None => pattern(alloc, b""),
+    }
+}
+
+// A name as a pattern.
+fn pattern(alloc: Global, name: &[u8]) -> Result<NamePattern, AllocError>
+    ensures { IfOk result (λ pattern. pattern_of pattern ≡ pattern_in name.now) }
+{
+    match name {
+        [front @ .., ASTERISK] => Ok(NamePattern {
+            text: Vec::from_slice(alloc, front)?,
+            is_front: true,
+        }),
+        _ => Ok(NamePattern {
+            text: Vec::from_slice(alloc, name)?,
+            is_front: false,
+        }),
     }
 }
 

@@ -5,7 +5,7 @@ ghost use Rattle.std.specs.List.{list_all};
 ghost use Rattle.mk_line.specs.Ascii.{equals_sign, question_mark};
 ghost use Rattle.mk_head.specs.Values.{stripped};
 ghost use Rattle.mk_code.specs.EncodedWords.{has_pair, is_shown as shown};
-ghost use Rattle.mk_run.specs.Wording.{is_plain as stays_plain, line_byte as byte_of_line, needs_words, one_line as text_on_one_line, printed_value, worded_field as field_in_words, worded_parts};
+ghost use Rattle.mk_field.specs.Wording.{is_plain as stays_plain, line_byte as byte_of_line, needs_words, one_line as text_on_one_line, printed_value, worded_field as field_in_words, worded_parts};
 
 use crate::filters::ValueForm;
 use memchr::memmem;

@@ -1,9 +1,9 @@
 use Rattle.std.proofs.Common.{◌∙◌, ap}
 use Rattle.mk_tree.specs.Sections.{head_text}
-use Rattle.mk_run.specs.Filtering.{behind_colon}
-use Rattle.mk_run.specs.Wording.{printed_value}
-use Rattle.mk_run.proofs.FilterLemmas.{given_begun}
-use Rattle.mk_run.proofs.fields.values.Goals as goal
+use Rattle.mk_field.specs.Filtering.{behind_colon}
+use Rattle.mk_field.specs.Wording.{printed_value}
+use Rattle.mk_field.proofs.FilterLemmas.{given_begun}
+use Rattle.mk_field.proofs.fields.values.Goals as goal
 
 pub loop-field-init : goal.loop-field-init
 loop-field-init c =

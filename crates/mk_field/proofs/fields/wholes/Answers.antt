@@ -1,7 +1,7 @@
 use Rattle.std.proofs.Common.{◌∙◌, ap}
 use Rattle.mk_tree.specs.Sections.{head_text}
-use Rattle.mk_run.proofs.FilterLemmas.{given_begun}
-use Rattle.mk_run.proofs.fields.wholes.Goals as goal
+use Rattle.mk_field.proofs.FilterLemmas.{given_begun}
+use Rattle.mk_field.proofs.fields.wholes.Goals as goal
 
 pub loop-field-init : goal.loop-field-init
 loop-field-init c =

@@ -1,19 +1,19 @@
 use Rattle.std.proofs.Common.{◌∙◌, ◌++◌, ◌∷◌, [], refl, sym, subst, inl, inr, arith}
 use Rattle.std.proofs.KnownBytes.{Consumes-nil, Consumes-trans}
 use Rattle.std.specs.Io.KnownBytes.{IsAtEnd}
-use Rattle.mk_run.specs.FilterViews.{filter_of}
+use Rattle.mk_field.specs.FilterViews.{filter_of}
 use Rattle.mk_transfer.specs.RunClauses.{counts}
 use Rattle.mk_transfer.proofs.GivenUp.{not_reading}
-use Rattle.mk_run.proofs.FilterLemmas.{all_out, counted_on, known_between, long_on, no_silence, none_out, one_out, sending_blamed, stopped_between, stopped_here, stopped_within, too_many, turns_out}
-use Rattle.mk_run.proofs.filtering.filter_each.Goals as goal
+use Rattle.mk_field.proofs.FilterLemmas.{all_out, counted_on, known_between, long_on, no_silence, none_out, one_out, sending_blamed, stopped_between, stopped_here, stopped_within, too_many, turns_out}
+use Rattle.mk_field.proofs.filtering.filter_each.Goals as goal
 
 pub loop-turn-init : goal.loop-turn-init
 loop-turn-init g c = record {
-  told = ([], [], Consumes-nil _, none_out (filter_of c.args.filter.now) _ _ c.new-mailbox.result c.new-mailbox.ensures.kept);
-  ended = λ e. no_silence (sym e ∙ c.new-mailbox.ensures.ended);
+  told = ([], [], Consumes-nil _, none_out (filter_of c.args.filter.now) _ _ c.cut_at-mailbox.result c.cut_at-mailbox.ensures.kept c.cut_at-mailbox.ensures.from_lines);
+  ended = λ e. no_silence (sym e ∙ c.cut_at-mailbox.ensures.ended);
   well = record { input = refl; output = refl; errors = refl };
   unfinished = refl;
-  count = inl (rw c.new-mailbox.ensures.kept (omega arith));
+  count = inl (rw c.cut_at-mailbox.ensures.kept (omega arith));
 }
 
 pub returns-then-are_too_many-clause-leaves : goal.returns-then-are_too_many-clause-leaves
@@ -115,7 +115,7 @@ loop-turn-preserved g c =
         t.0 ++ e.0,
         t.1 ++ m ∷ [],
         Consumes-trans _ _ _ t.0 e.0 t.2 e.1,
-        one_out (filter_of c.args.filter.now) c.loop-turn.turn c.loop-turn.refused c.in-Ok.told t.0 e.0 m t.1 c.loop-turn.mailbox c.next.new.self _ _ _ _ _ _ t.3 e.2 (λ o. (c.next.ensures.stays o).0) e.4 c.in-Ok.ensures.all,
+        one_out (filter_of c.args.filter.now) c.loop-turn.turn c.loop-turn.refused c.in-Ok.told t.0 e.0 m t.1 c.loop-turn.mailbox c.next.new.self _ _ _ _ _ _ t.3 e.2 (λ o. (c.next.ensures.stays o).0) c.next.ensures.same e.4 c.in-Ok.ensures.all,
       );
       ended = λ n. elim (c.next.ensures.ended n) [
         | inl old ↦ subst IsAtEnd (sym (c.next.ensures.stays old).1) (c.loop-turn.invariant.ended old)

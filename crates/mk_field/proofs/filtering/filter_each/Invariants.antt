@@ -1,11 +1,11 @@
 use Rattle.std.proofs.Common.{◌≡◌, ◌≤◌, ◌+◌, ◌*◌, ◌⊎◌, ℕ, List, true, length}
 use Rattle.std.specs.Io.KnownBytes.{Consumes, IsAtEnd}
 use Rattle.mk_mailbox.specs.Devices.{IsFull}
-use Rattle.mk_run.specs.FilterViews.{filter_of}
+use Rattle.mk_field.specs.FilterViews.{filter_of}
 use Rattle.mk_mailbox.specs.Mailboxes.{chunk_bytes}
 use Rattle.mk_transfer.specs.RunClauses.{SameFailures, counts}
-use Rattle.mk_run.proofs.FilterLemmas.{AreOut}
-use Rattle.mk_run.proofs.filtering.filter_each.Given as goal
+use Rattle.mk_field.proofs.FilterLemmas.{AreOut}
+use Rattle.mk_field.proofs.filtering.filter_each.Given as goal
 
 abbrev pub invariant-loop-turn : goal.invariant-loop-turn
 invariant-loop-turn g l = record {

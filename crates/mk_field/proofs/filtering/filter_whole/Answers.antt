@@ -1,13 +1,13 @@
 use Rattle.std.proofs.Common.{refl, sym, subst}
 use Rattle.std.proofs.KnownBytes.{Keeps-refl}
-use Rattle.mk_run.specs.FilterViews.{filter_of}
-use Rattle.mk_run.specs.FilterClauses.{SaysSome}
+use Rattle.mk_field.specs.FilterViews.{filter_of}
+use Rattle.mk_field.specs.FilterClauses.{SaysSome}
 use Rattle.mk_transfer.proofs.GivenUp.{not_reading}
 use Rattle.mk_transfer.specs.RunClauses.{counts}
 use Rattle.mk_transfer.proofs.Blames.{reading_blamed}
-use Rattle.mk_run.proofs.FilterLemmas.{said_one, sending_blamed}
+use Rattle.mk_field.proofs.FilterLemmas.{said_one, sending_blamed}
 use Rattle.mk_transfer.proofs.Fronts.{AppendsFront-none}
-use Rattle.mk_run.proofs.filtering.filter_whole.Goals as goal
+use Rattle.mk_field.proofs.filtering.filter_whole.Goals as goal
 
 pub returns-in-Err-clause-leaves : goal.returns-in-Err-clause-leaves
 returns-in-Err-clause-leaves g c =

@@ -1,21 +1,25 @@
-use Rattle.std.proofs.Common.{◌∙◌, sym}
+use Rattle.std.proofs.Common.{◌≡◌, ◌∙◌, ◌∷◌, [], ap, sym}
 use Rattle.mk_mail.specs.LetterViews.{letters_of}
-use Rattle.mk_run.specs.Filtering.{of_letters}
+use Rattle.mk_field.specs.Filtering.{PlainFilter, of_letters, of_rounds}
+use Rattle.mk_field.specs.FilterViews.{filter_of}
+use Rattle.mk_mailbox.specs.declared.from_lines.FromLines.TheVariants.{Any}
 use Rattle.mk_transfer.specs.RunClauses.{counts}
 use Rattle.mk_transfer.proofs.Blames.{blame_stays}
-use Rattle.mk_run.specs.Filtering.{field_run, messages_of, said_from}
-use Rattle.mk_run.proofs.FilterLemmas.{Filters-ended, Filters-given_up}
-use Rattle.mk_run.proofs.filtering.run_field.Goals as goal
+use Rattle.mk_field.specs.Filtering.{field_run, messages_of, said_from}
+use Rattle.mk_field.proofs.FilterLemmas.{Filters-ended, Filters-given_up}
+use Rattle.mk_field.proofs.filtering.run_field.Goals as goal
 
 pub returns-in-Ok-clause-leaves : goal.returns-in-Ok-clause-leaves
 returns-in-Ok-clause-leaves g c =
-    let left = rw c.new.ensures at c.in-Ok.ensures.leaves in
+    let left = let same : filter_of c.new-2.result ≡ of_letters (letters_of c.args.letters.now) = c.new-2.ensures ∙ ap (λ r. of_rounds (r ∷ [])) c.new.ensures in
+    rw (same, ap (λ (f : PlainFilter). f.from_lines) same) at c.in-Ok.ensures.leaves in
     (left.0, left.1, Filters-ended _ _ c.args.each c.in-Ok.status (field_run (of_letters (letters_of c.args.letters.now)) c.args.each left.0) _ _ left.2)
 
 pub returns-in-Err-clause-leaves : goal.returns-in-Err-clause-leaves
 returns-in-Err-clause-leaves g c =
-    let left = rw c.new.ensures at c.in-Err.ensures.leaves in
-    let said = said_from (of_letters (letters_of c.args.letters.now)) 1 (messages_of c.args.each left.0) in (
+    let left = let same : filter_of c.new-2.result ≡ of_letters (letters_of c.args.letters.now) = c.new-2.ensures ∙ ap (λ r. of_rounds (r ∷ [])) c.new.ensures in
+    rw (same, ap (λ (f : PlainFilter). f.from_lines) same) at c.in-Err.ensures.leaves in
+    let said = said_from (of_letters (letters_of c.args.letters.now)) 1 (messages_of Any c.args.each left.0) in (
       left.0,
       left.1,
       rw c.give_up.ensures.status (Filters-given_up _ _ c.args.each c.in-Err.cause said _ _ _ _ _ left.2 (record {

@@ -1,0 +1,33 @@
+-- Filters in memory as plain data, and which of them may be asked for.
+use Rattle.std.specs.Prelude.{◌&&◌, ◌||◌, Bool, List, length, map, nat_lt, not}
+use Rattle.std.specs.List.{list_all, list_any}
+use Rattle.mk_mail.specs.LetterViews.{letters_of}
+use Rattle.mk_mail.specs.Letters.{are_allowed}
+use Rattle.mk_mail.specs.Rounds.{PlainRound}
+use Rattle.mk_field.specs.Filtering.{PlainFilter, ask}
+use Rattle.mk_field.specs.declared.filters.FieldFilter.{FieldFilter}
+use Rattle.mk_field.specs.declared.filters.Round.{Round}
+
+-- a round as it is
+abbrev pub round_of : Round → PlainRound
+round_of r = record { lf = letters_of r.lf.now; crlf = letters_of r.crlf.now }
+
+-- a filter as it is
+abbrev pub filter_of : FieldFilter → PlainFilter
+filter_of f = record { rounds = map round_of f.rounds.now; form = f.form; from_lines = f.from_lines }
+
+-- the letters of a round may be asked for
+abbrev pub is_round : PlainRound → Bool
+is_round r = are_allowed r.lf && are_allowed r.crlf
+
+-- a round asks for fields
+abbrev pub round_asks : PlainRound → Bool
+round_asks r = ask r.lf || ask r.crlf
+
+-- a round that asks for fields is the only one
+abbrev pub ask_alone : List PlainRound → Bool
+ask_alone rs = nat_lt (length rs) 2 || not (list_any round_asks rs)
+
+-- a filter that may be asked for
+abbrev pub is_allowed : PlainFilter → Bool
+is_allowed f = list_all is_round f.rounds && ask_alone f.rounds

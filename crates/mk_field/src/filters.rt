@@ -1,0 +1,173 @@
+//! What a run that filters fields is asked for.
+
+ghost use Rattle.std.specs.Prelude.{◌≡◌, map, IfOk};
+ghost use Rattle.std.specs.List.{list_all, list_any};
+ghost use Rattle.mk_mail.specs.LetterViews.{letters_of};
+ghost use Rattle.mk_field.specs.Filtering.{ask as do_ask};
+ghost use Rattle.mk_field.specs.RoundsAsked.{round_letters};
+ghost use Rattle.mk_field.specs.FilterViews.{ask_alone as do_ask_alone, is_round, round_asks, round_of};
+
+use mk_line::{Ending, eol_of};
+use mk_mail::{FromLines, Letters};
+use std::alloc::{AllocError, Global};
+
+/// How `-x` prints the values of fields.
+#[derive(Clone, Copy, Debug, Default, PartialEq, Eq)]
+pub enum ValueForm {
+    /// All that follows the colon, byte for byte.
+    #[default]
+    AsWritten,
+    /// A line for each: the value on one line, without the blanks at both ends (RFC 5322, 2.2.3).
+    Unfolded,
+    /// A line for each: the same of the value with its encoded words decoded (RFC 2047).
+    Decoded,
+}
+
+/// One round of letters. They may depend on how the lines of a text end, since a field that they add may have more than one
+/// line.
+#[derive(Clone, Copy, Debug)]
+pub struct Round<'a> {
+    /// The letters for a text whose lines end with LF.
+    pub lf: &'a Letters,
+    /// Those for a text whose lines end with CR LF.
+    pub crlf: &'a Letters,
+}
+
+impl<'a> Round<'a> {
+    ghost use Rattle.std.specs.Prelude.{◌≡◌};
+    ghost use Rattle.mk_mail.specs.LetterViews.{letters_of};
+    ghost use Rattle.mk_mail.specs.Rounds.{letters_for as are_for, round_of_letters};
+    ghost use Rattle.mk_field.specs.Filtering.{ask};
+    ghost use Rattle.mk_field.specs.FilterViews.{is_round, round_asks, round_of};
+
+    /// The same letters for each text.
+    pub fn new(letters: &'a Letters) -> Round<'a>
+        ensures { round_of result ≡ round_of_letters (letters_of letters.now) }
+    {
+        Round {
+            lf: letters,
+            crlf: letters,
+        }
+    }
+
+    /// The letters for a text.
+    pub(crate) fn letters_for(&self, text: &[u8]) -> &'a Letters
+        ensures { letters_of result.now ≡ are_for (round_of self.now) text.now }
+    {
+        match eol_of(text) {
+            Ending::Crlf => self.crlf,
+            Ending::Lf | Ending::Missing => self.lf,
+        }
+    }
+
+    // Whether its letters may be asked for.
+    fn ok(&self) -> bool
+        ensures { result ≡ is_round (round_of self.now) }
+    {
+        self.lf.ok() && self.crlf.ok()
+    }
+
+    // Whether it asks for fields.
+    fn asks(&self) -> bool
+        ensures { result ≡ round_asks (round_of self.now) }
+    {
+        ask(self.lf) || ask(self.crlf)
+    }
+}
+
+/// The letters of a round in memory.
+#[derive(Debug, Drop)]
+pub struct RoundLetters {
+    /// The letters for a text whose lines end with LF.
+    pub lf: Letters,
+    /// Those for a text whose lines end with CR LF.
+    pub crlf: Letters,
+}
+
+/// The rounds of these letters.
+pub fn rounds<'a>(alloc: Global, letters: &'a [RoundLetters]) -> Result<Vec<Round<'a>>, AllocError>
+    ensures { IfOk result (λ rounds. map round_of rounds.items ≡ map round_letters letters.now) }
+{
+    let mut rounds = Vec::new(alloc);
+    for round in letters {
+        rounds.push(Round {
+            lf: &round.lf,
+            crlf: &round.crlf,
+        })?;
+    }
+    Ok(rounds)
+}
+
+/// Whether letters ask for fields.
+pub(crate) fn ask(letters: &Letters) -> bool
+    ensures { result ≡ do_ask (letters_of letters.now) }
+{
+    letters.take.is_some() || letters.whole.is_some()
+}
+
+/// What a run that filters fields is asked for.
+#[derive(Clone, Copy, Debug)]
+pub struct FieldFilter<'a> {
+    /// The rounds, each of which works on what the one before it left. Letters that ask for fields are of the only one.
+    pub rounds: &'a [Round<'a>],
+    /// How `-x` prints values.
+    pub form: ValueForm,
+    /// Which From-lines begin the messages of a mailbox. With `Dated` a message of empty lines alone is left as it is, and
+    /// nothing of it is given.
+    pub from_lines: FromLines,
+}
+
+impl<'a> FieldFilter<'a> {
+    ghost use Rattle.std.specs.Prelude.{◌≡◌, map};
+    ghost use Rattle.mk_field.specs.FilterViews.{filter_of, is_allowed, round_of};
+    ghost use Rattle.mk_field.specs.Filtering.{of_rounds};
+
+    /// These rounds for each message.
+    pub fn new(rounds: &'a [Round<'a>]) -> FieldFilter<'a>
+        ensures { filter_of result ≡ of_rounds (map round_of rounds.now) }
+    {
+        FieldFilter {
+            rounds,
+            form: ValueForm::AsWritten,
+            from_lines: FromLines::Any,
+        }
+    }
+
+    /// Whether it may be asked for.
+    pub fn ok(&self) -> bool
+        ensures { result ≡ is_allowed (filter_of self.now) }
+    {
+        are_rounds(self.rounds) && ask_alone(self.rounds)
+    }
+}
+
+// Whether the letters of each round may be asked for.
+fn are_rounds(rounds: &[Round<'_>]) -> bool
+    ensures { result ≡ list_all is_round (map round_of rounds.now) }
+{
+    for round in rounds {
+        if !round.ok() {
+            return false;
+        }
+    }
+    true
+}
+
+// Whether a round that asks for fields is the only one.
+fn ask_alone(rounds: &[Round<'_>]) -> bool
+    ensures { result ≡ do_ask_alone (map round_of rounds.now) }
+{
+    rounds.len() < 2 || !some_ask(rounds)
+}
+
+// Whether a round asks for fields.
+fn some_ask(rounds: &[Round<'_>]) -> bool
+    ensures { result ≡ list_any round_asks (map round_of rounds.now) }
+{
+    for round in rounds {
+        if round.asks() {
+            return true;
+        }
+    }
+    false
+}
