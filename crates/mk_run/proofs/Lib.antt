@@ -1,5 +1,4 @@
+pub mod InTurn
+pub mod PlainWords
 pub mod RunLemmas
-pub mod RefusalLemmas
-pub mod FilterLemmas
-pub mod Wordings
-pub mod WordsRead
+pub mod WordsMade

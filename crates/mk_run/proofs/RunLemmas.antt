@@ -13,6 +13,7 @@ use Rattle.mk_transfer.specs.declared.status.Status.TheVariants.{Well, Refused}
 use Rattle.mk_transfer.specs.declared.status.Cause.{Cause}
 use Rattle.mk_transfer.specs.declared.status.Cause.TheVariants.{Read, Write, Memory}
 use Rattle.mk_script.specs.ScriptSteps.{ScriptStep}
+use Rattle.mk_expand.specs.Pieces.{Pieces}
 use Rattle.mk_run.specs.Journaling.{Journaling, begun, named_by}
 use Rattle.mk_run.specs.JournalRuns.{LeavesJournal, LeavesJournalSoFar, Prints}
 use Rattle.mk_run.specs.Runs.{ScriptRun, run_from, errors_of}
@@ -29,7 +30,7 @@ status_at errors refused status r s = elim (cases_Bool (is_nil errors)) [
 ]
 
 -- what the steps on a session left, in a run that read its whole input
-pub Leaves-session : (result : Result Status Cause) (pieces : List (List ℕ)) (steps : List ScriptStep) (journaling : Journaling) (h : History) (before after : Held) (kept left : Option (List ℕ)) (finished : Bool)
+pub Leaves-session : (result : Result Status Cause) (pieces : Pieces) (steps : List ScriptStep) (journaling : Journaling) (h : History) (before after : Held) (kept left : Option (List ℕ)) (finished : Bool)
     → IsAtEnd after.input
     → LeavesSession result (run_from pieces steps journaling h) (sunk before.output before.errors kept) (sunk after.output after.errors left) finished
     → LeavesSoFar result (run_from pieces steps journaling h).run before after × LeavesJournalSoFar result (run_from pieces steps journaling h) before after kept left finished
@@ -45,7 +46,7 @@ Leaves-session (Err cause) pieces steps journaling h before after kept left fini
     (record { output = w.output; errors = w.errors; silent = λ e. absurd (w.unread e) }, record { front = w.journal; later = w.later })
 
 -- steps on a session that weren't given up end the run by itself
-pub session_ended : (result : Result Status Cause) (pieces : List (List ℕ)) (steps : List ScriptStep) (journaling : Journaling) (h : History) (before after : Sunk) (finished : Bool)
+pub session_ended : (result : Result Status Cause) (pieces : Pieces) (steps : List ScriptStep) (journaling : Journaling) (h : History) (before after : Sunk) (finished : Bool)
     → LeavesSession result (run_from pieces steps journaling h) before after finished → IfOk result (λ status. ends_itself status ≡ true)
 session_ended (Ok status) pieces steps journaling h before after finished w = elim (cases_Bool (is_nil (errors_of pieces steps h))) [
   | inl t ↦
@@ -94,7 +95,7 @@ LeavesJournal-given_up Write script before after kept left finished front later 
 LeavesJournal-given_up Memory script before after kept left finished front later = record { front = front; later = later }
 
 -- steps on a session that weren't given up finish the output
-pub Prints-session : (result : Result Status Cause) (pieces : List (List ℕ)) (steps : List ScriptStep) (journaling : Journaling) (h : History) (was is : Sunk) (stands : Bool)
+pub Prints-session : (result : Result Status Cause) (pieces : Pieces) (steps : List ScriptStep) (journaling : Journaling) (h : History) (was is : Sunk) (stands : Bool)
     → LeavesSession result (run_from pieces steps journaling h) was is stands
     → (message : List ℕ) (before after : Held) (was_finished finished : Bool) → Consumes before.input after.input message → begun journaling message ≡ Ok h → OnOk result (finished ≡ true)
     → IfOk result (λ status. Prints status journaling before after was_finished finished)

@@ -7,6 +7,7 @@ use Rattle.mk_transfer.specs.declared.status.Status.TheVariants.{Well, Refused, 
 use Rattle.mk_transfer.specs.declared.status.Cause.{Cause}
 use Rattle.mk_edit.specs.History.{History}
 use Rattle.mk_edit.specs.Saving.{JournalRefusal}
+use Rattle.mk_expand.specs.Pieces.{Pieces}
 use Rattle.mk_run.specs.Journaling.{Journaling, begun}
 use Rattle.mk_run.specs.Runs.{ScriptRun, run_of, run_steps}
 use Rattle.mk_transfer.specs.RunClauses.{Held, Counts, Leaves, LeavesSoFar, Reason, WriteFailed}
@@ -36,14 +37,14 @@ LeavesJournalSoFar (Ok status) script before after kept left finished = LeavesJo
 LeavesJournalSoFar (Err cause) script before after kept left finished = WritesJournalFront script before after kept left
 
 -- what a run of steps leaves is what is defined for the bytes that it read
-abbrev pub LeavesSteps : Result Status Cause → List (List ℕ) → Journaling → Result (List ScriptStep) ℕ → Held → Held → Option (List ℕ) → Option (List ℕ) → Bool → Type 0
+abbrev pub LeavesSteps : Result Status Cause → Pieces → Journaling → Result (List ScriptStep) ℕ → Held → Held → Option (List ℕ) → Option (List ℕ) → Bool → Type 0
 LeavesSteps result pieces journaling steps before after kept left finished =
     (message : List ℕ) × Consumes before.input after.input message
     × LeavesSoFar result (run_steps pieces journaling message steps).run before after
     × LeavesJournalSoFar result (run_steps pieces journaling message steps) before after kept left finished
 
 -- what a run of a script leaves is what is defined for the bytes that it read
-abbrev pub LeavesRun : Reason → Status → List (List ℕ) → Journaling → List ℕ → Held → Held → Option (List ℕ) → Option (List ℕ) → Bool → Type 0
+abbrev pub LeavesRun : Reason → Status → Pieces → Journaling → List ℕ → Held → Held → Option (List ℕ) → Option (List ℕ) → Bool → Type 0
 LeavesRun why status pieces journaling script before after kept left finished =
     (message : List ℕ) × Consumes before.input after.input message
     × Leaves why status (run_of pieces journaling message script).run before after

@@ -1,12 +1,7 @@
-pub mod Reports
+pub mod Faults
 pub mod Journaling
 pub mod JournalRuns
 pub mod Runs
 pub mod Scripts
-pub mod Asked
-pub mod Wording
-pub mod Filtering
-pub mod FilterViews
-pub mod FilterClauses
-pub mod WordLaws
+pub mod WordSteps
 pub mod inner

@@ -3,6 +3,8 @@
 ghost use Rattle.std.specs.Prelude.{◌≡◌, ◌≢◌, ◌⊎◌, true, false, [], length, map, Ok, IfOk, IfErr, OnOk, OnErr};
 ghost use Rattle.std.specs.Io.KnownBytes.{Appends, Keeps};
 ghost use Rattle.mk_mailbox.specs.Devices.{AppendsFront, Rose};
+ghost use Rattle.mk_expand.specs.Pieces.{as_given};
+ghost use Rattle.mk_expand.specs.Views.{pieces_of};
 ghost use Rattle.mk_script.specs.ScriptViews.{step_by, texts_of};
 ghost use Rattle.mk_run.specs.Journaling.{journaling_of};
 ghost use Rattle.mk_run.specs.JournalRuns.{LeavesRun, LeavesSteps, Prints, SinkFailed};
@@ -17,6 +19,7 @@ use crate::report::{report_journal, report_syntax};
 use crate::scripts::Script;
 use crate::steps::do_steps;
 use mk_edit::Session;
+use mk_expand::Pieces;
 use mk_mail::{Sink, Source};
 use mk_script::{ScriptError, Step};
 use mk_transfer::{Cause, Status, Stop, finish, give_up, read_all, reading, send, writing};
@@ -37,7 +40,7 @@ pub fn run_edit<S: Source, O: Sink, E: Sink, J: Sink>(
 ) -> Status
     ensures leaves { let before = counts (S.failures input.old) (S.read_count input.old) (O.failures out.old) (E.failures err.old) in
         let after = counts (S.failures input.new) (S.read_count input.new) (O.failures out.new) (E.failures err.new) in
-        LeavesRun (reason_with before after (J.failures jout.old) (J.failures jout.new)) result (texts_of pieces.now) (journaling_of journal.entry) script.now
+        LeavesRun (reason_with before after (J.failures jout.old) (J.failures jout.new)) result (as_given (texts_of pieces.now)) (journaling_of journal.entry) script.now
         (held (S.remaining input.old) (O.contents out.old) (E.contents err.old))
         (held (S.remaining input.new) (O.contents out.new) (E.contents err.new))
         (J.contents jout.old) (J.contents jout.new) (J.finished jout.new) }
@@ -64,6 +67,10 @@ pub fn run_edit<S: Source, O: Sink, E: Sink, J: Sink>(
         text: script,
         as_one: false,
     };
+    let pieces = Pieces {
+        texts: pieces,
+        turned: false,
+    };
     match try_edit(alloc, input, out, err, script, pieces, journal, jout) {
         Ok(status) => status,
         Err(cause) => give_up(err, cause),
@@ -78,11 +85,11 @@ pub fn try_edit<S: Source, O: Sink, E: Sink, J: Sink>(
     out: &mut O,
     err: &mut E,
     script: Script<'_>,
-    pieces: &[Vec<u8>],
+    pieces: Pieces<'_>,
     journal: Journal<'_>,
     jout: &mut J,
 ) -> Result<Status, Cause>
-    ensures leaves { LeavesSteps result (texts_of pieces.now) (journaling_of journal.entry) (steps_asked script.entry.as_one (length pieces.now) script.entry.text.now)
+    ensures leaves { LeavesSteps result (pieces_of pieces.entry) (journaling_of journal.entry) (steps_asked script.entry.as_one (length pieces.entry.texts.now) script.entry.text.now)
         (held (S.remaining input.old) (O.contents out.old) (E.contents err.old))
         (held (S.remaining input.new) (O.contents out.new) (E.contents err.new))
         (J.contents jout.old) (J.contents jout.new) (J.finished jout.new) }
@@ -100,7 +107,7 @@ pub fn try_edit<S: Source, O: Sink, E: Sink, J: Sink>(
         (held (S.remaining input.new) (O.contents out.new) (E.contents err.new)) (O.finished out.old) (O.finished out.new)) }
     ensures unfinished { OnErr result ((O.finished out.new ≡ O.finished out.old) ⊎ Rose (J.failures jout.old) (J.failures jout.new)) }
 {
-    match script.steps(alloc, pieces.len()) {
+    match script.steps(alloc, pieces.texts.len()) {
         Ok(steps) => run_steps(alloc, input, out, err, steps, pieces, journal, jout),
         Err(ScriptError::Syntax(number)) => match report_syntax(alloc, err, number) {
             Ok(()) => Ok(Status::Usage),
@@ -117,11 +124,11 @@ fn run_steps<S: Source, O: Sink, E: Sink, J: Sink>(
     out: &mut O,
     err: &mut E,
     steps: Vec<Step>,
-    pieces: &[Vec<u8>],
+    pieces: Pieces<'_>,
     journal: Journal<'_>,
     jout: &mut J,
 ) -> Result<Status, Cause>
-    ensures leaves { LeavesSteps result (texts_of pieces.now) (journaling_of journal.entry) (Ok (map step_by steps.items))
+    ensures leaves { LeavesSteps result (pieces_of pieces.entry) (journaling_of journal.entry) (Ok (map step_by steps.items))
         (held (S.remaining input.old) (O.contents out.old) (E.contents err.old))
         (held (S.remaining input.new) (O.contents out.new) (E.contents err.new))
         (J.contents jout.old) (J.contents jout.new) (J.finished jout.new) }
@@ -164,11 +171,11 @@ fn run_session<O: Sink, E: Sink, J: Sink>(
     out: &mut O,
     err: &mut E,
     steps: Vec<Step>,
-    pieces: &[Vec<u8>],
+    pieces: Pieces<'_>,
     journal: Journal<'_>,
     jout: &mut J,
 ) -> Result<Status, Cause>
-    ensures leaves { LeavesSession result (run_from (texts_of pieces.now) (map step_by steps.items) (journaling_of journal.entry) session)
+    ensures leaves { LeavesSession result (run_from (pieces_of pieces.entry) (map step_by steps.items) (journaling_of journal.entry) session)
         (sunk (O.contents out.old) (E.contents err.old) (J.contents jout.old))
         (sunk (O.contents out.new) (E.contents err.new) (J.contents jout.new)) (J.finished jout.new) }
     ensures blamed { IfErr result (λ cause. cause ≡ Cause.Write →

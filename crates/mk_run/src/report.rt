@@ -1,93 +1,20 @@
-//! The lines that a run writes to the errors.
+//! The lines that report faults of the script, refused steps and a refused journal.
 
-ghost use Rattle.std.specs.Prelude.{◌≡◌, ◌++◌, IfOk, OnOk, IfSome};
-ghost use Rattle.mk_decide.specs.Answers.{refusal_of};
-ghost use Rattle.mk_run.specs.Filtering.{message_line as line_of_message};
+ghost use Rattle.std.specs.Prelude.{◌≡◌, Err, None, IfOk, IfSome, IsErr};
 ghost use Rattle.mk_run.specs.Journaling.{journal_line, named_by};
-ghost use Rattle.mk_run.specs.Reports.{reason_name as name_of, behind_name, error_line, syntax_line};
+ghost use Rattle.mk_run.specs.Faults.{fault_line, fault_sentence, reason_line, syntax_line};
+ghost use Rattle.mk_run.specs.Runs.{refusal_line};
+ghost use Rattle.mk_run.specs.inner.Making.{fault_in, refusal_in};
 ghost use Rattle.mk_transfer.specs.RunClauses.{Sends};
 
-use mk_edit::{EditError, LoadError};
-use mk_mail::{Sink, push_path};
-use mk_script::SPACE;
+use crate::making::StepError;
+use mk_edit::LoadError;
+use mk_expand::WordError;
+use mk_mail::Sink;
+use mk_report::report_refusal;
+use mk_script::{InvalidLine, LineFault};
 use mk_transfer::{Stop, send};
 use std::alloc::{AllocError, Global};
-
-const LINE_FEED: u8 = b'\n';
-
-/// The path of the root, where the edits of letters are made.
-const ROOT: [u32; 1] = [1];
-
-/// Reports a refusal of an edit at a path, with the number of its line in the script.
-pub fn report_refusal<E: Sink>(
-    alloc: Global,
-    err: &mut E,
-    number: usize,
-    path: &[u32],
-    reason: EditError,
-) -> Result<(), Stop>
-    ensures { IfSome (refusal_of reason) (λ refusal. Sends result (error_line number path.now refusal)
-        (E.contents err.old) (E.contents err.new) (E.failures err.old) (E.failures err.new)) }
-{
-    match refusal_line(alloc, number, path, reason) {
-        Ok(line) => send(err, &line),
-        Err(_) => Err(Stop::Memory),
-    }
-}
-
-// The line that reports a refusal.
-fn refusal_line(
-    alloc: Global,
-    number: usize,
-    path: &[u32],
-    reason: EditError,
-) -> Result<Vec<u8>, AllocError>
-    ensures { IfOk result (λ line. IfSome (refusal_of reason) (λ refusal. line.items ≡ error_line number path.now refusal)) }
-{
-    let name = refusal_name(reason);
-    let mut line = format!(in alloc; "line {number}: {name}")?.into_bytes();
-    push_place(&mut line, path, reason)?;
-    line.push(LINE_FEED)?;
-    Ok(line)
-}
-
-/// Reports a message for which an edit at the root is refused, by its number from 1 on.
-pub fn report_message<E: Sink>(
-    alloc: Global,
-    err: &mut E,
-    number: u64,
-    reason: EditError,
-) -> Result<(), Stop>
-    ensures { IfSome (refusal_of reason) (λ refusal. Sends result (line_of_message number refusal)
-        (E.contents err.old) (E.contents err.new) (E.failures err.old) (E.failures err.new)) }
-{
-    match message_line(alloc, number, reason) {
-        Ok(line) => send(err, &line),
-        Err(_) => Err(Stop::Memory),
-    }
-}
-
-// The line that reports a message.
-fn message_line(alloc: Global, number: u64, reason: EditError) -> Result<Vec<u8>, AllocError>
-    ensures { IfOk result (λ line. IfSome (refusal_of reason) (λ refusal. line.items ≡ line_of_message number refusal)) }
-{
-    let name = refusal_name(reason);
-    let mut line = format!(in alloc; "message {number}: {name}")?.into_bytes();
-    push_place(&mut line, &ROOT, reason)?;
-    line.push(LINE_FEED)?;
-    Ok(line)
-}
-
-// Writes what follows the name: the path of the multipart of which a line would be a delimiter.
-fn push_place(line: &mut Vec<u8>, path: &[u32], reason: EditError) -> Result<(), AllocError>
-    ensures { OnOk result (IfSome (refusal_of reason) (λ refusal. line.new.items ≡ line.old.items ++ behind_name path.now refusal)) }
-{
-    if let EditError::HoldsBoundary { level } = reason {
-        line.push(SPACE)?;
-        push_path(line, &path[..level.min(path.len())])?;
-    }
-    Ok(())
-}
 
 /// Reports a line of the script that is a fault.
 pub fn report_syntax<E: Sink>(alloc: Global, err: &mut E, number: usize) -> Result<(), Stop>
@@ -98,6 +25,102 @@ pub fn report_syntax<E: Sink>(alloc: Global, err: &mut E, number: usize) -> Resu
         Ok(line) => send(err, line.as_bytes()),
         Err(_) => Err(Stop::Memory),
     }
+}
+
+/// Reports why a line of the script is invalid, in words.
+pub fn report_invalid<E: Sink>(alloc: Global, err: &mut E, line: InvalidLine) -> Result<(), Stop>
+    ensures { Sends result (reason_line line.number line.fault)
+        (E.contents err.old) (E.contents err.new) (E.failures err.old) (E.failures err.new) }
+{
+    match line_of_reason(alloc, line) {
+        Ok(line) => send(err, &line),
+        Err(_) => Err(Stop::Memory),
+    }
+}
+
+// The line that says why a line of the script is invalid.
+fn line_of_reason(alloc: Global, line: InvalidLine) -> Result<Vec<u8>, AllocError>
+    ensures { IfOk result (λ text. text.items ≡ reason_line line.number line.fault) }
+{
+    let number = line.number;
+    let sentence = sentence(line.fault);
+    let text = format!(in alloc; "script: line {number}: {sentence}\n")?;
+    Ok(text.into_bytes())
+}
+
+// What is wrong with a line of a script.
+fn sentence(fault: LineFault) -> &'static str
+    ensures { result.now ≡ fault_sentence fault }
+{
+    match fault {
+        LineFault::UnknownWord => "unknown word",
+        LineFault::Missing => "too few arguments",
+        LineFault::Extra => "too many arguments",
+        LineFault::Spaces => "words are separated by exactly one space",
+        LineFault::BadPath => {
+            "invalid path; write numbers from 1 with dots between them, such as 1.2"
+        }
+        LineFault::BadNumber => "invalid number",
+        LineFault::NoSuchPiece => "no such piece",
+        LineFault::BadEncoding => "invalid encoding; write qp, base64 or 8bit",
+        LineFault::Grouped => "undo and redo can't be in a group",
+        LineFault::BadBegin => "begin without end, or inside a group",
+        LineFault::NoGroup => "end without begin",
+        LineFault::NotEdit => "with --all, each line has to be an edit",
+    }
+}
+
+/// Reports why a step isn't done; running out of memory isn't reported, but answered.
+pub(crate) fn report_step<E: Sink>(alloc: Global, err: &mut E, error: StepError) -> Result<(), Stop>
+    ensures sends { IfSome (refusal_in error) (λ reason. Sends result (refusal_line reason)
+        (E.contents err.old) (E.contents err.new) (E.failures err.old) (E.failures err.new)) }
+    ensures memory { refusal_in error ≡ None → (result ≡ Err Stop.Memory) × (E.contents err.new ≡ E.contents err.old) × (E.failures err.new ≡ E.failures err.old) }
+{
+    match error {
+        StepError::Edit {
+            number,
+            path,
+            reason,
+        } => {
+            if reason.is_memory() {
+                return Err(Stop::Memory);
+            }
+            report_refusal(alloc, err, number, &path, reason)
+        }
+        StepError::Word { number, fault } => report_fault(alloc, err, number, fault),
+    }
+}
+
+// Reports that a word stands for no edits.
+fn report_fault<E: Sink>(
+    alloc: Global,
+    err: &mut E,
+    number: usize,
+    fault: WordError,
+) -> Result<(), Stop>
+    ensures sends { IfSome (fault_in fault) (λ named. Sends result (fault_line number named)
+        (E.contents err.old) (E.contents err.new) (E.failures err.old) (E.failures err.new)) }
+    ensures memory { fault_in fault ≡ None → (result ≡ Err Stop.Memory) × (E.contents err.new ≡ E.contents err.old) × (E.failures err.new ≡ E.failures err.old) }
+{
+    match line_of_fault(alloc, number, fault) {
+        Ok(line) => send(err, &line),
+        Err(_) => Err(Stop::Memory),
+    }
+}
+
+// The line that reports that a word stands for no edits.
+fn line_of_fault(alloc: Global, number: usize, fault: WordError) -> Result<Vec<u8>, AllocError>
+    ensures line { IfOk result (λ line. IfSome (fault_in fault) (λ named. line.items ≡ fault_line number named)) }
+    ensures memory { fault_in fault ≡ None → IsErr result }
+{
+    let line = match fault {
+        WordError::UnknownEncoding => format!(in alloc; "line {number}: UnknownEncoding\n")?,
+        WordError::BadBase64 => format!(in alloc; "line {number}: BadBase64\n")?,
+        WordError::BadType => format!(in alloc; "line {number}: BadType\n")?,
+        WordError::BadName => format!(in alloc; "line {number}: BadName\n")?,
+        WordError::Memory => return Err(AllocError),
+    };
+    Ok(line.into_bytes())
 }
 
 /// Reports why a journal is refused.
@@ -124,29 +147,5 @@ fn line_of_journal(alloc: Global, error: LoadError) -> Result<Vec<u8>, AllocErro
             Ok(format!(in alloc; "journal: JournalMismatch {entry}\n")?.into_bytes())
         }
         LoadError::Memory => Err(AllocError),
-    }
-}
-
-// The name under which a refusal is reported.
-fn refusal_name(reason: EditError) -> &'static str
-    ensures { IfSome (refusal_of reason) (λ refusal. result.now ≡ name_of refusal) }
-{
-    match reason {
-        EditError::NoSuchSection => "NoSuchSection",
-        EditError::NotMultipart => "NotMultipart",
-        EditError::NotLeaf => "NotLeaf",
-        EditError::NotPart => "NotPart",
-        EditError::NoSuchField => "NoSuchField",
-        EditError::BadPlace => "BadPlace",
-        EditError::BadBoundary => "BadBoundary",
-        EditError::BadSubtype => "BadSubtype",
-        EditError::BadField => "BadField",
-        EditError::BadName => "BadName",
-        EditError::OpenLine => "OpenLine",
-        EditError::HoldsBoundary { .. } => "HoldsBoundary",
-        EditError::Recut => "Recut",
-        EditError::NothingToUndo => "NothingToUndo",
-        EditError::NothingToRedo => "NothingToRedo",
-        EditError::Memory => "Memory",
     }
 }

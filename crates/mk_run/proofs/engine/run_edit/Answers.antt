@@ -4,6 +4,7 @@ use Rattle.mk_run.specs.JournalRuns.{LeavesSteps}
 use Rattle.mk_transfer.specs.RunClauses.{held}
 use Rattle.mk_run.specs.Runs.{run_of}
 use Rattle.mk_script.specs.ScriptSteps.{script_of}
+use Rattle.mk_expand.specs.Pieces.{as_given}
 use Rattle.mk_script.specs.ScriptViews.{texts_of}
 use Rattle.mk_transfer.proofs.GivenUp.{Leaves-ended, Leaves-given_up}
 use Rattle.mk_run.proofs.RunLemmas.{LeavesJournal-given_up, Prints-given_up}
@@ -18,8 +19,8 @@ returns-in-Ok-clause-leaves g c =
     let last = g.J.Sink.contents c.try_edit.new.jout in
     let finished = g.J.Sink.finished c.try_edit.new.jout in
     let journaling = journaling_of c.args.journal in
-    let left = subst (λ n. LeavesSteps (Ok c.in-Ok.status) (texts_of c.args.pieces.now) journaling (script_of n c.args.script.now) before after kept last finished) (sym (texts_length c.args.pieces.now)) c.in-Ok.ensures.leaves in
-    let script = run_of (texts_of c.args.pieces.now) journaling left.0 c.args.script.now in
+    let left = subst (λ n. LeavesSteps (Ok c.in-Ok.status) (as_given (texts_of c.args.pieces.now)) journaling (script_of n c.args.script.now) before after kept last finished) (sym (texts_length c.args.pieces.now)) c.in-Ok.ensures.leaves in
+    let script = run_of (as_given (texts_of c.args.pieces.now)) journaling left.0 c.args.script.now in
     (left.0, left.1, Leaves-ended _ c.in-Ok.status script.run before after left.2, left.3)
 
 pub returns-in-Err-clause-leaves : goal.returns-in-Err-clause-leaves
@@ -30,8 +31,8 @@ returns-in-Err-clause-leaves g c =
     let last = g.J.Sink.contents c.try_edit.new.jout in
     let finished = g.J.Sink.finished c.try_edit.new.jout in
     let journaling = journaling_of c.args.journal in
-    let left = subst (λ n. LeavesSteps (Err c.in-Err.cause) (texts_of c.args.pieces.now) journaling (script_of n c.args.script.now) before between kept last finished) (sym (texts_length c.args.pieces.now)) c.in-Err.ensures.leaves in
-    let script = run_of (texts_of c.args.pieces.now) journaling left.0 c.args.script.now in
+    let left = subst (λ n. LeavesSteps (Err c.in-Err.cause) (as_given (texts_of c.args.pieces.now)) journaling (script_of n c.args.script.now) before between kept last finished) (sym (texts_length c.args.pieces.now)) c.in-Err.ensures.leaves in
+    let script = run_of (as_given (texts_of c.args.pieces.now)) journaling left.0 c.args.script.now in
     let after = held (g.S.Source.remaining c.try_edit.new.input) (g.O.Sink.contents c.try_edit.new.out) (g.E.Sink.contents c.give_up.new.err) in
     rw c.give_up.ensures.status (
       left.0,

@@ -5,7 +5,8 @@ use Rattle.mk_run.specs.Journaling.{journaling_of, left_journal}
 use Rattle.mk_transfer.specs.declared.status.Status.TheVariants.{Well, Refused}
 use Rattle.mk_run.specs.Runs.{history_after}
 use Rattle.mk_run.specs.inner.Keeping.{bytes_kept}
-use Rattle.mk_script.specs.ScriptViews.{step_by, texts_of}
+use Rattle.mk_expand.specs.Views.{pieces_of}
+use Rattle.mk_script.specs.ScriptViews.{step_by}
 use Rattle.mk_transfer.proofs.Fronts.{AppendsFront-none, AppendsFront-whole}
 use Rattle.mk_run.proofs.RunLemmas.{status_at}
 use Rattle.mk_transfer.proofs.GivenUp.{writing-not_read}
@@ -32,7 +33,7 @@ returns-in-Err-journal_of-clause-leaves g c = record {
 
 pub returns-clause-leaves : goal.returns-clause-leaves
 returns-clause-leaves g c =
-    let last = history_after (texts_of c.args.pieces.now) (map step_by c.args.steps.items) c.args.session in
+    let last = history_after (pieces_of c.args.pieces) (map step_by c.args.steps.items) c.args.session in
     let journaling = journaling_of c.args.journal in
     let text_is : c.text.result.now ≡ text_now last = c.text.ensures.now ∙ ap text_now c.in-Ok.ensures.done in
     let kept_is : bytes_kept c.in-Ok-journal_of.kept ≡ left_journal journaling last = c.in-Ok-journal_of.ensures ∙ ap (left_journal journaling) c.in-Ok.ensures.done in
@@ -46,7 +47,7 @@ returns-clause-leaves g c =
 
 pub returns-in-Ok-print-clause-leaves : goal.returns-in-Ok-print-clause-leaves
 returns-in-Ok-print-clause-leaves g c =
-    let last = history_after (texts_of c.args.pieces.now) (map step_by c.args.steps.items) c.args.session in
+    let last = history_after (pieces_of c.args.pieces) (map step_by c.args.steps.items) c.args.session in
     let journaling = journaling_of c.args.journal in
     let text_is : c.text.result.now ≡ text_now last = c.text.ensures.now ∙ ap text_now c.in-Ok.ensures.done in
     let kept_is : bytes_kept c.in-Ok-journal_of.kept ≡ left_journal journaling last = c.in-Ok-journal_of.ensures ∙ ap (left_journal journaling) c.in-Ok.ensures.done in

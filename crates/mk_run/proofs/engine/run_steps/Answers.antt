@@ -2,7 +2,8 @@ use Rattle.std.proofs.Common.{◌≡◌, ◌∙◌, Err, sym, refl, map, inl}
 use Rattle.std.proofs.KnownBytes.{Appends-nil, Keeps-refl}
 use Rattle.mk_run.specs.Journaling.{begun, journaling_of}
 use Rattle.mk_transfer.specs.RunClauses.{held, counts}
-use Rattle.mk_script.specs.ScriptViews.{step_by, texts_of}
+use Rattle.mk_expand.specs.Views.{pieces_of}
+use Rattle.mk_script.specs.ScriptViews.{step_by}
 use Rattle.mk_transfer.proofs.Fronts.{AppendsFront-none}
 use Rattle.mk_run.proofs.RunLemmas.{Leaves-session, Prints-session, named_reason, session_blamed, session_ended}
 use Rattle.mk_run.proofs.engine.run_steps.Goals as goal
@@ -19,7 +20,7 @@ pub returns-in-Ok-begin-clause-leaves : goal.returns-in-Ok-begin-clause-leaves
 returns-in-Ok-begin-clause-leaves g c =
     let before = held (g.S.Source.remaining c.args.input.now) (g.O.Sink.contents c.args.out.now) (g.E.Sink.contents c.args.err.now) in
     let after = held (g.S.Source.remaining c.read_all.new.input) (g.O.Sink.contents c.run_session.new.out) (g.E.Sink.contents c.run_session.new.err) in
-    let left = Leaves-session c.run_session.result (texts_of c.args.pieces.now) (map step_by c.args.steps.items) (journaling_of c.args.journal) c.in-Ok-begin.session before after
+    let left = Leaves-session c.run_session.result (pieces_of c.args.pieces) (map step_by c.args.steps.items) (journaling_of c.args.journal) c.in-Ok-begin.session before after
     (g.J.Sink.contents c.args.jout.now) (g.J.Sink.contents c.run_session.new.jout) (g.J.Sink.finished c.run_session.new.jout) c.in-Ok.ensures.ended c.run_session.ensures.leaves in (
       c.in-Ok.message.items,
       c.in-Ok.ensures.all,
@@ -29,7 +30,7 @@ returns-in-Ok-begin-clause-leaves g c =
 
 pub returns-in-Ok-begin-clause-ended : goal.returns-in-Ok-begin-clause-ended
 returns-in-Ok-begin-clause-ended g c =
-    session_ended c.run_session.result (texts_of c.args.pieces.now) (map step_by c.args.steps.items) (journaling_of c.args.journal) c.in-Ok-begin.session _ _ _ c.run_session.ensures.leaves
+    session_ended c.run_session.result (pieces_of c.args.pieces) (map step_by c.args.steps.items) (journaling_of c.args.journal) c.in-Ok-begin.session _ _ _ c.run_session.ensures.leaves
 
 pub returns-in-Ok-begin-clause-blamed : goal.returns-in-Ok-begin-clause-blamed
 returns-in-Ok-begin-clause-blamed g c =
@@ -64,7 +65,7 @@ pub returns-in-Ok-begin-clause-prints : goal.returns-in-Ok-begin-clause-prints
 returns-in-Ok-begin-clause-prints g c =
     let before = held (g.S.Source.remaining c.args.input.now) (g.O.Sink.contents c.args.out.now) (g.E.Sink.contents c.args.err.now) in
     let after = held (g.S.Source.remaining c.read_all.new.input) (g.O.Sink.contents c.run_session.new.out) (g.E.Sink.contents c.run_session.new.err) in
-    Prints-session c.run_session.result (texts_of c.args.pieces.now) (map step_by c.args.steps.items) (journaling_of c.args.journal) c.in-Ok-begin.session _ _ _ c.run_session.ensures.leaves
+    Prints-session c.run_session.result (pieces_of c.args.pieces) (map step_by c.args.steps.items) (journaling_of c.args.journal) c.in-Ok-begin.session _ _ _ c.run_session.ensures.leaves
     c.in-Ok.message.items before after (g.O.Sink.finished c.args.out.now) (g.O.Sink.finished c.run_session.new.out) c.in-Ok.ensures.all c.in-Ok-begin.ensures.ok c.run_session.ensures.finishes
 
 pub returns-in-Ok-report_journal-clause-prints : goal.returns-in-Ok-report_journal-clause-prints
