@@ -9,7 +9,6 @@ use Rattle.mk_tree.specs.Sections.{section_at}
 use Rattle.mk_view.specs.declared.extracting.ExtractError.{ExtractError}
 use Rattle.mk_view.specs.Extracts.{IsExtract, IsExtractRefused}
 use Rattle.mk_mailbox.specs.Devices.{AppendsFront}
-use Rattle.mk_view.specs.declared.text_names.NameForm.{NameForm}
 use Rattle.mk_view.specs.FileNames.{Named}
 use Rattle.mk_transfer.specs.declared.status.Cause.{Cause}
 use Rattle.mk_transfer.specs.declared.status.Cause.TheVariants.{Read, Write, Memory as NoMemory}
@@ -18,10 +17,11 @@ use Rattle.mk_transfer.specs.declared.status.Status.TheVariants.{Well, Refused, 
 use Rattle.mk_show.specs.declared.unpacking.Manner.{Manner}
 use Rattle.mk_show.specs.Folders.{Files}
 use Rattle.mk_transfer.specs.RunClauses.{Held, held, Reason, status_of}
-use Rattle.mk_show.specs.Unpacking.{AreLeaves, Unpacks, UnpacksLeaf, stored_line, exists_line}
+use Rattle.mk_show.specs.Chosen.{Asked, AreAsked, missing_lines}
+use Rattle.mk_show.specs.Unpacking.{Unpacks, UnpacksLeaf, report_line, exists_line}
 use Rattle.mk_transfer.specs.Said.{Said, silence, said_behind, shown}
 use Rattle.mk_show.specs.Shown.{extract_line, is_wanting}
-use Rattle.mk_show.specs.UnpackClauses.{Written, written, GetsNext, PutsText, PutsNone, PutsFront, UnpackedAll, UnpackedSome, IsUnpacked, IsBrokenOff, Stores, StoresSoFar}
+use Rattle.mk_show.specs.UnpackClauses.{Written, written, GetsNext, PutsText, PutsNone, PutsFront, UnpackedAll, UnpackedAllAfter, UnpackedSome, UnpackedSomeAfter, IsUnpacked, IsBrokenOff, Stores, StoresSoFar}
 use Rattle.mk_transfer.proofs.Fronts.{AppendsFront-behind, not-is_nil-append, AppendsFront-none}
 
 behind-silence : (s : Said) → s ≡ said_behind s silence
@@ -125,6 +125,53 @@ UnpackedSome-behind manner t xs ys more leaves refused a b c u v e = record {
   errors = AppendsFront-behind a.errors b.errors c.errors u.said.errors v.said.errors [] _ u.errors v.errors (ap (λ l. u.said.errors ++ l) (sym (append-nil v.said.errors)));
 }
 
+-- lines went out, and then leaves were unpacked
+pub UnpackedAll-after : (lines : List ℕ) (manner : Manner) (t : Document) (leaves : List Named) (refused all_refused : Bool) (out err between out_after err_after : Option (List ℕ)) (old new : Option Files)
+    → Appends err between lines → UnpackedAll manner t leaves refused (written out between old) (written out_after err_after new) → all_refused ≡ (not (is_nil lines) || refused)
+    → UnpackedAllAfter lines manner t leaves all_refused (written out err old) (written out_after err_after new)
+UnpackedAll-after lines manner t leaves refused all_refused out err between out_after err_after old new sent u e = record {
+  said = u.said;
+  unpacks = u.unpacks;
+  output = u.output;
+  errors = Appends-trans err between err_after lines u.said.errors sent u.errors;
+  refused_is = e ∙ ap (λ (b : Bool). not (is_nil lines) || b) u.refused_is ∙ sym (not-is_nil-append lines u.said.errors);
+}
+
+-- lines went out, and then some leaves were unpacked
+pub UnpackedSome-after : (lines : List ℕ) (manner : Manner) (t : Document) (leaves : List Named) (out err between out_after err_after : Option (List ℕ)) (old new : Option Files)
+    → Appends err between lines → UnpackedSome manner t leaves (written out between old) (written out_after err_after new)
+    → UnpackedSomeAfter lines manner t leaves (written out err old) (written out_after err_after new)
+UnpackedSome-after lines manner t leaves out err between out_after err_after old new sent u = record {
+  done = u.done;
+  rest = u.rest;
+  leaves_are = u.leaves_are;
+  said = u.said;
+  between = u.between;
+  unpacks = u.unpacks;
+  next = u.next;
+  output = u.output;
+  errors = AppendsFront-behind err between err_after lines u.said.errors [] _ sent u.errors (ap (λ l. lines ++ l) (sym (append-nil u.said.errors)));
+}
+
+GetsNext-none : (over : Bool) (t : Document) (leaves : List Named) (files : Option Files) → GetsNext over t leaves files files
+GetsNext-none over t [] files = refl
+GetsNext-none over t (leaf ∷ leaves) files = inl refl
+
+-- a front of the lines went out
+pub UnpackedSome-before : (lines : List ℕ) (manner : Manner) (t : Document) (leaves : List Named) (out err err_after : Option (List ℕ)) (files : Option Files)
+    → AppendsFront err err_after lines → UnpackedSomeAfter lines manner t leaves (written out err files) (written out err_after files)
+UnpackedSome-before lines manner t leaves out err err_after files sent = record {
+  done = [];
+  rest = leaves;
+  leaves_are = refl;
+  said = silence;
+  between = files;
+  unpacks = (refl, refl);
+  next = GetsNext-none manner.over t leaves files;
+  output = AppendsFront-none out [];
+  errors = rw append-nil sent;
+}
+
 -- a line that ends is not empty
 pub line_told : (xs : List ℕ) (y : ℕ) (ys : List ℕ) → true ≡ not (is_nil (xs ++ y ∷ ys))
 line_told [] y ys = refl
@@ -133,7 +180,7 @@ line_told (x ∷ xs) y ys = refl
 -- the contents of a leaf were put
 pub stored-leaf : (manner : Manner) (t : Document) (leaf : Named) (bytes target : List ℕ) (old new : Option Files) → IsExtract (section_at leaf.0 t) bytes
     → PutsText manner.over old new leaf.1 bytes target
-    → UnpacksLeaf manner t leaf (record { output = if manner.silent then [] else stored_line (section_at leaf.0 t) target; errors = [] }) old new
+    → UnpacksLeaf manner t leaf (record { output = report_line manner.report leaf.0 (section_at leaf.0 t) target; errors = [] }) old new
 stored-leaf manner t leaf bytes target old new content put = inl (record {
   bytes = bytes;
   content = content;
@@ -168,39 +215,36 @@ front-leaf over t leaf bytes old new content h = elim h [
   | inr put ↦ inr (record { bytes = bytes; content = content; put = put })
 ]
 
-shown_status : (said : Said) (b : Bool) (status : Status) → b ≡ not (is_nil said.errors) → status ≡ (if b then Refused else Well) → (shown said.output said.errors).status ≡ status
-shown_status said b status h e = by_errors said.errors b status h e
-  where
-    by_errors : (errors : List ℕ) (b : Bool) (status : Status) → b ≡ not (is_nil errors) → status ≡ (if b then Refused else Well) → (shown said.output errors).status ≡ status
-    by_errors [] b status h e = sym (e ∙ ap (λ (c : Bool). if c then Refused else Well) h)
-    by_errors (byte ∷ bytes) b status h e = sym (e ∙ ap (λ (c : Bool). if c then Refused else Well) h)
+shown_status : (output errors : List ℕ) (b : Bool) (status : Status) → b ≡ not (is_nil errors) → status ≡ (if b then Refused else Well) → (shown output errors).status ≡ status
+shown_status output [] b status h e = sym (e ∙ ap (λ (c : Bool). if c then Refused else Well) h)
+shown_status output (byte ∷ bytes) b status h e = sym (e ∙ ap (λ (c : Bool). if c then Refused else Well) h)
 
 -- all leaves were unpacked, and the run ended by itself
-pub IsUnpacked-all : (manner : Manner) (form : NameForm) (texts : Bool) (t : Document) (leaves : List Named) (refused : Bool) (status : Status) (input left out sent err told : Option (List ℕ)) (old new : Option Files)
-    → AreLeaves form texts t leaves → UnpackedAll manner t leaves refused (written out err old) (written sent told new) → status ≡ (if refused then Refused else Well) → IsAtEnd left
-    → IsUnpacked manner form texts t status (held input out err) (held left sent told) old new
-IsUnpacked-all manner form texts t leaves refused status input left out sent err told old new are u e end = record {
+pub IsUnpacked-all : (asked : Asked) (t : Document) (leaves : List Named) (refused : Bool) (status : Status) (input left out sent err told : Option (List ℕ)) (old new : Option Files)
+    → AreAsked asked t leaves → UnpackedAllAfter (missing_lines t asked.sections) asked.manner t leaves refused (written out err old) (written sent told new) → status ≡ (if refused then Refused else Well) → IsAtEnd left
+    → IsUnpacked asked t status (held input out err) (held left sent told) old new
+IsUnpacked-all asked t leaves refused status input left out sent err told old new are u e end = record {
   leaves = leaves;
   are_leaves = are;
   said = u.said;
   unpacks = u.unpacks;
-  run = record { status_is = shown_status u.said refused status u.refused_is e; written = record { output = u.output; errors = u.errors }; read = end };
+  run = record { status_is = shown_status u.said.output (missing_lines t asked.sections ++ u.said.errors) refused status u.refused_is e; written = record { output = u.output; errors = u.errors }; read = end };
 }
 
 -- a run that ended by itself
-pub Stores-ended : (why : Reason) (manner : Manner) (form : NameForm) (texts : Bool) (t : Document) (status : Status) (before after : Held) (old new : Option Files)
-    → StoresSoFar manner form texts t (Ok status) before after old new → Stores why manner form texts t status before after old new
-Stores-ended why manner form texts t Well before after old new s = s
-Stores-ended why manner form texts t Refused before after old new s = s
-Stores-ended why manner form texts t Usage before after old new s = s
-Stores-ended why manner form texts t Fault before after old new s = absurd s
-Stores-ended why manner form texts t Memory before after old new s = absurd s
+pub Stores-ended : (why : Reason) (asked : Asked) (t : Document) (status : Status) (before after : Held) (old new : Option Files)
+    → StoresSoFar asked t (Ok status) before after old new → Stores why asked t status before after old new
+Stores-ended why asked t Well before after old new s = s
+Stores-ended why asked t Refused before after old new s = s
+Stores-ended why asked t Usage before after old new s = s
+Stores-ended why asked t Fault before after old new s = absurd s
+Stores-ended why asked t Memory before after old new s = absurd s
 
 -- some leaves were unpacked, and the run was given up
-IsBrokenOff-some : (why : Reason) (manner : Manner) (form : NameForm) (texts : Bool) (t : Document) (leaves : List Named) (cause : Cause) (status : Status) (input left out sent err between told : Option (List ℕ)) (old new : Option Files)
-    → AreLeaves form texts t leaves → UnpackedSome manner t leaves (written out err old) (written sent between new) → status_of cause ≡ status → (cause ≡ Read → Keeps out sent) → why cause between told
-    → IsBrokenOff why manner form texts t status (held input out err) (held left sent told) old new
-IsBrokenOff-some why manner form texts t leaves cause status input left out sent err between told old new are u e silent line = record {
+IsBrokenOff-some : (why : Reason) (asked : Asked) (t : Document) (leaves : List Named) (cause : Cause) (status : Status) (input left out sent err between told : Option (List ℕ)) (old new : Option Files)
+    → AreAsked asked t leaves → UnpackedSomeAfter (missing_lines t asked.sections) asked.manner t leaves (written out err old) (written sent between new) → status_of cause ≡ status → (cause ≡ Read → Keeps out sent) → why cause between told
+    → IsBrokenOff why asked t status (held input out err) (held left sent told) old new
+IsBrokenOff-some why asked t leaves cause status input left out sent err between told old new are u e silent line = record {
   leaves = leaves;
   are_leaves = are;
   done = u.done;
@@ -220,18 +264,18 @@ not_read_either : {A : Type 0} → NoMemory ≡ Read → A
 not_read_either e = absurd cc
 
 -- what was left when a run stopped, and the line that says why
-pub Stores-given_up : (why : Reason) (manner : Manner) (form : NameForm) (texts : Bool) (t : Document) (cause : Cause) (input left out sent err between told : Option (List ℕ)) (old new : Option Files)
-    → StoresSoFar manner form texts t (Err cause) (held input out err) (held left sent between) old new → why cause between told
-    → Stores why manner form texts t (status_of cause) (held input out err) (held left sent told) old new
-Stores-given_up why manner form texts t Read input left out sent err between told old new w line = elim w [
+pub Stores-given_up : (why : Reason) (asked : Asked) (t : Document) (cause : Cause) (input left out sent err between told : Option (List ℕ)) (old new : Option Files)
+    → StoresSoFar asked t (Err cause) (held input out err) (held left sent between) old new → why cause between told
+    → Stores why asked t (status_of cause) (held input out err) (held left sent told) old new
+Stores-given_up why asked t Read input left out sent err between told old new w line = elim w [
   | inl u ↦ inl (record { cause = Read; status_is = refl; output = u.output; between = between; errors = u.errors; line = line }, u.files)
   | inr h ↦ absurd (h.writing refl)
 ]
-Stores-given_up why manner form texts t Write input left out sent err between told old new w line = elim w [
+Stores-given_up why asked t Write input left out sent err between told old new w line = elim w [
   | inl u ↦ inl (record { cause = Write; status_is = refl; output = u.output; between = between; errors = u.errors; line = line }, u.files)
-  | inr h ↦ inr (IsBrokenOff-some why manner form texts t h.leaves Write Fault input left out sent err between told old new h.are_leaves h.some refl (λ r. not_read r) line)
+  | inr h ↦ inr (IsBrokenOff-some why asked t h.leaves Write Fault input left out sent err between told old new h.are_leaves h.some refl (λ r. not_read r) line)
 ]
-Stores-given_up why manner form texts t NoMemory input left out sent err between told old new w line = elim w [
+Stores-given_up why asked t NoMemory input left out sent err between told old new w line = elim w [
   | inl u ↦ inl (record { cause = NoMemory; status_is = refl; output = u.output; between = between; errors = u.errors; line = line }, u.files)
-  | inr h ↦ inr (IsBrokenOff-some why manner form texts t h.leaves NoMemory Memory input left out sent err between told old new h.are_leaves h.some refl (λ r. not_read_either r) line)
+  | inr h ↦ inr (IsBrokenOff-some why asked t h.leaves NoMemory Memory input left out sent err between told old new h.are_leaves h.some refl (λ r. not_read_either r) line)
 ]

@@ -1,6 +1,10 @@
 pub mod Shown
+pub mod Portions
 pub mod Folders
 pub mod Unpacking
+pub mod Chosen
 pub mod UnpackClauses
+pub mod OwnBoundary
 pub mod Packing
 pub mod Parts
+pub mod Alone

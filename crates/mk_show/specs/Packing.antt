@@ -1,4 +1,5 @@
 -- A message packed from fields and files (own).
+use Rattle.std.specs.Option.{option_map}
 use Rattle.std.specs.Prelude.{◌≡◌, ◌++◌, if◌then◌else◌, ℕ, Bool, true, false, Option, None, Some, unwrap_or, List, [], ◌∷◌, codes, decimal, length, map}
 use Rattle.mk_line.specs.Ascii.{line_feed, space}
 use Rattle.mk_line.specs.Lines.{TextLine, cut, eol_of}
@@ -10,6 +11,9 @@ use Rattle.mk_build.specs.declared.building.BuildError.{BuildError}
 use Rattle.mk_build.specs.declared.building.BuildError.TheVariants as refused
 use Rattle.mk_build.specs.BuildViews.{attached_of, named_of}
 use Rattle.mk_build.specs.Building.{Attached, build_refusal, built, first_failing, is_free_field}
+use Rattle.mk_build.specs.Multiparts.{Multipart, built_as, refusal_as}
+use Rattle.mk_show.specs.declared.packing.PackOptions.{PackOptions}
+use Rattle.mk_show.specs.OwnBoundary.{own_boundary}
 use Rattle.mk_transfer.specs.Said.{Run, shown}
 use Rattle.mk_view.specs.declared.text_names.NameForm.{NameForm}
 use Rattle.mk_view.specs.declared.text_names.NameForm.TheVariants.{Plain, Utf8}
@@ -31,6 +35,8 @@ abbrev pub build_name : BuildError → List ℕ
 build_name (refused.BadField index) = codes "BadField"
 build_name (refused.BadType index) = codes "BadType"
 build_name (refused.BadName index) = codes "BadName"
+build_name refused.BadSubtype = codes "BadSubtype"
+build_name refused.BadCharset = codes "BadCharset"
 build_name refused.BadBoundary = codes "BadBoundary"
 build_name refused.Memory = codes "Memory"
 
@@ -39,6 +45,8 @@ abbrev pub index_of : BuildError → Option ℕ
 index_of (refused.BadField index) = Some index
 index_of (refused.BadType index) = Some index
 index_of (refused.BadName index) = Some index
+index_of refused.BadSubtype = None
+index_of refused.BadCharset = None
 index_of refused.BadBoundary = None
 index_of refused.Memory = None
 
@@ -70,6 +78,36 @@ packed boundary parts text =
 -- the same as a fact
 abbrev pub IsPacked : List ℕ → List Attached → List ℕ → Run → Type 0
 IsPacked boundary parts text run = run ≡ packed boundary parts text
+
+-- how a message is packed: the form of its names, the subtype of its multipart, and the charset and the boundary where they are given
+pub record Manner : Type 0 where
+  pub form : NameForm
+  pub subtype : List ℕ
+  pub charset : Option (List ℕ)
+  pub boundary : Option (List ℕ)
+
+-- what is in memory
+abbrev pub manner_of : PackOptions → Manner
+manner_of o = record { form = o.form; subtype = o.subtype.now; charset = option_map (λ c. c.now) o.charset; boundary = option_map (λ b. b.now) o.boundary }
+
+-- the boundary that is given, or else the one that is made of the fields and the parts
+abbrev pub boundary_for : Option (List ℕ) → List (List ℕ) → List Attached → List ℕ
+boundary_for None fields parts = own_boundary fields parts
+boundary_for (Some boundary) fields parts = boundary
+
+-- the multipart of a manner, with a boundary
+abbrev pub multipart_with : Manner → List ℕ → Multipart
+multipart_with m boundary = record { subtype = m.subtype; charset = m.charset; boundary = boundary }
+
+-- the message of the fields that a text gives and of these parts as a multipart, with the line ending of the text
+abbrev pub packed_as : Multipart → List Attached → List ℕ → Run
+packed_as m parts text =
+    let fields = fields_given (cut text) in
+    told (built_as (eol_of (cut text)) fields parts m) (refusal_as fields parts m)
+
+-- the message of the fields that a text gives and of these parts, packed in a manner
+abbrev pub IsPackedAs : Manner → List Attach → List ℕ → Run → Type 0
+IsPackedAs m parts text run = run ≡ packed_as (multipart_with m (boundary_for m.boundary (fields_given (cut text)) (map attached_of parts))) (map (part_in m.form) parts) text
 
 -- a text with a body is never packed: the reason names its first field that can't stand at the start, or their number where all can
 abbrev pub BodiesAreRefused : Type 0

@@ -1,5 +1,5 @@
 -- The files that are packed, as the command line names them: TYPE:FILE (own).
-use Rattle.std.specs.Prelude.{ℕ, Bool, false, not, Option, None, Some, List, [], ◌∷◌, codes}
+use Rattle.std.specs.Prelude.{if◌then◌else◌, ℕ, Bool, false, not, Option, None, Some, List, [], ◌∷◌, codes}
 use Rattle.std.specs.Option.{option_map}
 use Rattle.std.specs.Str.{bytes_eq}
 use Rattle.mk_line.specs.Ascii.{colon, slash}
@@ -39,6 +39,10 @@ is_text media = is_text_main (parted slash media)
 -- a file that holds these bytes as a part: under its name, texts as quoted-printable and all else as base64
 abbrev pub attached_file : Spec → List ℕ → Attached
 attached_file spec text = record { media = spec.media; name = Some (file_name spec.path); said = None; text = text; base64 = not (is_text spec.media) }
+
+-- the same, to be shown where it is a text: a text has no name, and so no disposition (own)
+abbrev pub inlined_file : Spec → List ℕ → Attached
+inlined_file spec text = record { media = spec.media; name = if is_text spec.media then None else Some (file_name spec.path); said = None; text = text; base64 = not (is_text spec.media) }
 
 -- what is in memory
 abbrev pub spec_view : declared.Spec → Spec

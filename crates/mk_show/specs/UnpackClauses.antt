@@ -1,5 +1,5 @@
 -- What a run that unpacks a message leaves in its devices.
-use Rattle.std.specs.Prelude.{◌≡◌, ◌⊎◌, ◌++◌, ℕ, Bool, false, not, List, [], ◌∷◌, Option, Result, Ok, Err}
+use Rattle.std.specs.Prelude.{◌≡◌, ◌⊎◌, ◌++◌, if◌then◌else◌, ℕ, Bool, false, not, List, [], ◌∷◌, Option, None, Result, Ok, Err}
 use Rattle.std.specs.Io.KnownBytes.{Appends, Consumes, Keeps}
 use Rattle.mk_line.specs.Lines.{is_nil}
 use Rattle.mk_tree.specs.Documents.{Document, tree}
@@ -13,11 +13,13 @@ use Rattle.mk_transfer.specs.declared.status.Status.TheVariants.{Well, Refused, 
 use Rattle.mk_transfer.specs.declared.status.Cause.{Cause}
 use Rattle.mk_transfer.specs.declared.status.Cause.TheVariants.{Read}
 use Rattle.mk_show.specs.declared.unpacking.Manner.{Manner}
+use Rattle.mk_show.specs.declared.unpacking.Report.TheVariants.{Nothing, Names}
 use Rattle.mk_show.specs.Folders.{Files, Gets}
 use Rattle.mk_transfer.specs.RunClauses.{Held, IsDone, IsGivenUp, Reason}
 use Rattle.mk_show.specs.Shown.{IsSilent}
 use Rattle.mk_transfer.specs.Said.{shown, Said}
-use Rattle.mk_show.specs.Unpacking.{IsTarget, AllThere, Unpacks, AreLeaves}
+use Rattle.mk_show.specs.Unpacking.{IsTarget, AllThere, Unpacks}
+use Rattle.mk_show.specs.Chosen.{Asked, AreAsked, missing_lines}
 
 -- what the devices tell to which unpacking writes: the bytes that the output and the errors hold, and the files of the folder
 pub record Written : Type 0 where
@@ -80,16 +82,21 @@ abbrev pub GetsNext : Bool → Document → List Named → Option Files → Opti
 GetsNext over t [] old new = new ≡ old
 GetsNext over t (leaf ∷ leaves) old new = (new ≡ old) ⊎ GetsSome over t leaf old new
 
--- leaves were unpacked, and all that is said of them went out
-pub record UnpackedAll (manner : Manner) (t : Document) (leaves : List Named) (refused : Bool) (before after : Written) : Type 0 where
+-- some lines and then leaves: the leaves were unpacked, and the lines and all that is said of the leaves went out
+pub record UnpackedAllAfter (lines : List ℕ) (manner : Manner) (t : Document) (leaves : List Named) (refused : Bool) (before after : Written) : Type 0 where
   pub said : Said
   pub unpacks : Unpacks manner t leaves said before.files after.files
   pub output : Appends before.output after.output said.output
-  pub errors : Appends before.errors after.errors said.errors
-  pub refused_is : refused ≡ not (is_nil said.errors)
+  pub errors : Appends before.errors after.errors (lines ++ said.errors)
+  pub refused_is : refused ≡ not (is_nil (lines ++ said.errors))
 
--- a front of the leaves was unpacked, a front of what is said of them went out, and of the next leaf at most a front was put
-pub record UnpackedSome (manner : Manner) (t : Document) (leaves : List Named) (before after : Written) : Type 0 where
+-- leaves were unpacked, and all that is said of them went out
+abbrev pub UnpackedAll : Manner → Document → List Named → Bool → Written → Written → Type 0
+UnpackedAll = UnpackedAllAfter []
+
+-- some lines and then leaves: a front of the leaves was unpacked, a front of the lines and of what is said of the leaves went out,
+-- and of the next leaf at most a front was put
+pub record UnpackedSomeAfter (lines : List ℕ) (manner : Manner) (t : Document) (leaves : List Named) (before after : Written) : Type 0 where
   pub done : List Named
   pub rest : List Named
   pub leaves_are : leaves ≡ done ++ rest
@@ -98,58 +105,66 @@ pub record UnpackedSome (manner : Manner) (t : Document) (leaves : List Named) (
   pub unpacks : Unpacks manner t done said before.files between
   pub next : GetsNext manner.over t rest between after.files
   pub output : AppendsFront before.output after.output said.output
-  pub errors : AppendsFront before.errors after.errors said.errors
+  pub errors : AppendsFront before.errors after.errors (lines ++ said.errors)
+
+-- a front of the leaves was unpacked, a front of what is said of them went out, and of the next leaf at most a front was put
+abbrev pub UnpackedSome : Manner → Document → List Named → Written → Written → Type 0
+UnpackedSome = UnpackedSomeAfter []
 
 -- the manner of these two choices
 abbrev pub manner_of : Bool → Bool → Manner
-manner_of over silent = record { over = over; silent = silent }
+manner_of over silent = record { over = over; report = if silent then Nothing else Names }
 
--- the run ended by itself: all leaves that are stored were unpacked
-pub record IsUnpacked (manner : Manner) (form : NameForm) (texts : Bool) (t : Document) (status : Status) (before after : Held) (old new : Option Files) : Type 0 where
+-- what is asked for: all leaves
+abbrev pub all_leaves : Manner → NameForm → Bool → Asked
+all_leaves manner form texts = record { manner = manner; form = form; texts = texts; sections = None }
+
+-- the run ended by itself: the paths that lead to no section were reported, and all leaves that are asked for were unpacked
+pub record IsUnpacked (asked : Asked) (t : Document) (status : Status) (before after : Held) (old new : Option Files) : Type 0 where
   pub leaves : List Named
-  pub are_leaves : AreLeaves form texts t leaves
+  pub are_leaves : AreAsked asked t leaves
   pub said : Said
-  pub unpacks : Unpacks manner t leaves said old new
-  pub run : IsDone status (shown said.output said.errors) before after
+  pub unpacks : Unpacks asked.manner t leaves said old new
+  pub run : IsDone status (shown said.output (missing_lines t asked.sections ++ said.errors)) before after
 
--- the run was given up: a front of the leaves was unpacked, a front of what is said of them went out, and of the next leaf at
--- most a front was put
-pub record IsBrokenOff (why : Reason) (manner : Manner) (form : NameForm) (texts : Bool) (t : Document) (status : Status) (before after : Held) (old new : Option Files) : Type 0 where
+-- the run was given up: a front of the leaves was unpacked, a front of the reports and of what is said of the leaves went out, and
+-- of the next leaf at most a front was put
+pub record IsBrokenOff (why : Reason) (asked : Asked) (t : Document) (status : Status) (before after : Held) (old new : Option Files) : Type 0 where
   pub leaves : List Named
-  pub are_leaves : AreLeaves form texts t leaves
+  pub are_leaves : AreAsked asked t leaves
   pub done : List Named
   pub rest : List Named
   pub leaves_are : leaves ≡ done ++ rest
   pub said : Said
   pub between : Option Files
-  pub unpacks : Unpacks manner t done said old between
-  pub next : GetsNext manner.over t rest between new
-  pub run : IsGivenUp why status (shown said.output said.errors) before after
+  pub unpacks : Unpacks asked.manner t done said old between
+  pub next : GetsNext asked.manner.over t rest between new
+  pub run : IsGivenUp why status (shown said.output (missing_lines t asked.sections ++ said.errors)) before after
 
 -- the run was given up before any leaf was unpacked
 abbrev pub IsUnbegun : Reason → Status → Held → Held → Option Files → Option Files → Type 0
 IsUnbegun why status before after old new = IsSilent why status before after × (new ≡ old)
 
 -- what a run leaves that ended by itself
-abbrev pub EndsStored : Manner → NameForm → Bool → Document → Status → Held → Held → Option Files → Option Files → Type 0
-EndsStored manner form texts t Well before after old new = IsUnpacked manner form texts t Well before after old new
-EndsStored manner form texts t Refused before after old new = IsUnpacked manner form texts t Refused before after old new
-EndsStored manner form texts t Usage before after old new = ⊥
-EndsStored manner form texts t Fault before after old new = ⊥
-EndsStored manner form texts t Memory before after old new = ⊥
+abbrev pub EndsStored : Asked → Document → Status → Held → Held → Option Files → Option Files → Type 0
+EndsStored asked t Well before after old new = IsUnpacked asked t Well before after old new
+EndsStored asked t Refused before after old new = IsUnpacked asked t Refused before after old new
+EndsStored asked t Usage before after old new = ⊥
+EndsStored asked t Fault before after old new = ⊥
+EndsStored asked t Memory before after old new = ⊥
 
 -- what a run leaves that unpacks a document, by its status
-abbrev pub Stores : Reason → Manner → NameForm → Bool → Document → Status → Held → Held → Option Files → Option Files → Type 0
-Stores why manner form texts t Well before after old new = IsUnpacked manner form texts t Well before after old new
-Stores why manner form texts t Refused before after old new = IsUnpacked manner form texts t Refused before after old new
-Stores why manner form texts t Usage before after old new = ⊥
-Stores why manner form texts t Fault before after old new = IsUnbegun why Fault before after old new ⊎ IsBrokenOff why manner form texts t Fault before after old new
-Stores why manner form texts t Memory before after old new = IsUnbegun why Memory before after old new ⊎ IsBrokenOff why manner form texts t Memory before after old new
+abbrev pub Stores : Reason → Asked → Document → Status → Held → Held → Option Files → Option Files → Type 0
+Stores why asked t Well before after old new = IsUnpacked asked t Well before after old new
+Stores why asked t Refused before after old new = IsUnpacked asked t Refused before after old new
+Stores why asked t Usage before after old new = ⊥
+Stores why asked t Fault before after old new = IsUnbegun why Fault before after old new ⊎ IsBrokenOff why asked t Fault before after old new
+Stores why asked t Memory before after old new = IsUnbegun why Memory before after old new ⊎ IsBrokenOff why asked t Memory before after old new
 
--- the same for the message that the run read
+-- the same for the message that the run read, where all leaves are asked for
 abbrev pub LeavesUnpacked : Reason → Manner → NameForm → Bool → Status → Held → Held → Option Files → Option Files → Type 0
 LeavesUnpacked why manner form texts status before after old new =
-    (message : List ℕ) × Consumes before.input after.input message × Stores why manner form texts (tree message) status before after old new
+    (message : List ℕ) × Consumes before.input after.input message × Stores why (all_leaves manner form texts) (tree message) status before after old new
 
 -- nothing was written before the run was given up
 pub record IsUntouched (before after : Held) (old new : Option Files) : Type 0 where
@@ -158,18 +173,22 @@ pub record IsUntouched (before after : Held) (old new : Option Files) : Type 0 w
   pub files : new ≡ old
 
 -- the run was given up after a front of the leaves, though not for a fault of reading
-pub record IsHalted (manner : Manner) (form : NameForm) (texts : Bool) (t : Document) (cause : Cause) (before after : Held) (old new : Option Files) : Type 0 where
+pub record IsHalted (asked : Asked) (t : Document) (cause : Cause) (before after : Held) (old new : Option Files) : Type 0 where
   pub leaves : List Named
-  pub are_leaves : AreLeaves form texts t leaves
-  pub some : UnpackedSome manner t leaves (written before.output before.errors old) (written after.output after.errors new)
+  pub are_leaves : AreAsked asked t leaves
+  pub some : UnpackedSomeAfter (missing_lines t asked.sections) asked.manner t leaves (written before.output before.errors old) (written after.output after.errors new)
   pub writing : cause ≡ Read → ⊥
 
 -- what a run leaves that unpacks a document, where it may be given up
-abbrev pub StoresSoFar : Manner → NameForm → Bool → Document → Result Status Cause → Held → Held → Option Files → Option Files → Type 0
-StoresSoFar manner form texts t (Ok status) before after old new = EndsStored manner form texts t status before after old new
-StoresSoFar manner form texts t (Err cause) before after old new = IsUntouched before after old new ⊎ IsHalted manner form texts t cause before after old new
+abbrev pub StoresSoFar : Asked → Document → Result Status Cause → Held → Held → Option Files → Option Files → Type 0
+StoresSoFar asked t (Ok status) before after old new = EndsStored asked t status before after old new
+StoresSoFar asked t (Err cause) before after old new = IsUntouched before after old new ⊎ IsHalted asked t cause before after old new
 
 -- the same for the message that the run read
+abbrev pub LeavesAskedSoFar : Asked → Result Status Cause → Held → Held → Option Files → Option Files → Type 0
+LeavesAskedSoFar asked result before after old new =
+    (message : List ℕ) × Consumes before.input after.input message × StoresSoFar asked (tree message) result before after old new
+
+-- the same where all leaves are asked for
 abbrev pub LeavesUnpackedSoFar : Manner → NameForm → Bool → Result Status Cause → Held → Held → Option Files → Option Files → Type 0
-LeavesUnpackedSoFar manner form texts result before after old new =
-    (message : List ℕ) × Consumes before.input after.input message × StoresSoFar manner form texts (tree message) result before after old new
+LeavesUnpackedSoFar manner form texts = LeavesAskedSoFar (all_leaves manner form texts)

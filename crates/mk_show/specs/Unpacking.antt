@@ -1,6 +1,6 @@
 -- What unpacking a message does: the contents of its leaves are put into a folder (own).
 use Rattle.std.specs.Prelude.{◌≡◌, ◌⊎◌, ◌<◌, ◌==◌, ◌++◌, if◌then◌else◌, ℕ, Bool, true, false, Option, None, Some, List, [], ◌∷◌, codes}
-use Rattle.mk_line.specs.Ascii.{line_feed}
+use Rattle.mk_line.specs.Ascii.{line_feed, space}
 use Rattle.mk_tree.specs.Documents.{Document}
 use Rattle.mk_tree.specs.Sections.{Placed, section_at}
 use Rattle.mk_view.specs.declared.extracting.ExtractError.{ExtractError}
@@ -9,9 +9,11 @@ use Rattle.mk_view.specs.FileNames.{Named}
 use Rattle.mk_view.specs.TextNames.{all_stored_in}
 use Rattle.mk_view.specs.declared.text_names.NameForm.{NameForm}
 use Rattle.mk_view.specs.GivenNames.{AreGiven, numbered}
-use Rattle.mk_view.specs.Listing.{type_of, type_text}
+use Rattle.mk_view.specs.Listing.{path_text, type_of, type_text}
 use Rattle.mk_transfer.specs.Said.{Said, silence, said_behind}
 use Rattle.mk_show.specs.declared.unpacking.Manner.{Manner}
+use Rattle.mk_show.specs.declared.unpacking.Report.{Report}
+use Rattle.mk_show.specs.declared.unpacking.Report.TheVariants.{Nothing, Names, Paths}
 use Rattle.mk_show.specs.Folders.{Files, IsFree, IsThere, Gets}
 use Rattle.mk_show.specs.Shown.{extract_line, is_wanting}
 
@@ -43,6 +45,12 @@ abbrev pub stored_line : Option Placed → List ℕ → List ℕ
 stored_line None target = []
 stored_line (Some p) target = target ++ (codes " (" ++ (type_text (type_of p) ++ (codes ")" ++ line_feed ∷ [])))
 
+-- what is said of a section that was put under a name: nothing, the name and the type, or these after the path and a space
+abbrev pub report_line : Report → List ℕ → Option Placed → List ℕ → List ℕ
+report_line Nothing path place target = []
+report_line Names path place target = stored_line place target
+report_line Paths path place target = path_text path ++ space ∷ stored_line place target
+
 -- the line that says that all names of a leaf are those of files
 abbrev pub exists_line : List ℕ → List ℕ
 exists_line name = name ++ (codes ": exists" ++ line_feed ∷ [])
@@ -54,7 +62,7 @@ pub record IsStored (manner : Manner) (place : Option Placed) (leaf : Named) (sa
   pub target : List ℕ
   pub target_is : IsTarget manner.over old leaf.1 target
   pub gets : Gets old new target bytes
-  pub said_is : said ≡ record { output = if manner.silent then [] else stored_line place target; errors = [] }
+  pub said_is : said ≡ record { output = report_line manner.report leaf.0 place target; errors = [] }
 
 -- the content of a leaf was not put, since all its names are those of files
 pub record IsCrowded (manner : Manner) (place : Option Placed) (leaf : Named) (said : Said) (old new : Option Files) : Type 0 where

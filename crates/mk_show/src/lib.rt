@@ -1,16 +1,26 @@
 //! The runs that show, take apart and pack a message, over any devices.
 #![tactic(auto)]
 
+mod alone;
 mod answers;
+mod boundaries;
+mod choosing;
 mod folder;
 pub mod laws;
 mod packing;
 mod parts;
+mod portions;
+mod saying;
 mod showing;
 mod unpacking;
 
+pub use alone::{try_part, try_part_with};
 pub use folder::Folder;
-pub use packing::{run_pack, try_pack, try_pack_in};
+pub use mk_build::MIXED;
+pub use packing::{PackOptions, run_pack, try_pack, try_pack_in, try_pack_with};
 pub use parts::Spec;
-pub use showing::{read_doc, run_extract, run_sections, try_extract, try_sections};
-pub use unpacking::{try_unpack, try_unpack_in, unpack};
+pub use portions::Portion;
+pub use showing::{read_doc, run_extract, run_sections, try_extract, try_extract_as, try_sections};
+pub use unpacking::{
+    Manner, Report, UnpackOptions, try_unpack, try_unpack_in, try_unpack_with, unpack,
+};

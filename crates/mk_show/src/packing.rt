@@ -1,22 +1,36 @@
 //! A message packed from fields and files, over any devices.
 
 ghost use Rattle.std.specs.Prelude.{◌≡◌, ◌≢◌, ◌⊎◌, None, true, map, IfOk, IfErr, OnOk};
-ghost use Rattle.mk_build.specs.BuildViews.{attached_of, IsBuildRefused};
-ghost use Rattle.mk_build.specs.Building.{build_refusal, built};
+ghost use Rattle.mk_build.specs.BuildViews.{attached_of};
+ghost use Rattle.mk_build.specs.MultipartViews.{IsRefusedAs};
+ghost use Rattle.mk_build.specs.Multiparts.{built_as, multipart_of, refusal_as};
 ghost use Rattle.mk_transfer.specs.RunClauses.{held, counts, reason, IsBlamed, SameFailures, ReadFailed, WriteFailed, ends_itself};
 ghost use Rattle.mk_show.specs.Shown.{LeavesShown, LeavesShownSoFar, run_of_answer};
 ghost use Rattle.mk_line.specs.Lines.{cut as lines_of};
-ghost use Rattle.mk_show.specs.Packing.{IsPacked, part_in, build_name, fields_given, fields_in_front as fields_of_front, has_body as has_a_body, index_of as index_named, pack_line};
+ghost use Rattle.mk_show.specs.Packing.{IsPacked, IsPackedAs, manner_of, multipart_with, part_in, build_name, told, fields_given, fields_in_front as fields_of_front, has_body as has_a_body, index_of as index_named, pack_line};
 
 use crate::answers::Answer;
+use crate::boundaries::own_boundary;
 use crate::showing::print;
-use mk_build::{Attach, BuildError, build, build_in_utf8};
+use mk_build::{Attach, BuildError, MIXED, Multipart, build_as, build_as_in_utf8};
 use mk_head::{each_field, header};
 use mk_line::{Ending, eol_of};
 use mk_mailbox::{Sink, Source};
 use mk_transfer::{Cause, Status, give_up, read_all, reading};
 use mk_view::NameForm;
 use std::alloc::{AllocError, Global};
+
+/// How a message is packed.
+#[derive(Clone, Copy, Debug)]
+pub struct PackOptions<'a> {
+    pub form: NameForm,
+    /// The subtype of the multipart, as `mixed`.
+    pub subtype: &'a [u8],
+    /// The charset that texts name.
+    pub charset: Option<&'a [u8]>,
+    /// The boundary between the parts. Where there is none, one is made of what is packed.
+    pub boundary: Option<&'a [u8]>,
+}
 
 /// Builds the message of the fields that the input gives and of these parts, and prints it. The fields are read without an
 /// envelope, and all made lines end as the first line of the input does.
@@ -91,11 +105,40 @@ pub fn try_pack_in<S: Source, O: Sink, E: Sink>(
         (counts (S.failures input.old) (S.read_count input.old) (O.failures out.old) (E.failures err.old))
         (counts (S.failures input.new) (S.read_count input.new) (O.failures out.new) (E.failures err.new))) }
 {
+    let options = PackOptions {
+        form,
+        subtype: MIXED,
+        charset: None,
+        boundary: Some(boundary),
+    };
+    try_pack_with(alloc, input, out, err, options, parts)
+}
+
+/// Does the same as the options say.
+pub fn try_pack_with<S: Source, O: Sink, E: Sink>(
+    alloc: Global,
+    input: &mut S,
+    out: &mut O,
+    err: &mut E,
+    options: PackOptions<'_>,
+    parts: &[Attach],
+) -> Result<Status, Cause>
+    ensures leaves { LeavesShownSoFar (IsPackedAs (manner_of options.entry) parts.now) result
+        (held (S.remaining input.old) (O.contents out.old) (E.contents err.old))
+        (held (S.remaining input.new) (O.contents out.new) (E.contents err.new)) }
+    ensures ended { IfOk result (λ status. ends_itself status ≡ true) }
+    ensures blamed { IfErr result (λ cause. IsBlamed cause
+        (counts (S.failures input.old) (S.read_count input.old) (O.failures out.old) (E.failures err.old))
+        (counts (S.failures input.new) (S.read_count input.new) (O.failures out.new) (E.failures err.new))) }
+    ensures clean { OnOk result (SameFailures
+        (counts (S.failures input.old) (S.read_count input.old) (O.failures out.old) (E.failures err.old))
+        (counts (S.failures input.new) (S.read_count input.new) (O.failures out.new) (E.failures err.new))) }
+{
     let text = match read_all(alloc, input) {
         Ok(text) => text,
         Err(stop) => return Err(reading(stop)),
     };
-    match message(alloc, &text, form, boundary, parts) {
+    match message(alloc, &text, options, parts) {
         Ok(answer) => print(out, err, &answer),
         Err(_) => Err(Cause::Memory),
     }
@@ -105,14 +148,50 @@ pub fn try_pack_in<S: Source, O: Sink, E: Sink>(
 fn message(
     alloc: Global,
     text: &[u8],
-    form: NameForm,
-    boundary: &[u8],
+    options: PackOptions<'_>,
     parts: &[Attach],
 ) -> Result<Answer, AllocError>
-    ensures { IfOk result (λ a. IsPacked boundary.now (map (part_in form) parts.now) text.now (run_of_answer a)) }
+    ensures { IfOk result (λ a. IsPackedAs (manner_of options.entry) parts.now text.now (run_of_answer a)) }
 {
     let fields = fields(alloc, text)?;
-    match build_in(alloc, form, &fields, parts, boundary, eol_of(text)) {
+    let (form, eol) = (options.form, eol_of(text));
+    match options.boundary {
+        Some(boundary) => {
+            let multipart = multipart(options, boundary);
+            answer(alloc, form, &fields, parts, &multipart, eol)
+        }
+        None => {
+            let boundary = own_boundary(alloc, &fields, parts)?;
+            let multipart = multipart(options, &boundary);
+            answer(alloc, form, &fields, parts, &multipart, eol)
+        }
+    }
+}
+
+// The multipart that the options ask for, with a boundary.
+fn multipart<'a>(options: PackOptions<'a>, boundary: &'a [u8]) -> Multipart<'a>
+    ensures { multipart_of result ≡ multipart_with (manner_of options.entry) boundary.now }
+{
+    Multipart {
+        subtype: options.subtype,
+        charset: options.charset,
+        boundary,
+    }
+}
+
+// The message of these fields and parts, or the reason against it.
+fn answer(
+    alloc: Global,
+    form: NameForm,
+    fields: &[Vec<u8>],
+    parts: &[Attach],
+    multipart: &Multipart<'_>,
+    eol: Ending,
+) -> Result<Answer, AllocError>
+    requires { eol ≢ Ending.Missing }
+    ensures { IfOk result (λ a. run_of_answer a ≡ told (built_as eol (map (λ f. f.items) fields.now) (map (part_in form) parts.now) (multipart_of multipart.now)) (refusal_as (map (λ f. f.items) fields.now) (map (part_in form) parts.now) (multipart_of multipart.now))) }
+{
+    match build_in(alloc, form, fields, parts, multipart, eol) {
         Ok(output) => Ok(Answer {
             output,
             errors: Vec::new(alloc),
@@ -131,16 +210,16 @@ fn build_in(
     form: NameForm,
     fields: &[Vec<u8>],
     parts: &[Attach],
-    boundary: &[u8],
+    multipart: &Multipart<'_>,
     eol: Ending,
 ) -> Result<Vec<u8>, BuildError>
     requires { eol ≢ Ending.Missing }
-    ensures text { IfOk result (λ text. (build_refusal (map (λ f. f.items) fields.now) (map (part_in form) parts.now) boundary.now ≡ None) × (text.items ≡ built eol (map (λ f. f.items) fields.now) (map (part_in form) parts.now) boundary.now)) }
-    ensures refused { IfErr result (λ error. IsBuildRefused (map (λ f. f.items) fields.now) (map (part_in form) parts.now) boundary.now error) }
+    ensures text { IfOk result (λ text. (refusal_as (map (λ f. f.items) fields.now) (map (part_in form) parts.now) (multipart_of multipart.now) ≡ None) × (text.items ≡ built_as eol (map (λ f. f.items) fields.now) (map (part_in form) parts.now) (multipart_of multipart.now))) }
+    ensures refused { IfErr result (λ error. IsRefusedAs (map (λ f. f.items) fields.now) (map (part_in form) parts.now) (multipart_of multipart.now) error) }
 {
     match form {
-        NameForm::Plain => build(alloc, fields, parts, boundary, eol),
-        NameForm::Utf8 => build_in_utf8(alloc, fields, parts, boundary, eol),
+        NameForm::Plain => build_as(alloc, fields, parts, multipart, eol),
+        NameForm::Utf8 => build_as_in_utf8(alloc, fields, parts, multipart, eol),
     }
 }
 
@@ -174,7 +253,7 @@ fn has_body(alloc: Global, text: &[u8]) -> Result<bool, AllocError>
 }
 
 // The line that says why no message is built.
-fn refusal(alloc: Global, reason: BuildError) -> Result<Vec<u8>, AllocError>
+pub(crate) fn refusal(alloc: Global, reason: BuildError) -> Result<Vec<u8>, AllocError>
     ensures { IfOk result (λ line. line.items ≡ pack_line reason) }
 {
     let name = name(reason);
@@ -192,6 +271,8 @@ fn name(reason: BuildError) -> &'static str
         BuildError::BadField { .. } => "BadField",
         BuildError::BadType { .. } => "BadType",
         BuildError::BadName { .. } => "BadName",
+        BuildError::BadSubtype => "BadSubtype",
+        BuildError::BadCharset => "BadCharset",
         BuildError::BadBoundary => "BadBoundary",
         BuildError::Memory => "Memory",
     }
@@ -205,6 +286,9 @@ fn index(reason: BuildError) -> Option<usize>
         BuildError::BadField { index }
         | BuildError::BadType { index }
         | BuildError::BadName { index } => Some(index),
-        BuildError::BadBoundary | BuildError::Memory => None,
+        BuildError::BadSubtype
+        | BuildError::BadCharset
+        | BuildError::BadBoundary
+        | BuildError::Memory => None,
     }
 }

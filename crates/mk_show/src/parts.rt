@@ -25,7 +25,7 @@ impl<'a> Spec<'a> {
     ghost use Rattle.std.specs.Prelude.{◌≡◌, IfOk};
     ghost use Rattle.std.specs.Option.{option_map};
     ghost use Rattle.mk_build.specs.BuildViews.{attached_of};
-    ghost use Rattle.mk_show.specs.Parts.{attached_file, spec_of, spec_view};
+    ghost use Rattle.mk_show.specs.Parts.{attached_file, inlined_file, spec_of, spec_view};
 
     /// What a word names, which is cut at its first colon. `None` where it has none.
     pub fn of(word: &'a [u8]) -> Option<Spec<'a>>
@@ -46,6 +46,21 @@ impl<'a> Spec<'a> {
             name: Some(Vec::from_slice(alloc, file_name(self.path))?),
             text,
             base64: !is_text(self.media),
+        })
+    }
+
+    /// The same, to be shown where it is a text: a text has no name then.
+    pub fn inline(&self, alloc: Global, text: Vec<u8>) -> Result<Attach, AllocError>
+        ensures { IfOk result (λ part. attached_of part ≡ inlined_file (spec_view self.now) text.items) }
+    {
+        if !is_text(self.media) {
+            return self.attach(alloc, text);
+        }
+        Ok(Attach {
+            media: Vec::from_slice(alloc, self.media)?,
+            name: None,
+            text,
+            base64: false,
         })
     }
 }

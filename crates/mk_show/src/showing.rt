@@ -4,9 +4,11 @@ ghost use Rattle.std.specs.Prelude.{◌≡◌, ◌⊎◌, true, List, ℕ, IfOk,
 ghost use Rattle.std.specs.Io.KnownBytes.{Appends, Consumes, IsAtEnd};
 ghost use Rattle.mk_mailbox.specs.Devices.{AppendsFront, Rose, IsLong};
 ghost use Rattle.mk_transfer.specs.RunClauses.{held, counts, reason, IsBlamed, SameFailures, ReadFailed, WriteFailed, ends_itself};
+ghost use Rattle.mk_show.specs.Portions.{IsTakenAs};
 ghost use Rattle.mk_show.specs.Shown.{IsListed, IsTaken, LeavesShown, LeavesShownSoFar, Writes, run_of_answer};
 
-use crate::answers::{Answer, content, sections};
+use crate::answers::{Answer, sections};
+use crate::portions::{Portion, given};
 use mk_mailbox::{Fault, Sink, Source};
 use mk_transfer::{Cause, Status, Stop, give_up, read_all, reading, write_all};
 use mk_tree::Doc;
@@ -112,11 +114,35 @@ pub fn try_extract<S: Source, O: Sink, E: Sink>(
         (counts (S.failures input.old) (S.read_count input.old) (O.failures out.old) (E.failures err.old))
         (counts (S.failures input.new) (S.read_count input.new) (O.failures out.new) (E.failures err.new))) }
 {
+    try_extract_as(alloc, input, out, err, path, Portion::Content)
+}
+
+/// Gives the portion of the section at a path of the message that the input gives, and leaves it to the caller to say why the
+/// run is given up.
+pub fn try_extract_as<S: Source, O: Sink, E: Sink>(
+    alloc: Global,
+    input: &mut S,
+    out: &mut O,
+    err: &mut E,
+    path: &[u32],
+    wanted: Portion,
+) -> Result<Status, Cause>
+    ensures leaves { LeavesShownSoFar (IsTakenAs wanted path.now) result
+        (held (S.remaining input.old) (O.contents out.old) (E.contents err.old))
+        (held (S.remaining input.new) (O.contents out.new) (E.contents err.new)) }
+    ensures ended { IfOk result (λ status. ends_itself status ≡ true) }
+    ensures blamed { IfErr result (λ cause. IsBlamed cause
+        (counts (S.failures input.old) (S.read_count input.old) (O.failures out.old) (E.failures err.old))
+        (counts (S.failures input.new) (S.read_count input.new) (O.failures out.new) (E.failures err.new))) }
+    ensures clean { OnOk result (SameFailures
+        (counts (S.failures input.old) (S.read_count input.old) (O.failures out.old) (E.failures err.old))
+        (counts (S.failures input.new) (S.read_count input.new) (O.failures out.new) (E.failures err.new))) }
+{
     let doc = match read_doc(alloc, input) {
         Ok(doc) => doc,
         Err(stop) => return Err(reading(stop)),
     };
-    match content(alloc, &doc, path) {
+    match given(alloc, &doc, path, wanted) {
         Ok(answer) => print(out, err, &answer),
         Err(_) => Err(Cause::Memory),
     }

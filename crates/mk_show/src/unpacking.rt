@@ -5,30 +5,53 @@ ghost use Rattle.mk_tree.specs.Documents.{Document};
 ghost use Rattle.mk_mailbox.specs.Devices.{Rose};
 ghost use Rattle.mk_view.specs.GivenNames.{AreSafe, is_safe};
 ghost use Rattle.mk_view.specs.LeafViews.{AreAt, IsAt, leaf_view};
-ghost use Rattle.mk_transfer.specs.RunClauses.{held, counts, reason_with, IsBlamedWith, Sends, SameFailures, ReadFailed, WriteFailed, ends_itself};
-ghost use Rattle.mk_show.specs.Shown.{extract_line};
-ghost use Rattle.mk_show.specs.Unpacking.{exists_line as line_of_exists, stored_line as line_of_stored, tried as name_tried};
-ghost use Rattle.mk_show.specs.UnpackClauses.{LeavesUnpacked, LeavesUnpackedSoFar, NoneFailed, PutsFront, PutsNone, PutsText, SomeFailed, UnpackedAll, UnpackedSome, failures, manner_of, written};
+ghost use Rattle.mk_transfer.specs.RunClauses.{held, counts, reason_with, IsBlamedWith, SameFailures, ReadFailed, WriteFailed, ends_itself};
+ghost use Rattle.mk_show.specs.Unpacking.{tried as name_tried};
+ghost use Rattle.mk_show.specs.Chosen.{asked_of};
+ghost use Rattle.mk_show.specs.UnpackClauses.{LeavesAskedSoFar, LeavesUnpacked, LeavesUnpackedSoFar, NoneFailed, PutsFront, PutsNone, PutsText, SomeFailed, UnpackedAll, UnpackedAllAfter, UnpackedSome, UnpackedSomeAfter, failures, manner_of, written};
 
-use crate::answers::refusal;
+use crate::choosing::{asked_leaves, missing_lines};
 use crate::folder::Folder;
+use crate::saying::{report_exists, report_undecoded, say_stored};
 use crate::showing::read_doc;
 use mk_mailbox::{Fault, Sink, Source};
 use mk_transfer::{Cause, Status, Stop, give_up, reading, send, writing};
-use mk_tree::Section;
-use mk_view::{ExtractError, Leaf, NameForm, content, leaves_in, numbered, push_type};
+use mk_view::{ExtractError, Leaf, NameForm, content, numbered};
 use std::alloc::{AllocError, Global};
 
 /// How many names are tried for a leaf: its own, and that with the numbers from 1 on after it.
 const MOST_TRIES: u64 = 100;
+
+/// What is said of the files that are put.
+#[derive(Clone, Copy, Debug, PartialEq, Eq)]
+pub enum Report {
+    /// Nothing.
+    Nothing,
+    /// The name and the type of each.
+    Names,
+    /// The path of its section, and these.
+    Paths,
+}
 
 /// How files are put.
 #[derive(Clone, Copy, Debug)]
 pub struct Manner {
     /// Files that have a name are written over.
     pub over: bool,
-    /// Nothing is said of the files that are put.
-    pub silent: bool,
+    pub report: Report,
+}
+
+/// What is unpacked, and how.
+#[derive(Clone, Copy, Debug)]
+pub struct UnpackOptions<'a> {
+    pub manner: Manner,
+    /// The form of the names.
+    pub form: NameForm,
+    /// Texts without a name are stored too.
+    pub texts: bool,
+    /// The paths of the sections whose leaves alone are stored, with those below them; `None` is all leaves. Their names are
+    /// those that they get among all leaves.
+    pub sections: Option<&'a [Vec<u32>]>,
 }
 
 /// Unpacks the message that the input gives: the content of each leaf is put into the folder under its name, and the name
@@ -130,19 +153,91 @@ pub fn try_unpack_in<S: Source, O: Sink, E: Sink, F: Folder>(
         (counts (S.failures input.new) (S.read_count input.new) (O.failures out.new) (E.failures err.new))) }
     ensures folder_clean { OnOk result (F.failures dir.new ≡ F.failures dir.old) }
 {
+    let report = if silent {
+        Report::Nothing
+    } else {
+        Report::Names
+    };
+    let manner = Manner { over, report };
+    let options = UnpackOptions {
+        manner,
+        form,
+        texts,
+        sections: None,
+    };
+    try_unpack_with(alloc, input, out, err, dir, options)
+}
+
+/// Does the same, as the options say. Each path that leads to no section is reported first, in the order given.
+pub fn try_unpack_with<S: Source, O: Sink, E: Sink, F: Folder>(
+    alloc: Global,
+    input: &mut S,
+    out: &mut O,
+    err: &mut E,
+    dir: &mut F,
+    options: UnpackOptions<'_>,
+) -> Result<Status, Cause>
+    ensures leaves { LeavesAskedSoFar (asked_of options.entry) result
+        (held (S.remaining input.old) (O.contents out.old) (E.contents err.old))
+        (held (S.remaining input.new) (O.contents out.new) (E.contents err.new))
+        (F.files dir.old) (F.files dir.new) }
+    ensures ended { IfOk result (λ status. ends_itself status ≡ true) }
+    ensures blamed { IfErr result (λ cause. IsBlamedWith cause
+        (counts (S.failures input.old) (S.read_count input.old) (O.failures out.old) (E.failures err.old))
+        (counts (S.failures input.new) (S.read_count input.new) (O.failures out.new) (E.failures err.new))
+        (F.failures dir.old) (F.failures dir.new)) }
+    ensures clean { OnOk result (SameFailures
+        (counts (S.failures input.old) (S.read_count input.old) (O.failures out.old) (E.failures err.old))
+        (counts (S.failures input.new) (S.read_count input.new) (O.failures out.new) (E.failures err.new))) }
+    ensures folder_clean { OnOk result (F.failures dir.new ≡ F.failures dir.old) }
+{
     let doc = match read_doc(alloc, input) {
         Ok(doc) => doc,
         Err(stop) => return Err(reading(stop)),
     };
-    let stored = match leaves_in(alloc, &doc, form, texts) {
-        Ok(stored) => stored,
-        Err(_) => return Err(Cause::Memory),
+    let Ok(leaves) = asked_leaves(alloc, &doc, options) else {
+        return Err(Cause::Memory);
     };
-    match unpack_all(alloc, Manner { over, silent }, stored, out, err, dir) {
+    let Ok(missing) = missing_lines(alloc, &doc, options.sections) else {
+        return Err(Cause::Memory);
+    };
+    match unpack_after(alloc, &missing, options.manner, leaves, out, err, dir) {
         Ok(true) => Ok(Status::Refused),
         Ok(false) => Ok(Status::Well),
         Err(stop) => Err(writing(stop)),
     }
+}
+
+// Reports lines, and unpacks leaves. Answers whether anything was reported.
+fn unpack_after<O: Sink, E: Sink, F: Folder>(
+    alloc: Global,
+    lines: &[u8],
+    manner: Manner,
+    leaves: Vec<Leaf<'_>>,
+    out: &mut O,
+    err: &mut E,
+    dir: &mut F,
+) -> Result<bool, Stop>
+    requires { AreSafe (map leaf_view leaves.items) }
+    ensures all { IfOk result (λ refused. (t : Document) → AreAt t leaves.entry.items → UnpackedAllAfter lines.now manner t (map leaf_view leaves.entry.items) refused
+        (written (O.contents out.old) (E.contents err.old) (F.files dir.old))
+        (written (O.contents out.new) (E.contents err.new) (F.files dir.new))) }
+    ensures some { OnErr result ((t : Document) → AreAt t leaves.entry.items → UnpackedSomeAfter lines.now manner t (map leaf_view leaves.entry.items)
+        (written (O.contents out.old) (E.contents err.old) (F.files dir.old))
+        (written (O.contents out.new) (E.contents err.new) (F.files dir.new))) }
+    ensures failed { IfErr result (λ stop. stop ≡ Stop.Fault → SomeFailed
+        (failures (O.failures out.old) (E.failures err.old) (F.failures dir.old))
+        (failures (O.failures out.new) (E.failures err.new) (F.failures dir.new))) }
+    ensures memory { IfErr result (λ stop. stop ≡ Stop.Memory → NoneFailed
+        (failures (O.failures out.old) (E.failures err.old) (F.failures dir.old))
+        (failures (O.failures out.new) (E.failures err.new) (F.failures dir.new))) }
+    ensures well { OnOk result (NoneFailed
+        (failures (O.failures out.old) (E.failures err.old) (F.failures dir.old))
+        (failures (O.failures out.new) (E.failures err.new) (F.failures dir.new))) }
+{
+    send(err, lines)?;
+    let refused = unpack_all(alloc, manner, leaves, out, err, dir)?;
+    Ok(!lines.is_empty() || refused)
 }
 
 // Unpacks the leaves of a document in turn. Answers whether one was reported.
@@ -214,7 +309,7 @@ fn unpack_leaf<O: Sink, E: Sink, F: Folder>(
     };
     match put_free(alloc, dir, &leaf.name, &text, manner.over)? {
         Some(target) => {
-            say_stored(alloc, out, &leaf.section, &target, manner.silent)?;
+            say_stored(alloc, out, manner.report, leaf, &target)?;
             Ok(false)
         }
         None => {
@@ -261,71 +356,5 @@ fn tried(alloc: Global, name: &[u8], number: u64) -> Result<Vec<u8>, AllocError>
         Vec::from_slice(alloc, name)
     } else {
         numbered(alloc, name, number)
-    }
-}
-
-// Says under which name a section was put, unless nothing is to be said.
-fn say_stored<O: Sink>(
-    alloc: Global,
-    out: &mut O,
-    section: &Section<'_>,
-    target: &[u8],
-    silent: bool,
-) -> Result<(), Stop>
-    ensures { Sends result (if silent then [] else line_of_stored (Some section.now) target.now)
-        (O.contents out.old) (O.contents out.new) (O.failures out.old) (O.failures out.new) }
-{
-    if silent {
-        return Ok(());
-    }
-    match stored_line(alloc, section, target) {
-        Ok(line) => send(out, &line),
-        Err(_) => Err(Stop::Memory),
-    }
-}
-
-// The line that says under which name a section was put.
-fn stored_line(alloc: Global, section: &Section<'_>, target: &[u8]) -> Result<Vec<u8>, AllocError>
-    ensures { IfOk result (λ line. line.items ≡ line_of_stored (Some section.now) target.now) }
-{
-    let mut line = Vec::from_slice(alloc, target)?;
-    line.extend_from_slice(b" (")?;
-    push_type(alloc, &mut line, section)?;
-    line.extend_from_slice(b")\n")?;
-    Ok(line)
-}
-
-// Reports that all names of a leaf are taken.
-fn report_exists<E: Sink>(alloc: Global, err: &mut E, name: &[u8]) -> Result<(), Stop>
-    ensures { Sends result (line_of_exists name.now)
-        (E.contents err.old) (E.contents err.new) (E.failures err.old) (E.failures err.new) }
-{
-    match exists_line(alloc, name) {
-        Ok(line) => send(err, &line),
-        Err(_) => Err(Stop::Memory),
-    }
-}
-
-fn exists_line(alloc: Global, name: &[u8]) -> Result<Vec<u8>, AllocError>
-    ensures { IfOk result (λ line. line.items ≡ line_of_exists name.now) }
-{
-    let mut line = Vec::from_slice(alloc, name)?;
-    line.extend_from_slice(b": exists\n")?;
-    Ok(line)
-}
-
-// Reports why the section at a path isn't decoded.
-fn report_undecoded<E: Sink>(
-    alloc: Global,
-    err: &mut E,
-    path: &[u32],
-    reason: ExtractError,
-) -> Result<(), Stop>
-    ensures { Sends result (extract_line path.now reason)
-        (E.contents err.old) (E.contents err.new) (E.failures err.old) (E.failures err.new) }
-{
-    match refusal(alloc, path, reason) {
-        Ok(line) => send(err, &line),
-        Err(_) => Err(Stop::Memory),
     }
 }

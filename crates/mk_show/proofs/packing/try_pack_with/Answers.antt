@@ -1,19 +1,19 @@
-use Rattle.std.proofs.Common.{map, refl, subst}
-use Rattle.mk_show.specs.Packing.{IsPacked, part_in}
+use Rattle.std.proofs.Common.{refl, subst}
+use Rattle.mk_show.specs.Packing.{IsPackedAs, manner_of}
 use Rattle.mk_show.specs.Shown.{run_of_answer}
 use Rattle.mk_transfer.specs.RunClauses.{counts}
 use Rattle.mk_transfer.proofs.Blames.{reading_blamed, writing_blamed}
 use Rattle.mk_show.proofs.ShownLemmas.{ShowsSoFar-written}
-use Rattle.mk_show.proofs.packing.try_pack_in.Goals as goal
+use Rattle.mk_show.proofs.packing.try_pack_with.Goals as goal
 
 pub returns-in-Ok-message-clause-leaves : goal.returns-in-Ok-message-clause-leaves
 returns-in-Ok-message-clause-leaves g c =
-    let parts = map (part_in c.args.form) c.args.parts.now in
+    let packed = IsPackedAs (manner_of c.args.options) c.args.parts.now in
     let run = run_of_answer c.in-Ok-message.answer in
-    let is = subst (λ text. IsPacked c.args.boundary.now parts text run) c.deref.ensures.value c.in-Ok-message.ensures in (
+    let is = subst (λ text. packed text run) c.deref.ensures.value c.in-Ok-message.ensures in (
       c.in-Ok.text.items,
       c.in-Ok.ensures.all,
-      ShowsSoFar-written (IsPacked c.args.boundary.now parts c.in-Ok.text.items) run c.print.result _ _ _ _ _ _ is c.in-Ok.ensures.ended c.print.ensures.written c.print.ensures.only,
+      ShowsSoFar-written (packed c.in-Ok.text.items) run c.print.result _ _ _ _ _ _ is c.in-Ok.ensures.ended c.print.ensures.written c.print.ensures.only,
     )
 
 pub returns-in-Err-clause-blamed : goal.returns-in-Err-clause-blamed

@@ -1,16 +1,17 @@
 use Rattle.std.proofs.Common.{inl, refl}
 use Rattle.std.proofs.KnownBytes.{Keeps-refl}
-use Rattle.mk_show.specs.Shown.{IsTaken, run_of_answer}
+use Rattle.mk_show.specs.Portions.{IsTakenAs}
+use Rattle.mk_show.specs.Shown.{run_of_answer}
 use Rattle.mk_transfer.specs.RunClauses.{counts}
 use Rattle.mk_transfer.proofs.Blames.{reading_blamed, writing_blamed}
 use Rattle.mk_show.proofs.ShownLemmas.{ShowsSoFar-written}
-use Rattle.mk_show.proofs.showing.try_extract.Goals as goal
+use Rattle.mk_show.proofs.showing.try_extract_as.Goals as goal
 
-pub returns-in-Ok-content-clause-leaves : goal.returns-in-Ok-content-clause-leaves
-returns-in-Ok-content-clause-leaves g c = (
+pub returns-in-Ok-given-clause-leaves : goal.returns-in-Ok-given-clause-leaves
+returns-in-Ok-given-clause-leaves g c = (
   c.in-Ok.doc,
   c.in-Ok.ensures.all,
-  ShowsSoFar-written (IsTaken c.args.path.now c.in-Ok.doc) (run_of_answer c.in-Ok-content.answer) c.print.result _ _ _ _ _ _ c.in-Ok-content.ensures c.in-Ok.ensures.ended c.print.ensures.written c.print.ensures.only,
+  ShowsSoFar-written (IsTakenAs c.args.wanted c.args.path.now c.in-Ok.doc) (run_of_answer c.in-Ok-given.answer) c.print.result _ _ _ _ _ _ c.in-Ok-given.ensures c.in-Ok.ensures.ended c.print.ensures.written c.print.ensures.only,
 )
 
 pub returns-in-Err-clause-blamed : goal.returns-in-Err-clause-blamed
@@ -20,8 +21,8 @@ returns-in-Err-clause-blamed g c =
     (counts (g.S.Source.failures c.read_doc.new.input) (g.S.Source.read_count c.read_doc.new.input) (g.O.Sink.failures c.args.out.now) (g.E.Sink.failures c.args.err.now))
     c.reading.ensures c.in-Err.ensures.fault c.in-Err.ensures.memory refl refl
 
-pub returns-in-Ok-content-clause-blamed : goal.returns-in-Ok-content-clause-blamed
-returns-in-Ok-content-clause-blamed g c =
+pub returns-in-Ok-given-clause-blamed : goal.returns-in-Ok-given-clause-blamed
+returns-in-Ok-given-clause-blamed g c =
     writing_blamed c.print.result
     (counts (g.S.Source.failures c.args.input.now) (g.S.Source.read_count c.args.input.now) (g.O.Sink.failures c.args.out.now) (g.E.Sink.failures c.args.err.now))
     (counts (g.S.Source.failures c.read_doc.new.input) (g.S.Source.read_count c.read_doc.new.input) (g.O.Sink.failures c.print.new.out) (g.E.Sink.failures c.print.new.err))

@@ -1,0 +1,60 @@
+-- Which leaves are unpacked: all that are stored, or those at and below the sections at some paths (own).
+use Rattle.std.specs.Prelude.{◌≡◌, if◌then◌else◌, ℕ, Bool, nat_eq, is_none, List, [], Option, None, Some, map}
+use Rattle.std.specs.List.{filter, flat_map, list_any, starts_with}
+use Rattle.std.specs.Option.{option_map}
+use Rattle.std.specs.Global.{Vec}
+use Rattle.mk_tree.specs.Documents.{Document}
+use Rattle.mk_tree.specs.Sections.{section_at}
+use Rattle.mk_view.specs.declared.extracting.ExtractError.TheVariants.{NoSuchSection}
+use Rattle.mk_view.specs.declared.text_names.NameForm.{NameForm}
+use Rattle.mk_view.specs.FileNames.{Named}
+use Rattle.mk_show.specs.declared.unpacking.Manner.{Manner}
+use Rattle.mk_show.specs.declared.unpacking.UnpackOptions.{UnpackOptions}
+use Rattle.mk_show.specs.Shown.{extract_line}
+use Rattle.mk_show.specs.Unpacking.{AreLeaves}
+
+-- what is asked of a run: how files are put, in which form they are named, whether texts without a name are stored, and the paths of
+-- the sections whose leaves are stored, where not all leaves are
+pub record Asked : Type 0 where
+  pub manner : Manner
+  pub form : NameForm
+  pub texts : Bool
+  pub sections : Option (List (List ℕ))
+
+-- a path is that of a section, or leads to one below it
+abbrev pub is_below : List ℕ → List ℕ → Bool
+is_below path section = starts_with nat_eq path section
+
+-- one of the sections is at a path, or above it
+abbrev pub is_within : List (List ℕ) → List ℕ → Bool
+is_within sections path = list_any (is_below path) sections
+
+-- the leaves at and below the sections at some paths, in their order and under their names
+abbrev pub within : List (List ℕ) → List Named → List Named
+within sections leaves = filter (λ leaf. is_within sections leaf.0) leaves
+
+-- the leaves of a document that are asked for
+abbrev pub AreWithin : Option (List (List ℕ)) → NameForm → Bool → Document → List Named → Type 0
+AreWithin None form texts t leaves = AreLeaves form texts t leaves
+AreWithin (Some sections) form texts t leaves = (all : List Named) × AreLeaves form texts t all × (leaves ≡ within sections all)
+
+-- the same for all that is asked
+abbrev pub AreAsked : Asked → Document → List Named → Type 0
+AreAsked asked t leaves = AreWithin asked.sections asked.form asked.texts t leaves
+
+-- the line that reports a path that leads to no section; nothing for one that leads to a section
+abbrev pub missing_line : Document → List ℕ → List ℕ
+missing_line t path = if is_none (section_at path t) then extract_line path NoSuchSection else []
+
+-- those lines for the paths of the sections that are asked for, in their order
+abbrev pub missing_lines : Document → Option (List (List ℕ)) → List ℕ
+missing_lines t None = []
+missing_lines t (Some sections) = flat_map (missing_line t) sections
+
+-- paths in memory as their numbers
+abbrev pub paths_of : List (Vec ℕ) → List (List ℕ)
+paths_of paths = map (λ path. path.items) paths
+
+-- what the options ask for
+abbrev pub asked_of : UnpackOptions → Asked
+asked_of o = record { manner = o.manner; form = o.form; texts = o.texts; sections = option_map (λ paths. paths_of paths.now) o.sections }
