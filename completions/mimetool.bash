@@ -3,14 +3,15 @@
 _mimetool_options() {
     local options=''
     case $1 in
-        edit) options='--from --in-place -j --all -e -h --help' ;;
+        edit) options='--from --in-place -n --rfc4155 -j --all --eol --explain -e -h --help' ;;
         undo) options='--from --in-place -j -h --help' ;;
         redo) options='--from --in-place -j -h --help' ;;
-        sections) options='--from --json --utf8 -h --help' ;;
-        extract) options='--from -s -h --help' ;;
-        unpack) options='--from -f -t --silent --utf8 -C -h --help' ;;
-        pack) options='-b --utf8 -h --help' ;;
-        field) options='--from --in-place --rename -a -A -i -I -u -U -x -X --unfold --decode --encode --refused-ok -s -h --help' ;;
+        sections) options='--from -n --rfc4155 --json --utf8 -h --help' ;;
+        extract) options='--from -n --rfc4155 -s --raw --head --prefix -h --help' ;;
+        unpack) options='--from -n --rfc4155 -f -t -s --silent --paths --utf8 -C -h --help' ;;
+        pack) options='-b -m --inline --charset --part --utf8 -h --help' ;;
+        field) options='--from --in-place --drop --rename -a -A -i -I -u -U -x -X --unfold --decode --encode --refused-ok -s --rfc4155 -h --help' ;;
+        messages) options='--from --rfc4155 -h --help' ;;
         help) options='' ;;
         '') options='-h --help -V --version' ;;
     esac
@@ -19,7 +20,7 @@ _mimetool_options() {
 
 _mimetool() {
     local cur=${COMP_WORDS[COMP_CWORD]} prev=${COMP_WORDS[COMP_CWORD - 1]} command='' word
-    local commands='edit undo redo sections extract unpack pack field help'
+    local commands='edit undo redo sections extract unpack pack field messages help'
     COMPREPLY=()
     for word in "${COMP_WORDS[@]:1:COMP_CWORD-1}"; do
         case $word in
@@ -35,7 +36,7 @@ _mimetool() {
         unpack:-C)
             mapfile -t COMPREPLY < <(compgen -d -- "$cur")
             return ;;
-        edit:-e | extract:-s | pack:-b | field:--rename | field:-[aAiIuUxX])
+        edit:-e | *:-n | extract:-s | unpack:-s | pack:-b | pack:-m | pack:--charset | field:--drop | field:--rename | field:-[aAiIuUxX])
             return ;;
     esac
     if [[ $cur == -* ]]; then

@@ -1,38 +1,30 @@
 //! The subcommands, over any devices.
 
-ghost use Rattle.std.specs.Prelude.{◌≡◌, ◌≢◌, true, IfOk, IfSome};
-ghost use Rattle.mk_mail.specs.LetterViews.{letters_of};
-ghost use Rattle.mk_mail.specs.Letters.{are_allowed};
-
+use crate::editing::{edit, redo, undo};
 use crate::faults::{Problem, usage};
-use crate::files::{attachments, read, read_all};
 use crate::letters::letter_words;
+use crate::mailboxes::{Picked, from_lines, messages, pick_message};
+use crate::packing::pack;
 use clap::ArgMatches;
-use mk_line::Ending;
-use mk_mail::{Letters, NameForm, Sink, Source};
+use mk_mail::{NameForm, Sink, Source};
+use mk_messages::InMemory;
 use mk_run::{
-    Cause, FieldFilter, Journal, Script, Status, Stop, ValueForm, read_doc, try_edit, try_extract,
-    try_field, try_pack_in, try_sections, try_unpack_in, write_all,
+    Cause, FieldFilter, Manner, Portion, Report, Status, Stop, UnpackOptions, ValueForm,
+    letters_of_rounds, read_doc, rounds, rounds_of_words, try_extract_as, try_field, try_sections,
+    try_unpack_with, write_all,
 };
 use mk_script::numbers;
-use mk_system::{Directory, JournalFile, Output};
+use mk_system::Directory;
 use mk_words::options::{
-    ALL, BOUNDARY, DECODE, DIR, EACH, EDIT, ENCODE, EXTRACT, FIELD, JOURNAL, JSON, LINE, OVER,
-    PACK, PATH, PIECE, REDO, REFUSED_OK, SCRIPT, SECTIONS, SILENT, SPEC, TEXTS, UNDO, UNFOLD,
-    UNPACK, UTF8,
+    DECODE, DIR, EACH, EDIT, ENCODE, EXTRACT, FIELD, HEAD, JSON, MESSAGES, OVER, PACK, PATH, PATHS,
+    PREFIX, RAW, REDO, REFUSED_OK, SECTIONS, SILENT, TEXTS, UNDO, UNFOLD, UNPACK, UTF8,
 };
 use std::alloc::{AllocError, Global};
 use std::fs::File;
-use std::io;
 use std::rt::Files;
 
 /// The folder that files are written to where none is named.
 const WORKING_FOLDER: &str = ".";
-
-/// The scripts of two subcommands.
-const UNDO_SCRIPT: &[u8] = b"undo\n";
-
-const REDO_SCRIPT: &[u8] = b"redo\n";
 
 /// Runs a subcommand, the words of which are valid.
 pub fn run_command<R: Files<File = File> + AllocGlobal, S: Source, O: Sink, E: Sink>(
@@ -46,111 +38,43 @@ pub fn run_command<R: Files<File = File> + AllocGlobal, S: Source, O: Sink, E: S
     if name == EDIT {
         edit(rt, matches, input, out, err)
     } else if name == UNDO {
-        edit_by(rt, matches, input, out, err, alone(UNDO_SCRIPT), &[])
+        undo(rt, matches, input, out, err)
     } else if name == REDO {
-        edit_by(rt, matches, input, out, err, alone(REDO_SCRIPT), &[])
-    } else if name == EXTRACT {
-        extract(rt, matches, input, out, err)
-    } else if name == UNPACK {
-        unpack(rt, matches, input, out, err)
+        redo(rt, matches, input, out, err)
     } else if name == PACK {
         pack(rt, matches, input, out, err)
     } else if name == FIELD {
         field(rt, matches, input, out, err)
+    } else if name == MESSAGES {
+        messages(rt.alloc(), matches, input, out)
+    } else {
+        match pick_message(rt.alloc(), matches, input, err)? {
+            Picked::Whole => show(rt, name, matches, input, out, err),
+            Picked::Message(message) => {
+                show(rt, name, matches, &mut InMemory::new(&message), out, err)
+            }
+            Picked::Missing => Ok(Status::Refused),
+        }
+    }
+}
+
+// Runs a subcommand that shows one message.
+fn show<R: Files<File = File> + AllocGlobal, S: Source, O: Sink, E: Sink>(
+    rt: &R,
+    name: &str,
+    matches: &ArgMatches<'_>,
+    input: &mut S,
+    out: &mut O,
+    err: &mut E,
+) -> Result<Status, Problem> {
+    if name == EXTRACT {
+        extract(rt, matches, input, out, err)
+    } else if name == UNPACK {
+        unpack(rt, matches, input, out, err)
     } else if name == SECTIONS {
         sections(rt, matches, input, out, err)
     } else {
         Ok(usage(err))
-    }
-}
-
-// mimetool edit
-fn edit<R: Files<File = File> + AllocGlobal, S: Source, O: Sink, E: Sink>(
-    rt: &R,
-    matches: &ArgMatches<'_>,
-    input: &mut S,
-    out: &mut O,
-    err: &mut E,
-) -> Result<Status, Problem> {
-    let alloc = rt.alloc();
-    let paths = matches.get_strs(PIECE).unwrap_or(&[]);
-    let as_one = matches.get_flag(ALL);
-    if let Some(lines) = matches.get_strs(LINE) {
-        // Each word that is no line is a piece; the first of them stands where the script would.
-        let script = joined(alloc, lines)?;
-        let mut pieces = Vec::new(alloc);
-        if let Some(path) = matches.get_str(SCRIPT) {
-            pieces.push(read(rt, path)?)?;
-        }
-        for path in paths {
-            pieces.push(read(rt, *path)?)?;
-        }
-        let script = Script {
-            text: &script,
-            as_one,
-        };
-        return edit_by(rt, matches, input, out, err, script, &pieces);
-    }
-    let Some(path) = matches.get_str(SCRIPT) else {
-        return Ok(usage(err));
-    };
-    let script = read(rt, path)?;
-    let pieces = read_all(rt, paths)?;
-    let script = Script {
-        text: &script,
-        as_one,
-    };
-    edit_by(rt, matches, input, out, err, script, &pieces)
-}
-
-// A script that is done line by line.
-fn alone(text: &[u8]) -> Script<'_> {
-    Script {
-        text,
-        as_one: false,
-    }
-}
-
-// The lines of a script, each ended.
-fn joined(alloc: Global, lines: &[&str]) -> Result<Vec<u8>, AllocError> {
-    let mut script = Vec::new(alloc);
-    for line in lines {
-        script.extend_from_slice(line.as_bytes())?;
-        script.push(b'\n')?;
-    }
-    Ok(script)
-}
-
-// Edits by a script, with the journal that the command line names, if it names one. The journal is read last.
-fn edit_by<R: Files<File = File> + AllocGlobal, S: Source, O: Sink, E: Sink>(
-    rt: &R,
-    matches: &ArgMatches<'_>,
-    input: &mut S,
-    out: &mut O,
-    err: &mut E,
-    script: Script<'_>,
-    pieces: &[Vec<u8>],
-) -> Result<Status, Problem> {
-    let alloc = rt.alloc();
-    let Some(path) = matches.get_str(JOURNAL) else {
-        let mut none = Output::new(io::sink());
-        let journal = Journal::Off;
-        let done = try_edit(alloc, input, out, err, script, pieces, journal, &mut none);
-        return Ok(done?);
-    };
-    let (mut jout, old) = match JournalFile::open(rt, path) {
-        Ok(opened) => opened,
-        Err(error) => return Err(Problem::file(alloc, path, error, Cause::Read)),
-    };
-    let journal = match &old {
-        Some(text) => Journal::Old(text),
-        None => Journal::New,
-    };
-    let done = try_edit(alloc, input, out, err, script, pieces, journal, &mut jout);
-    let unwritten = jout.close();
-    match done {
-        Ok(status) => Ok(status),
-        Err(cause) => Err(Problem::from(cause).blamed(alloc, Cause::Write, path, unwritten)),
     }
 }
 
@@ -190,8 +114,21 @@ fn extract<R: AllocGlobal, S: Source, O: Sink, E: Sink>(
     let alloc = rt.alloc();
     let word = matches.get_str(PATH).unwrap_or("");
     match numbers(alloc, word.as_bytes())? {
-        Some(path) => Ok(try_extract(alloc, input, out, err, &path)?),
+        Some(path) => Ok(try_extract_as(alloc, input, out, err, &path, portion(matches))?),
         None => Ok(usage(err)),
+    }
+}
+
+// What `extract` gives of the section.
+fn portion(matches: &ArgMatches<'_>) -> Portion {
+    if matches.get_flag(RAW) {
+        Portion::Raw
+    } else if matches.get_flag(HEAD) {
+        Portion::Head
+    } else if matches.get_flag(PREFIX) {
+        Portion::Prefix
+    } else {
+        Portion::Content
     }
 }
 
@@ -205,12 +142,21 @@ fn unpack<R: Files<File = File> + AllocGlobal, S: Source, O: Sink, E: Sink>(
 ) -> Result<Status, Problem> {
     let alloc = rt.alloc();
     let path = matches.get_str(DIR).unwrap_or(WORKING_FOLDER);
-    let form = name_form(matches);
-    let texts = matches.get_flag(TEXTS);
-    let over = matches.get_flag(OVER);
-    let silent = matches.get_flag(SILENT);
+    let Some(sections) = paths(alloc, matches.get_strs(PATH).unwrap_or(&[]))? else {
+        return Ok(usage(err));
+    };
+    let manner = Manner {
+        over: matches.get_flag(OVER),
+        report: report(matches),
+    };
+    let options = UnpackOptions {
+        manner,
+        form: name_form(matches),
+        texts: matches.get_flag(TEXTS),
+        sections: (!sections.is_empty()).then_some(sections.as_slice()),
+    };
     let mut dir = Directory::new(rt, path);
-    let done = try_unpack_in(alloc, input, out, err, &mut dir, form, texts, over, silent);
+    let done = try_unpack_with(alloc, input, out, err, &mut dir, options);
     let unwritten = dir.close();
     match (done, unwritten) {
         (Ok(status), _) => Ok(status),
@@ -225,31 +171,36 @@ fn unpack<R: Files<File = File> + AllocGlobal, S: Source, O: Sink, E: Sink>(
     }
 }
 
-// The form in which files are named.
-fn name_form(matches: &ArgMatches<'_>) -> NameForm {
+// What `unpack` says of the files that it writes.
+fn report(matches: &ArgMatches<'_>) -> Report {
+    if matches.get_flag(SILENT) {
+        Report::Nothing
+    } else if matches.get_flag(PATHS) {
+        Report::Paths
+    } else {
+        Report::Names
+    }
+}
+
+// The paths that words write, where each writes one.
+fn paths(alloc: Global, words: &[&str]) -> Result<Option<Vec<Vec<u32>>>, AllocError> {
+    let mut paths = Vec::new(alloc);
+    for word in words {
+        match numbers(alloc, word.as_bytes())? {
+            Some(path) => paths.push(path)?,
+            None => return Ok(None),
+        }
+    }
+    Ok(Some(paths))
+}
+
+/// The form in which files are named.
+pub fn name_form(matches: &ArgMatches<'_>) -> NameForm {
     if matches.get_flag(UTF8) {
         NameForm::Utf8
     } else {
         NameForm::Plain
     }
-}
-
-// mimetool pack
-fn pack<R: Files + AllocGlobal, S: Source, O: Sink, E: Sink>(
-    rt: &R,
-    matches: &ArgMatches<'_>,
-    input: &mut S,
-    out: &mut O,
-    err: &mut E,
-) -> Result<Status, Problem> {
-    let alloc = rt.alloc();
-    let Some(boundary) = matches.get_str(BOUNDARY) else {
-        return Ok(usage(err));
-    };
-    let parts = attachments(rt, matches.get_strs(SPEC).unwrap_or(&[]))?;
-    let boundary = boundary.as_bytes();
-    let form = name_form(matches);
-    Ok(try_pack_in(alloc, input, out, err, form, boundary, &parts)?)
 }
 
 // mimetool field
@@ -261,17 +212,19 @@ fn field<R: AllocGlobal, S: Source, O: Sink, E: Sink>(
     err: &mut E,
 ) -> Result<Status, Problem> {
     let alloc = rt.alloc();
-    let Some(lf) = letters_for(alloc, matches, Ending::Lf)? else {
+    let words = rounds_of_words(alloc, &letter_words(alloc, matches)?)?;
+    let Some(letters) = letters_of_rounds(alloc, &words, matches.get_flag(ENCODE))? else {
         return Ok(usage(err));
     };
-    let Some(crlf) = letters_for(alloc, matches, Ending::Crlf)? else {
-        return Ok(usage(err));
-    };
+    let rounds = rounds(alloc, &letters)?;
     let filter = FieldFilter {
-        lf: &lf,
-        crlf: &crlf,
+        rounds: &rounds,
         form: value_form(matches),
+        from_lines: from_lines(matches),
     };
+    if !filter.ok() {
+        return Ok(usage(err));
+    }
     let each = matches.get_flag(EACH);
     match try_field(alloc, input, out, err, &filter, each)? {
         Status::Refused if matches.get_flag(REFUSED_OK) => Ok(Status::Well),
@@ -287,26 +240,5 @@ fn value_form(matches: &ArgMatches<'_>) -> ValueForm {
         ValueForm::Unfolded
     } else {
         ValueForm::AsWritten
-    }
-}
-
-// What the letters ask for, for messages whose lines end with `eol`, where they may be asked for.
-fn letters_for(
-    alloc: Global,
-    matches: &ArgMatches<'_>,
-    eol: Ending,
-) -> Result<Option<Letters>, AllocError>
-    requires { eol ≢ Ending.Missing }
-    ensures allowed { IfOk result (λ letters. IfSome letters (λ l. are_allowed (letters_of l) ≡ true)) }
-{
-    let words = letter_words(matches);
-    let letters = if matches.get_flag(ENCODE) {
-        words.letters_in_words(alloc, eol)?
-    } else {
-        words.letters(alloc)?
-    };
-    match letters {
-        Some(letters) if letters.ok() => Ok(Some(letters)),
-        _ => Ok(None),
     }
 }

@@ -41,14 +41,22 @@ pub fn read_all<R: Files + AllocGlobal>(rt: &R, paths: &[&str]) -> Result<Vec<Ve
     Ok(texts)
 }
 
-/// Reads the files of parts, in their order. Each word is a part, as TYPE:FILE.
-pub fn attachments<R: Files + AllocGlobal>(rt: &R, words: &[&str]) -> Result<Vec<Attach>, Problem> {
+/// Reads the files of parts, in their order. Each word is a part, as TYPE:FILE. Texts have no name where they are inline.
+pub fn attachments<R: Files + AllocGlobal>(
+    rt: &R,
+    words: &[&str],
+    inline: bool,
+) -> Result<Vec<Attach>, Problem> {
     let mut parts = Vec::new(rt.alloc());
     for word in words {
         if let Some(spec) = Spec::of(word.as_bytes()) {
             let path = path_in(*word);
             let text = read(rt, path)?;
-            parts.push(spec.attach(rt.alloc(), text)?)?;
+            parts.push(if inline {
+                spec.inline(rt.alloc(), text)?
+            } else {
+                spec.attach(rt.alloc(), text)?
+            })?;
         }
     }
     Ok(parts)

@@ -1,32 +1,90 @@
 //! Letters as the command line gives them.
 
-ghost use Rattle.std.specs.Prelude.{◌≡◌};
-ghost use Rattle.clap.specs.Matches.{first_value, found_of};
-ghost use Rattle.mk_run.specs.Asked.{words_of};
-ghost use Rattle.mk_tool.specs.Found.{letter_words_found};
+ghost use Rattle.std.specs.Prelude.{◌≡◌, ◌++◌, map, IfOk, OnOk};
+ghost use Rattle.clap.specs.Matches.{found_of};
+ghost use Rattle.mk_tool.specs.Found.{letters_found, words_found, words_in, words_with};
 
 use clap::ArgMatches;
-use mk_run::LetterWords;
+use mk_run::{Letter, LetterWord, LetterWords};
 use mk_words::options::{
-    ADD, ADD_IF, DECODE, ENCODE, FIRST, LAST, ONLY, PREFIXED, RENAME, TAKE, UNFOLD, WHOLE,
+    ADD, ADD_IF, DECODE, DROP, ENCODE, FIRST, LAST, ONLY, PREFIXED, RENAME, TAKE, UNFOLD, WHOLE,
 };
 use std::alloc::{AllocError, Global};
 
-/// The words that stand after letters.
-pub fn letter_words<'a>(matches: &ArgMatches<'a>) -> LetterWords<'a>
-    ensures { words_of result ≡ letter_words_found (first_value (found_of matches.now)) }
-{
-    LetterWords {
-        rename: matches.get_str(RENAME),
-        add_if: matches.get_str(ADD_IF),
-        add: matches.get_str(ADD),
-        prefixed: matches.get_str(PREFIXED),
-        only: matches.get_str(ONLY),
-        first: matches.get_str(FIRST),
-        last: matches.get_str(LAST),
-        take: matches.get_str(TAKE),
-        whole: matches.get_str(WHOLE),
+/// The letters with their words, in the order of the command line.
+pub fn letter_words<'a>(
+    alloc: Global,
+    matches: &'a ArgMatches<'_>,
+) -> Result<Vec<LetterWord<'a>>, AllocError> {
+    let mut placed = placed_words(alloc, matches)?;
+    placed.sort_by_key(|placed| placed.0)?;
+    let mut words = Vec::new(alloc);
+    for (_, word) in placed {
+        words.push(word)?;
     }
+    Ok(words)
+}
+
+/// The words of all letters with their places on the command line, letter by letter.
+pub fn placed_words<'a>(
+    alloc: Global,
+    matches: &'a ArgMatches<'_>,
+) -> Result<Vec<(usize, LetterWord<'a>)>, AllocError>
+    ensures { IfOk result (λ placed. words_in placed.items ≡ letters_found (found_of matches.now)) }
+{
+    let mut placed = Vec::new(alloc);
+    place(&mut placed, matches, Letter::Drops, DROP)?;
+    place(&mut placed, matches, Letter::Rename, RENAME)?;
+    place(&mut placed, matches, Letter::AddIf, ADD_IF)?;
+    place(&mut placed, matches, Letter::Add, ADD)?;
+    place(&mut placed, matches, Letter::Prefixed, PREFIXED)?;
+    place(&mut placed, matches, Letter::Only, ONLY)?;
+    place(&mut placed, matches, Letter::First, FIRST)?;
+    place(&mut placed, matches, Letter::Last, LAST)?;
+    place(&mut placed, matches, Letter::Take, TAKE)?;
+    place(&mut placed, matches, Letter::Whole, WHOLE)?;
+    Ok(placed)
+}
+
+// Puts the words that an option takes behind others, each with its letter and its place.
+fn place<'a>(
+    placed: &mut Vec<(usize, LetterWord<'a>)>,
+    matches: &'a ArgMatches<'_>,
+    letter: Letter,
+    option: &str,
+) -> Result<(), AllocError>
+    ensures { OnOk result (words_in placed.new.items ≡ words_in placed.old.items ++ words_with letter (words_found (found_of matches.now) option.now)) }
+{
+    match matches.get_strs(option) {
+        Some(words) => {
+            let places = matches.indices_of(option).unwrap_or(&[]);
+            place_each(placed, letter, words, places)
+        }
+        None => Ok(()),
+    }
+}
+
+// Puts words of a letter behind others, each with its place.
+fn place_each<'a>(
+    placed: &mut Vec<(usize, LetterWord<'a>)>,
+    letter: Letter,
+    words: &[&'a str],
+    places: &[usize],
+) -> Result<(), AllocError>
+    ensures { OnOk result (words_in placed.new.items ≡ words_in placed.old.items ++ words_with letter (map (λ s. s.now) words.now)) }
+{
+    let mut places = places.iter();
+    for word in words {
+        let place = places.next().copied().unwrap_or(0);
+        placed.push((
+            place,
+            LetterWord {
+                letter,
+                word: *word,
+            },
+        ))?;
+    }
+    Ok(())
 }
 
 /// What a letter takes.
@@ -39,6 +97,9 @@ const A_FIELD_OR_NAME: &str =
 
 const A_NAME: &str = "write a name and a colon, as Subject:";
 
+const A_NAME_OR_FRONT: &str =
+    "write a name and a colon, as Subject:, or with an asterisk before the colon, as X-*:";
+
 const APART: &str = "-x and -X print fields, so neither stands beside another letter";
 
 /// What the options on values want beside them.
@@ -48,174 +109,79 @@ const DECODE_ALONE: &str = "--decode is for the values that -x prints";
 
 const ENCODE_ALONE: &str = "--encode is for the fields of -a, -A, -i and -I";
 
-// A letter alone, as it is written, with its word and what it takes.
-#[derive(Clone, Copy, Drop)]
-struct Alone<'a> {
-    letter: &'static str,
-    word: Option<&'a str>,
-    words: LetterWords<'a>,
-    takes: &'static str,
-}
-
 /// Why letters are refused, if they are: the first whose word it doesn't take, or that they don't stand together.
-pub fn why_refused(alloc: Global, words: &LetterWords<'_>) -> Result<Option<String>, AllocError> {
-    if is_taken(alloc, words)? {
-        return Ok(None);
-    }
-    for alone in letters_alone(words) {
-        if let Some(word) = alone.word {
-            if !is_taken(alloc, &alone.words)? {
-                let (letter, takes) = (alone.letter, alone.takes);
-                let sentence = format!(in alloc; "invalid value '{word}' for '{letter}': {takes}")?;
-                return Ok(Some(sentence));
-            }
+pub fn why_refused(
+    alloc: Global,
+    words: &[(usize, LetterWord<'_>)],
+) -> Result<Option<String>, AllocError> {
+    for (_, word) in words {
+        if !is_taken(alloc, *word)? {
+            let (letter, takes) = shown(word.letter);
+            let word = word.word;
+            let sentence = format!(in alloc; "invalid value '{word}' for '{letter}': {takes}")?;
+            return Ok(Some(sentence));
         }
     }
-    Ok(Some(String::from_str(alloc, APART)?))
+    if words.len() > 1 && words.iter().any(|word| gives(word.1.letter)) {
+        return Ok(Some(String::from_str(alloc, APART)?));
+    }
+    Ok(None)
 }
 
 /// Why an option on values is refused, if one is: it has no letter to work on.
 pub fn why_no_values(
     alloc: Global,
     matches: &ArgMatches<'_>,
+    words: &[(usize, LetterWord<'_>)],
 ) -> Result<Option<String>, AllocError> {
-    let words = letter_words(matches);
-    if matches.get_flag(UNFOLD) && words.take.is_none() {
+    let takes = matches.contains_id(TAKE);
+    if matches.get_flag(UNFOLD) && !takes {
         return Ok(Some(String::from_str(alloc, UNFOLD_ALONE)?));
     }
-    if matches.get_flag(DECODE) && words.take.is_none() {
+    if matches.get_flag(DECODE) && !takes {
         return Ok(Some(String::from_str(alloc, DECODE_ALONE)?));
     }
-    if matches.get_flag(ENCODE) && !gives_field(&words) {
+    if matches.get_flag(ENCODE) && !words.iter().any(|word| adds(word.1.letter)) {
         return Ok(Some(String::from_str(alloc, ENCODE_ALONE)?));
     }
     Ok(None)
 }
 
-// Whether a letter is there that takes a field.
-fn gives_field(words: &LetterWords<'_>) -> bool {
-    words.add_if.is_some()
-        || words.add.is_some()
-        || words.prefixed.is_some()
-        || words.only.is_some()
+// Whether a letter prints fields.
+fn gives(letter: Letter) -> bool {
+    matches!(letter, Letter::Take | Letter::Whole)
 }
 
-// Whether these letters may be asked for.
-fn is_taken(alloc: Global, words: &LetterWords<'_>) -> Result<bool, AllocError> {
+// Whether a letter takes a field.
+fn adds(letter: Letter) -> bool {
+    matches!(
+        letter,
+        Letter::AddIf | Letter::Add | Letter::Prefixed | Letter::Only
+    )
+}
+
+// Whether a letter takes its word.
+fn is_taken(alloc: Global, word: LetterWord<'_>) -> Result<bool, AllocError> {
+    let mut words = LetterWords::none(alloc);
+    words.put(word)?;
     match words.letters(alloc)? {
         Some(letters) => Ok(letters.ok()),
         None => Ok(false),
     }
 }
 
-// Each letter alone.
-fn letters_alone<'a>(words: &LetterWords<'a>) -> [Alone<'a>; 9] {
-    let LetterWords {
-        rename,
-        add_if,
-        add,
-        prefixed,
-        only,
-        first,
-        last,
-        take,
-        whole,
-    } = *words;
-    [
-        single(
-            "--rename <OLD:NEW>",
-            rename,
-            LetterWords {
-                rename,
-                ..LetterWords::default()
-            },
-            A_PAIR,
-        ),
-        single(
-            "-a <FIELD>",
-            add_if,
-            LetterWords {
-                add_if,
-                ..LetterWords::default()
-            },
-            A_FIELD,
-        ),
-        single(
-            "-A <FIELD>",
-            add,
-            LetterWords {
-                add,
-                ..LetterWords::default()
-            },
-            A_FIELD,
-        ),
-        single(
-            "-i <FIELD>",
-            prefixed,
-            LetterWords {
-                prefixed,
-                ..LetterWords::default()
-            },
-            A_FIELD_OR_NAME,
-        ),
-        single(
-            "-I <FIELD>",
-            only,
-            LetterWords {
-                only,
-                ..LetterWords::default()
-            },
-            A_FIELD_OR_NAME,
-        ),
-        single(
-            "-u <NAME:>",
-            first,
-            LetterWords {
-                first,
-                ..LetterWords::default()
-            },
-            A_NAME,
-        ),
-        single(
-            "-U <NAME:>",
-            last,
-            LetterWords {
-                last,
-                ..LetterWords::default()
-            },
-            A_NAME,
-        ),
-        single(
-            "-x <NAME:>",
-            take,
-            LetterWords {
-                take,
-                ..LetterWords::default()
-            },
-            A_NAME,
-        ),
-        single(
-            "-X <NAME:>",
-            whole,
-            LetterWords {
-                whole,
-                ..LetterWords::default()
-            },
-            A_NAME,
-        ),
-    ]
-}
-
-fn single<'a>(
-    letter: &'static str,
-    word: Option<&'a str>,
-    words: LetterWords<'a>,
-    takes: &'static str,
-) -> Alone<'a> {
-    Alone {
-        letter,
-        word,
-        words,
-        takes,
+// A letter as help writes it, and what it takes.
+fn shown(letter: Letter) -> (&'static str, &'static str) {
+    match letter {
+        Letter::Drops => ("--drop <NAME:>", A_NAME_OR_FRONT),
+        Letter::Rename => ("--rename <OLD:NEW>", A_PAIR),
+        Letter::AddIf => ("-a <FIELD>", A_FIELD),
+        Letter::Add => ("-A <FIELD>", A_FIELD),
+        Letter::Prefixed => ("-i <FIELD>", A_FIELD_OR_NAME),
+        Letter::Only => ("-I <FIELD>", A_FIELD_OR_NAME),
+        Letter::First => ("-u <NAME:>", A_NAME),
+        Letter::Last => ("-U <NAME:>", A_NAME),
+        Letter::Take => ("-x <NAME:>", A_NAME),
+        Letter::Whole => ("-X <NAME:>", A_NAME),
     }
 }

@@ -2,9 +2,12 @@
 #![tactic(auto)]
 
 mod commands;
+mod editing;
 mod faults;
 mod files;
 mod letters;
+mod mailboxes;
+mod packing;
 mod program;
 mod words;
 

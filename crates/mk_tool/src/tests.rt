@@ -8,6 +8,7 @@ mod files;
 mod in_place;
 mod journals;
 mod letters;
+mod mailboxes;
 mod usage;
 
 use crate::program::obey;

@@ -1,12 +1,14 @@
 //! Words of the command line that clap takes as they are, and why some of them are refused.
 
 use crate::faults::Problem;
-use crate::letters::{letter_words, why_no_values, why_refused};
+use crate::letters::{placed_words, why_no_values, why_refused};
+use crate::mailboxes::message_number;
 use clap::ArgMatches;
 use mk_run::Spec;
 use mk_script::numbers;
 use mk_words::options::{
-    EDIT, EXTRACT, FIELD, JSON, LINE, PACK, PATH, SCRIPT, SECTIONS, SPEC, UTF8,
+    EACH, EDIT, EXTRACT, FIELD, JSON, LINE, MESSAGES, NUMBER, PACK, PART, PATH, RFC4155, SCRIPT,
+    SECTIONS, SPEC, UNPACK, UTF8,
 };
 use std::alloc::{AllocError, Global};
 
@@ -16,15 +18,25 @@ const NO_SCRIPT: &str = "give a SCRIPT, or its lines, each after -e";
 /// What is said of a plain listing with names in UTF-8.
 const NO_JSON: &str = "--utf8 goes only with --json: the plain listing has no names";
 
+/// What is said of From-lines with a date where no mailbox is read.
+const NO_NUMBER: &str = "--rfc4155 goes only with -n: it says how a mailbox is cut";
+
+const NO_MAILBOX: &str = "--rfc4155 goes only with -s: it says how a mailbox is cut";
+
 /// Refuses the words of a subcommand where one is invalid. No file has to be opened for that, so such a fault comes before
 /// those of files.
 pub fn check_words(alloc: Global, name: &str, matches: &ArgMatches<'_>) -> Result<(), Problem> {
+    if let Some(sentence) = why_no_message(alloc, name, matches)? {
+        return Err(Problem::Usage(sentence));
+    }
     let sentence = if name == EDIT {
         why_no_script(alloc, matches)?
     } else if name == SECTIONS {
         why_no_names(alloc, matches)?
     } else if name == EXTRACT {
-        why_no_path(alloc, matches)?
+        why_no_path(alloc, matches.get_str(PATH).unwrap_or(""))?
+    } else if name == UNPACK {
+        why_no_paths(alloc, matches)?
     } else if name == PACK {
         why_no_parts(alloc, matches)?
     } else if name == FIELD {
@@ -38,11 +50,41 @@ pub fn check_words(alloc: Global, name: &str, matches: &ArgMatches<'_>) -> Resul
     }
 }
 
+// Why the word of `-n` is no number of a message, or no mailbox is read beside `--rfc4155`.
+fn why_no_message(
+    alloc: Global,
+    name: &str,
+    matches: &ArgMatches<'_>,
+) -> Result<Option<String>, AllocError> {
+    let dated = matches.get_flag(RFC4155);
+    if let Some(word) = matches.get_str(NUMBER) {
+        if message_number(alloc, word)?.is_some() {
+            return Ok(None);
+        }
+        let sentence = format!(in alloc;
+            "invalid value '{word}' for '-n <N>': write the number of a message, from 1 to 4294967295"
+        )?;
+        return Ok(Some(sentence));
+    }
+    if !dated || name == MESSAGES {
+        return Ok(None);
+    }
+    if name == FIELD {
+        return if matches.get_flag(EACH) {
+            Ok(None)
+        } else {
+            Ok(Some(String::from_str(alloc, NO_MAILBOX)?))
+        };
+    }
+    Ok(Some(String::from_str(alloc, NO_NUMBER)?))
+}
+
 // Why the letters of `field`, or the options beside them, are refused, if they are.
 fn why_no_field(alloc: Global, matches: &ArgMatches<'_>) -> Result<Option<String>, AllocError> {
-    match why_refused(alloc, &letter_words(matches))? {
+    let words = placed_words(alloc, matches)?;
+    match why_refused(alloc, &words)? {
         Some(sentence) => Ok(Some(sentence)),
-        None => why_no_values(alloc, matches),
+        None => why_no_values(alloc, matches, &words),
     }
 }
 
@@ -62,9 +104,8 @@ fn why_no_names(alloc: Global, matches: &ArgMatches<'_>) -> Result<Option<String
     Ok(Some(String::from_str(alloc, NO_JSON)?))
 }
 
-// Why the word of `extract` is no path, if it isn't one.
-fn why_no_path(alloc: Global, matches: &ArgMatches<'_>) -> Result<Option<String>, AllocError> {
-    let word = matches.get_str(PATH).unwrap_or("");
+// Why a word is no path, if it isn't one.
+fn why_no_path(alloc: Global, word: &str) -> Result<Option<String>, AllocError> {
     if numbers(alloc, word.as_bytes())?.is_some() {
         return Ok(None);
     }
@@ -74,15 +115,36 @@ fn why_no_path(alloc: Global, matches: &ArgMatches<'_>) -> Result<Option<String>
     Ok(Some(sentence))
 }
 
-// Why a word of `pack` is no part, where there is one that isn't.
-fn why_no_parts(alloc: Global, matches: &ArgMatches<'_>) -> Result<Option<String>, AllocError> {
-    for word in matches.get_strs(SPEC).unwrap_or(&[]) {
-        if Spec::of(word.as_bytes()).is_none() {
-            let sentence = format!(in alloc;
-                "invalid value '{word}' for '<SPEC>...': write TYPE:FILE, as image/gif:dot.gif"
-            )?;
+// Why a word of `unpack` is no path, where there is one that isn't.
+fn why_no_paths(alloc: Global, matches: &ArgMatches<'_>) -> Result<Option<String>, AllocError> {
+    for word in matches.get_strs(PATH).unwrap_or(&[]) {
+        if let Some(sentence) = why_no_path(alloc, *word)? {
             return Ok(Some(sentence));
         }
     }
     Ok(None)
+}
+
+// Why a word of `pack` is no part, where there is one that isn't.
+fn why_no_parts(alloc: Global, matches: &ArgMatches<'_>) -> Result<Option<String>, AllocError> {
+    if let Some(word) = matches.get_str(PART) {
+        return why_no_part(alloc, word, "--part <SPEC>");
+    }
+    for word in matches.get_strs(SPEC).unwrap_or(&[]) {
+        if let Some(sentence) = why_no_part(alloc, *word, "<SPEC>...")? {
+            return Ok(Some(sentence));
+        }
+    }
+    Ok(None)
+}
+
+// Why a word is no part, if it isn't one.
+fn why_no_part(alloc: Global, word: &str, option: &str) -> Result<Option<String>, AllocError> {
+    if Spec::of(word.as_bytes()).is_some() {
+        return Ok(None);
+    }
+    let sentence = format!(in alloc;
+        "invalid value '{word}' for '{option}': write TYPE:FILE, as image/gif:dot.gif"
+    )?;
+    Ok(Some(sentence))
 }

@@ -1,8 +1,9 @@
 //! The words of `field`.
 
+use crate::mailbox_options::rfc4155;
 use crate::options::{
-    ADD, ADD_IF, DECODE, EACH, ENCODE, FIELD, FIRST, LAST, ONLY, PREFIXED, REFUSED_OK, RENAME,
-    TAKE, UNFOLD, WHOLE, flag, from, in_place,
+    ADD, ADD_IF, DECODE, DROP, EACH, ENCODE, FIELD, FIRST, LAST, ONLY, PREFIXED, REFUSED_OK,
+    RENAME, TAKE, UNFOLD, WHOLE, flag, from, in_place,
 };
 use clap::{Arg, ArgAction, Command};
 use std::alloc::{AllocError, Global};
@@ -12,13 +13,13 @@ const A_FIELD: &str = "FIELD";
 
 const A_NAME: &str = "NAME:";
 
-/// mimetool field [-a FIELD] [-A FIELD] [-i FIELD] [-I FIELD] [-u NAME:] [-U NAME:] [-x NAME:] [-X NAME:] [--rename OLD:NEW] [--unfold] [--decode] [--encode] [--refused-ok] [-s]
+/// mimetool field [--drop NAME:] [-a FIELD] [-A FIELD] [-i FIELD] [-I FIELD] [-u NAME:] [-U NAME:] [-x NAME:] [-X NAME:] [--rename OLD:NEW] [--unfold] [--decode] [--encode] [--refused-ok] [-s [--rfc4155]]
 pub fn field_command<'a>(alloc: Global) -> Result<Command<'a>, AllocError> {
     let rename = letter(alloc, RENAME, "OLD:NEW", "Give the fields OLD the name NEW").long(RENAME);
     let command = Command::new(alloc, FIELD)
         .about("Adds, renames and removes fields of a message, or prints those of a name")
         .after_help(
-            "Examples:\n  mimetool field -I 'X-Seen: yes' --in-place message\n  mimetool field -s -x Subject: --from mailbox",
+            "A letter that is given again works on what the earlier ones made, as in a pipe.\n\nExamples:\n  mimetool field -I 'X-Seen: yes' --in-place message\n  mimetool field -I 'X-Seen: yes' -I 'X-By: me' < message\n  mimetool field -s -x Subject: --from mailbox",
         )
         .arg(from(alloc))?
         .arg(
@@ -62,10 +63,17 @@ fn with_fields<'a>(alloc: Global, command: Command<'a>) -> Result<Command<'a>, A
 // The letters that take a name.
 fn with_names<'a>(alloc: Global, command: Command<'a>) -> Result<Command<'a>, AllocError> {
     command
+        .arg(letter(
+            alloc,
+            DROP,
+            A_NAME,
+            "Remove the fields NAME; NAME*: means all whose names begin so",
+        )
+        .long(DROP))?
         .arg(letter(alloc, FIRST, A_NAME, "Keep only the first field NAME").short('u'))?
         .arg(letter(alloc, LAST, A_NAME, "Keep only the last field NAME").short('U'))?
-        .arg(letter(alloc, TAKE, A_NAME, "Print the values of the fields NAME").short('x'))?
-        .arg(letter(alloc, WHOLE, A_NAME, "Print the fields NAME").short('X'))
+        .arg(single(alloc, TAKE, A_NAME, "Print the values of the fields NAME").short('x'))?
+        .arg(single(alloc, WHOLE, A_NAME, "Print the fields NAME").short('X'))
 }
 
 // How values are read and written, and what the input is.
@@ -100,11 +108,17 @@ fn with_flags<'a>(alloc: Global, command: Command<'a>) -> Result<Command<'a>, Al
             EACH,
             "Treat the input as a mailbox, message by message",
         )
-        .short('s'))
+        .short('s'))?
+        .arg(rfc4155(alloc))
+}
+
+// An option that may be given again, with a value each time.
+fn letter<'a>(alloc: Global, name: &'a str, value: &'a str, help: &'a str) -> Arg<'a> {
+    single(alloc, name, value, help).action(ArgAction::Append)
 }
 
 // An option with a value, which may begin with a hyphen.
-fn letter<'a>(alloc: Global, name: &'a str, value: &'a str, help: &'a str) -> Arg<'a> {
+fn single<'a>(alloc: Global, name: &'a str, value: &'a str, help: &'a str) -> Arg<'a> {
     Arg::new(alloc, name)
         .value_name(value)
         .help(help)

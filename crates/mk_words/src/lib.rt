@@ -1,5 +1,8 @@
 //! The words of the command line: the subcommands, and what each takes.
 #![tactic(auto)]
 
+mod edit_options;
 mod field_options;
+mod mailbox_options;
 pub mod options;
+mod pack_options;

@@ -1,6 +1,9 @@
 //! The command line.
 
+use crate::edit_options::{edit_command, redo_command, undo_command};
 use crate::field_options::field_command;
+use crate::mailbox_options::{messages_command, with_number};
+use crate::pack_options::pack_command;
 use clap::{Arg, ArgAction, Command};
 use std::alloc::{AllocError, Global};
 
@@ -21,6 +24,12 @@ pub const LINE: &str = "LINE";
 
 /// `--all`: all edits are one step.
 pub const ALL: &str = "all";
+
+/// `--eol`: pieces get the endings of the message.
+pub const EOL: &str = "eol";
+
+/// `--explain`: why a line of the script is invalid.
+pub const EXPLAIN: &str = "explain";
 
 /// `--from FILE`: the file to read the message from.
 pub const FROM: &str = "FROM";
@@ -52,6 +61,15 @@ pub const EXTRACT: &str = "extract";
 /// `-s PATH`: the section.
 pub const PATH: &str = "PATH";
 
+/// `--raw`: the content as it stands.
+pub const RAW: &str = "raw";
+
+/// `--head`: the fields of the section.
+pub const HEAD: &str = "head";
+
+/// `--prefix`: what decodes of base64 that isn't whole.
+pub const PREFIX: &str = "prefix";
+
 /// The subcommand that stores the leaves of a message as files.
 pub const UNPACK: &str = "unpack";
 
@@ -64,6 +82,9 @@ pub const TEXTS: &str = "texts";
 /// `--silent`: no names are printed.
 pub const SILENT: &str = "silent";
 
+/// `--paths`: names are printed after the paths of their sections.
+pub const PATHS: &str = "paths";
+
 /// `-C DIR`: the folder of the files.
 pub const DIR: &str = "DIR";
 
@@ -73,11 +94,26 @@ pub const PACK: &str = "pack";
 /// `-b BOUNDARY`
 pub const BOUNDARY: &str = "BOUNDARY";
 
+/// `-m SUBTYPE`: the subtype of the multipart.
+pub const SUBTYPE: &str = "SUBTYPE";
+
+/// `--inline`: texts are shown, not attached.
+pub const INLINE: &str = "inline";
+
+/// `--charset NAME`: the charset that texts name.
+pub const CHARSET: &str = "charset";
+
 /// A part, as TYPE:FILE.
 pub const SPEC: &str = "SPEC";
 
+/// `--part SPEC`: this part alone.
+pub const PART: &str = "part";
+
 /// The subcommand that filters the fields of messages.
 pub const FIELD: &str = "field";
+
+/// `--drop NAME:`
+pub const DROP: &str = "drop";
 
 /// `--rename OLD:NEW`
 pub const RENAME: &str = "rename";
@@ -121,8 +157,19 @@ pub const UNFOLD: &str = "unfold";
 /// `--refused-ok`: a refused edit leaves the status 0.
 pub const REFUSED_OK: &str = "refused-ok";
 
+/// The subcommand that lists the messages of a mailbox.
+pub const MESSAGES: &str = "messages";
+
+/// `-n N`: the N-th message of a mailbox.
+pub const NUMBER: &str = "NUMBER";
+
+/// `--rfc4155`: a mailbox is cut only at From-lines that end with a date.
+pub const RFC4155: &str = "rfc4155";
+
 /// The subcommands, in the order in which help lists them.
-const SUBCOMMANDS: [&str; 8] = [EDIT, UNDO, REDO, SECTIONS, EXTRACT, UNPACK, PACK, FIELD];
+const SUBCOMMANDS: [&str; 9] = [
+    EDIT, UNDO, REDO, SECTIONS, EXTRACT, UNPACK, PACK, FIELD, MESSAGES,
+];
 
 /// The command line of the program.
 pub fn command<'a>(alloc: Global) -> Result<Command<'a>, AllocError> {
@@ -154,6 +201,8 @@ pub fn subcommand<'a>(alloc: Global, name: &str) -> Result<Command<'a>, AllocErr
         unpack_command(alloc)
     } else if name == PACK {
         pack_command(alloc)
+    } else if name == MESSAGES {
+        messages_command(alloc)
     } else {
         field_command(alloc)
     }
@@ -180,9 +229,9 @@ pub fn in_place<'a>(alloc: Global) -> Result<Arg<'a>, AllocError> {
         .conflicts_with(FROM)
 }
 
-// mimetool sections [--json [--utf8]]
+// mimetool sections [-n N [--rfc4155]] [--json [--utf8]]
 fn sections_command<'a>(alloc: Global) -> Result<Command<'a>, AllocError> {
-    Command::new(alloc, SECTIONS)
+    let command = Command::new(alloc, SECTIONS)
         .about("Lists the sections of the message, one a line")
         .after_help(
             "Examples:\n  mimetool sections < message\n  mimetool sections --json --from message",
@@ -192,10 +241,11 @@ fn sections_command<'a>(alloc: Global) -> Result<Command<'a>, AllocError> {
         .arg(utf8(
             alloc,
             "With --json, give the names that unpack --utf8 gives",
-        ))
+        ))?;
+    with_number(alloc, command)
 }
 
-// mimetool extract -s PATH
+// mimetool extract [-n N [--rfc4155]] -s PATH [--raw|--head|--prefix]
 fn extract_command<'a>(alloc: Global) -> Result<Command<'a>, AllocError> {
     let path = Arg::new(alloc, PATH)
         .short('s')
@@ -203,61 +253,71 @@ fn extract_command<'a>(alloc: Global) -> Result<Command<'a>, AllocError> {
         .required(true)
         .allow_hyphen_values(true)
         .action(ArgAction::Set);
-    Command::new(alloc, EXTRACT)
+    let command = Command::new(alloc, EXTRACT)
         .about("Prints the content of a section, decoded if no sections are below it")
         .after_help(
-            "Examples:\n  mimetool extract -s 1.2 < message > picture.gif\n  mimetool extract -s 1 --from message",
+            "Examples:\n  mimetool extract -s 1.2 < message > picture.gif\n  mimetool extract -s 1 --head --from message",
         )
         .arg(from(alloc))?
-        .arg(path)
+        .arg(path)?
+        .arg(flag(alloc, RAW, "Print the content as it stands, not decoded").long(RAW))?
+        .arg(
+            flag(
+                alloc,
+                HEAD,
+                "Print the fields of the section, not its content",
+            )
+            .long(HEAD)
+            .conflicts_with(RAW)?,
+        )?
+        .arg(
+            flag(
+                alloc,
+                PREFIX,
+                "Of base64 that isn't whole, print what decodes; it is reported all the same",
+            )
+            .long(PREFIX)
+            .conflicts_with(RAW)?
+            .conflicts_with(HEAD)?,
+        )?;
+    with_number(alloc, command)
 }
 
-// mimetool unpack [-f] [-t] [--silent] [--utf8] [-C DIR]
+// mimetool unpack [-n N [--rfc4155]] [-f] [-t] [-s PATH].. [--silent|--paths] [--utf8] [-C DIR]
 fn unpack_command<'a>(alloc: Global) -> Result<Command<'a>, AllocError> {
+    let section = Arg::new(alloc, PATH)
+        .short('s')
+        .help("Write only the leaves at and below this path, as 1.2; may be given more than once")
+        .allow_hyphen_values(true)
+        .action(ArgAction::Append);
+    let paths = flag(
+        alloc,
+        PATHS,
+        "Print the path of each section before its name",
+    )
+    .long(PATHS);
     let dir = Arg::new(alloc, DIR)
         .short('C')
         .help("The folder to write to; it is created if it doesn't exist")
         .allow_hyphen_values(true)
         .action(ArgAction::Set);
-    Command::new(alloc, UNPACK)
+    let command = Command::new(alloc, UNPACK)
         .about("Writes the contents of the leaves to files, and prints their names and types")
         .after_help(
-            "Examples:\n  mimetool unpack -C attachments < message\n  mimetool unpack -t -f --from message",
+            "Examples:\n  mimetool unpack -C attachments < message\n  mimetool unpack -t -f --from message\n  mimetool unpack -s 1.2 -s 1.3 --paths < message",
         )
         .arg(from(alloc))?
         .arg(flag(alloc, OVER, "Overwrite existing files").short('f'))?
         .arg(flag(alloc, TEXTS, "Write texts without a name too").short('t'))?
+        .arg(section)?
         .arg(flag(alloc, SILENT, "Print no names").long(SILENT))?
+        .arg(paths.conflicts_with(SILENT)?)?
         .arg(utf8(
             alloc,
             "Name files in UTF-8, as the message says, not in ASCII alone",
         ))?
-        .arg(dir)
-}
-
-// mimetool pack -b BOUNDARY [--utf8] SPEC..
-fn pack_command<'a>(alloc: Global) -> Result<Command<'a>, AllocError> {
-    let boundary = Arg::new(alloc, BOUNDARY)
-        .short('b')
-        .help("The boundary between the parts, such as =_b")
-        .required(true)
-        .allow_hyphen_values(true)
-        .action(ArgAction::Set);
-    let specs = Arg::new(alloc, SPEC)
-        .help("The parts, each as TYPE:FILE, such as image/gif:dot.gif")
-        .required(true)
-        .action(ArgAction::Append);
-    Command::new(alloc, PACK)
-        .about("Builds a multipart from files, after the fields on standard input, and prints it")
-        .after_help(
-            "Examples:\n  mimetool pack -b =_b text/plain:letter image/gif:dot.gif < fields\n  printf 'Subject: report\\n' | mimetool pack -b =_b application/pdf:report.pdf",
-        )
-        .arg(boundary)?
-        .arg(utf8(
-            alloc,
-            "Write names of files that aren't ASCII as they are, too, for unpack --utf8",
-        ))?
-        .arg(specs)
+        .arg(dir)?;
+    with_number(alloc, command)
 }
 
 /// An option without a value.
@@ -265,70 +325,7 @@ pub fn flag<'a>(alloc: Global, name: &'a str, help: &'a str) -> Arg<'a> {
     Arg::new(alloc, name).help(help).action(ArgAction::SetTrue)
 }
 
-// --utf8
-fn utf8<'a>(alloc: Global, help: &'a str) -> Arg<'a> {
+/// --utf8
+pub fn utf8<'a>(alloc: Global, help: &'a str) -> Arg<'a> {
     flag(alloc, UTF8, help).long(UTF8)
-}
-
-// mimetool undo -j JOURNAL
-fn undo_command<'a>(alloc: Global) -> Result<Command<'a>, AllocError> {
-    Command::new(alloc, UNDO)
-        .about("Undoes the last step of an earlier edit, and prints the message")
-        .after_help(
-            "Examples:\n  mimetool undo -j journal < edited > message\n  mimetool undo -j journal --in-place edited",
-        )
-        .arg(from(alloc))?
-        .arg(in_place(alloc)?)?
-        .arg(journal(alloc).required(true))
-}
-
-// mimetool redo -j JOURNAL
-fn redo_command<'a>(alloc: Global) -> Result<Command<'a>, AllocError> {
-    Command::new(alloc, REDO)
-        .about("Redoes the last step that was undone, and prints the message")
-        .after_help(
-            "Examples:\n  mimetool redo -j journal < message > edited\n  mimetool redo -j journal --in-place message",
-        )
-        .arg(from(alloc))?
-        .arg(in_place(alloc)?)?
-        .arg(journal(alloc).required(true))
-}
-
-fn journal<'a>(alloc: Global) -> Arg<'a> {
-    Arg::new(alloc, JOURNAL)
-        .short('j')
-        .help("The file that keeps the steps for later runs; it is created if it doesn't exist")
-        .allow_hyphen_values(true)
-        .action(ArgAction::Set)
-}
-
-// mimetool edit [--from FILE|--in-place FILE] [-j JOURNAL] [--all] [-e LINE].. [SCRIPT] [PIECE..]
-fn edit_command<'a>(alloc: Global) -> Result<Command<'a>, AllocError> {
-    let line = Arg::new(alloc, LINE)
-        .short('e')
-        .help(
-            "A line of the script, in place of SCRIPT; may be given more than once. Every other word is then a PIECE",
-        )
-        .allow_hyphen_values(true)
-        .action(ArgAction::Append);
-    let script = Arg::new(alloc, SCRIPT)
-        .help(
-            "The file with the script: one edit a line, such as `add 1 Subject: hello`, `del 1 Subject 2` or `undo`",
-        )
-        .action(ArgAction::Set);
-    let pieces = Arg::new(alloc, PIECE)
-        .help("Files that the script names by number, from 1 on")
-        .action(ArgAction::Append);
-    Command::new(alloc, EDIT)
-        .about("Edits the message by the lines of a script, and prints it")
-        .after_help(
-            "Examples:\n  mimetool edit -e 'add 1 X-Seen: yes' < message > edited\n  mimetool edit -j journal script part --in-place message",
-        )
-        .arg(from(alloc))?
-        .arg(in_place(alloc)?)?
-        .arg(journal(alloc))?
-        .arg(flag(alloc, ALL, "Make all edits as one step, or none of them").long(ALL))?
-        .arg(line)?
-        .arg(script)?
-        .arg(pieces)
 }

@@ -127,7 +127,8 @@ fn lines_stand_in_place_of_a_script(rt: HostRuntime) -> Result<(), Fail> {
     let found = obeyed(&rt, &words, MESSAGE)?;
     same(&rt, &found, b"A: b\n\nhi\n", b"", Status::Well);
     let found = obeyed(&rt, &["edit", "-e", "body 1 1"], MESSAGE)?;
-    same(&rt, &found, b"", b"script: line 1: syntax\n", Status::Usage);
+    let errors = b"script: line 1: no such piece\nscript: line 1: syntax\n";
+    same(&rt, &found, b"", errors, Status::Usage);
     fs::remove_dir_all(&rt, folder)?;
     Ok(())
 }
@@ -169,6 +170,22 @@ fn parts_are_files(rt: HostRuntime) -> Result<(), Fail> {
         &rt,
         &found,
         b"Subject: s\nMIME-Version: 1.0\nContent-Type: multipart/mixed; boundary=\"b\"\n\n--b\nContent-Type: text/plain; name=\"n.txt\"\nContent-Disposition: attachment; filename=\"n.txt\"\nContent-Transfer-Encoding: quoted-printable\n\nhi\n\n--b--\n",
+        b"",
+        Status::Well,
+    );
+    let found = obeyed(&rt, &["pack", word], b"Subject: s\n")?;
+    same(
+        &rt,
+        &found,
+        b"Subject: s\nMIME-Version: 1.0\nContent-Type: multipart/mixed; boundary=\"=_3668bd9a2f2793ff84874466\"\n\n--=_3668bd9a2f2793ff84874466\nContent-Type: text/plain; name=\"n.txt\"\nContent-Disposition: attachment; filename=\"n.txt\"\nContent-Transfer-Encoding: quoted-printable\n\nhi\n\n--=_3668bd9a2f2793ff84874466--\n",
+        b"",
+        Status::Well,
+    );
+    let found = obeyed(&rt, &["pack", "--part", word], b"Subject: s\n\nx\n")?;
+    same(
+        &rt,
+        &found,
+        b"Content-Type: text/plain; name=\"n.txt\"\nContent-Disposition: attachment; filename=\"n.txt\"\nContent-Transfer-Encoding: quoted-printable\n\nhi\n",
         b"",
         Status::Well,
     );
@@ -217,6 +234,28 @@ fn each_option_of_unpack_does_its_own(rt: HostRuntime) -> Result<(), Fail> {
 }
 
 #[test]
+fn sections_are_unpacked_alone(rt: HostRuntime) -> Result<(), Fail> {
+    let folder = "mimetool_sections_test";
+    let _ = fs::remove_dir_all(&rt, folder);
+    let words = [
+        "unpack", "-t", "-s", "1.2", "-s", "1.9", "--paths", "-C", folder,
+    ];
+    let found = obeyed(&rt, &words, TWO)?;
+    same(
+        &rt,
+        &found,
+        b"1.2 part-1.2 (text/plain)\n",
+        b"1.9: NoSuchSection\n",
+        Status::Refused,
+    );
+    assert!(rt; !fs::exists(&rt, "mimetool_sections_test/n.txt")?);
+    let text = fs::read_to_string(&rt, "mimetool_sections_test/part-1.2")?;
+    assert_eq!(rt; text.as_str(), "two");
+    fs::remove_dir_all(&rt, folder)?;
+    Ok(())
+}
+
+#[test]
 fn names_are_kept_in_utf8(rt: HostRuntime) -> Result<(), Fail> {
     let folder = "mimetool_utf8_test";
     let message = b"Content-Disposition: inline; filename*=utf-8''d%2fcaf%C3%A9.txt\n\none";
@@ -255,6 +294,48 @@ fn files_are_packed_under_names_in_utf8(rt: HostRuntime) -> Result<(), Fail> {
     );
     let found = obeyed(&rt, &["pack", "-b", "b", word], b"")?;
     same(&rt, &found, b"", b"pack: BadName 0\n", Status::Refused);
+    fs::remove_dir_all(&rt, folder)?;
+    Ok(())
+}
+
+#[test]
+fn texts_are_packed_to_be_shown(rt: HostRuntime) -> Result<(), Fail> {
+    let folder = "mimetool_shown_test";
+    let file = "mimetool_shown_test/n.html";
+    let word = "text/html:mimetool_shown_test/n.html";
+    let _ = fs::remove_dir_all(&rt, folder);
+    fs::create_dir_all(&rt, folder)?;
+    fs::write(&rt, file, "hi\n")?;
+    let words: &[&str] = &[
+        "pack",
+        "-m",
+        "related",
+        "--inline",
+        "--charset",
+        "utf-8",
+        "-b",
+        "b",
+        word,
+    ];
+    let found = obeyed(&rt, words, b"")?;
+    same(
+        &rt,
+        &found,
+        b"MIME-Version: 1.0\nContent-Type: multipart/related; boundary=\"b\"\n\n--b\nContent-Type: text/html; charset=utf-8\nContent-Transfer-Encoding: quoted-printable\n\nhi\n\n--b--\n",
+        b"",
+        Status::Well,
+    );
+    let words: &[&str] = &["pack", "--inline", "--charset", "utf-8", "--part", word];
+    let found = obeyed(&rt, words, b"")?;
+    same(
+        &rt,
+        &found,
+        b"Content-Type: text/html; charset=utf-8\nContent-Transfer-Encoding: quoted-printable\n\nhi\n",
+        b"",
+        Status::Well,
+    );
+    let found = obeyed(&rt, &["pack", "-m", "", "-b", "b", word], b"")?;
+    same(&rt, &found, b"", b"pack: BadSubtype\n", Status::Refused);
     fs::remove_dir_all(&rt, folder)?;
     Ok(())
 }

@@ -78,7 +78,8 @@ fn what_changes_nothing_touches_nothing(rt: HostRuntime) -> Result<(), Fail> {
     let found = obeyed(&rt, &["edit", "-e", "del 1 Z 1", "--in-place", file], b"")?;
     same(&rt, &found, b"", b"line 1: NoSuchField\n", Status::Refused);
     let found = obeyed(&rt, &["edit", "-e", "add", "--in-place", file], b"")?;
-    same(&rt, &found, b"", b"script: line 1: syntax\n", Status::Usage);
+    let errors = b"script: line 1: too few arguments\nscript: line 1: syntax\n";
+    same(&rt, &found, b"", errors, Status::Usage);
     let after = fs::metadata(&rt, file)?;
     assert_eq!(rt; after.ino(), before.ino());
     assert_eq!(rt;

@@ -82,6 +82,18 @@ words: field|-x|C:
 message: A: 1\nB: 2\nA: 3\n\nx\n
 status: Well
 
+== no field of a name
+words: field|--drop|A:
+message: A: 1\nB: 2\nA: 3\n\nx\n
+output: B: 2\n\nx\n
+status: Well
+
+== no field of some names
+words: field|--drop|a*:|--drop|C:
+message: A: 1\nB: 2\nA-b: 3\n\nx\n
+output: B: 2\n\nx\n
+status: Well
+
 == another name
 words: field|--rename|A:C
 message: A: 1\nB: 2\nA: 3\n\nx\n
@@ -98,6 +110,36 @@ status: Well
 words: field|-I|B:|-U|A:
 message: A: 1\nB: 2\nA: 3\n\nx\n
 output: A: 3\n\nx\n
+status: Well
+
+== a letter twice
+words: field|-I|A: 1|-I|B: 3
+message: A: 1\nB: 2\nA: 3\n\nx\n
+output: A: 1\nB: 3\n\nx\n
+status: Well
+
+== a round after another, in the order of the words
+words: field|-U|A:|-U|B:|-A|A: 9
+message: A: 1\nB: 2\nA: 3\n\nx\n
+output: B: 2\nA: 3\nA: 9\n\nx\n
+status: Well
+
+== the same with the rounds the other way round
+words: field|-U|B:|-U|A:|-A|A: 9
+message: A: 1\nB: 2\nA: 3\n\nx\n
+output: B: 2\nA: 9\n\nx\n
+status: Well
+
+== a name that goes is of the round that has begun
+words: field|-A|X-A: 1|--drop|X-*:|-A|X-B: 2|--drop|A:
+message: A: 1\nX-A: 2\n\nx\n
+output: X-A: 1\nX-B: 2\n\nx\n
+status: Well
+
+== an encoded word in each round
+words: field|--encode|-I|A: ä|-I|B: ö
+message: A: 1\nB: 2\nA: 3\n\nx\n
+output: A: =?utf-8?B?w6Q=?=\nB: =?utf-8?B?w7Y=?=\n\nx\n
 status: Well
 
 == a mailbox of one message
@@ -147,8 +189,14 @@ const REFUSED: &str = r"
 == no field after a letter
 words: field|-a
 
-== a letter twice
-words: field|-I|A: 1|-I|B: 2
+== values of two names
+words: field|-x|A:|-x|B:
+
+== fields of two names
+words: field|-X|A:|-X|B:
+
+== a name without its colon in a later round
+words: field|-u|A:|-u|B
 
 == a letter that there isn't
 words: field|-r

@@ -29,6 +29,10 @@ begins: error: invalid value '-1' for '-s <PATH>': write numbers from 1 on with 
 words: extract|-s|1.4294967296
 begins: error: invalid value '1.4294967296' for '-s <PATH>': write numbers from 1 on with dots between them, as 1.2\n\nUsage: mimetool extract\x20
 
+== -s <PATH> of unpack doesn't take '0'
+words: unpack|-s|1|-s|0|-s|x
+begins: error: invalid value '0' for '-s <PATH>': write numbers from 1 on with dots between them, as 1.2\n\nUsage: mimetool unpack\x20
+
 == <SPEC>... doesn't take 'text'
 words: pack|-b|b|text
 begins: error: invalid value 'text' for '<SPEC>...': write TYPE:FILE, as image/gif:dot.gif\n\nUsage: mimetool pack\x20
@@ -36,6 +40,10 @@ begins: error: invalid value 'text' for '<SPEC>...': write TYPE:FILE, as image/g
 == <SPEC>... doesn't take 'n'
 words: pack|-b|b|text/plain:n|n
 begins: error: invalid value 'n' for '<SPEC>...': write TYPE:FILE, as image/gif:dot.gif\n\nUsage: mimetool pack\x20
+
+== --part <SPEC> doesn't take 'text'
+words: pack|--part|text
+begins: error: invalid value 'text' for '--part <SPEC>': write TYPE:FILE, as image/gif:dot.gif\n\nUsage: mimetool pack\x20
 
 == -u <NAME:> doesn't take 'A'
 words: field|-u|A
@@ -134,8 +142,8 @@ words: field|-a
 begins: error: a value is required for '-a <FIELD>' but none was supplied\n
 
 == a letter twice
-words: field|-I|A: 1|-I|B: 2
-begins: error: the argument '-I <FIELD>' cannot be used multiple times\n
+words: field|-x|A:|-x|B:
+begins: error: the argument '-x <NAME:>' cannot be used multiple times\n
 
 == a letter that there isn't
 words: field|-r
@@ -181,6 +189,30 @@ begins: error: the argument '-x <NAME:>' cannot be used with '--in-place <FILE>'
 words: field|--in-place|a|-X|A:
 begins: error: the argument '--in-place <FILE>' cannot be used with '-X <NAME:>'\n
 
+== a content as it stands, and fields
+words: extract|-s|1|--raw|--head
+begins: error: the argument '--raw' cannot be used with '--head'\n
+
+== fields, and what decodes
+words: extract|--prefix|-s|1|--head
+begins: error: the argument '--prefix' cannot be used with '--head'\n
+
+== what decodes, and a content as it stands
+words: extract|--raw|--prefix|-s|1
+begins: error: the argument '--raw' cannot be used with '--prefix'\n
+
+== no names, and paths beside them
+words: unpack|--silent|--paths
+begins: error: the argument '--silent' cannot be used with '--paths'\n
+
+== a part alone, and a boundary
+words: pack|--part|text/plain:n|-b|b
+begins: error: the argument '--part <SPEC>' cannot be used with '-b <BOUNDARY>'\n
+
+== a part alone, and more parts
+words: pack|--part|text/plain:n|text/plain:n
+begins: error: the argument '--part <SPEC>' cannot be used with '[SPEC]...'\n
+
 == names in UTF-8 in the plain listing
 words: sections|--utf8
 begins: error: --utf8 goes only with --json: the plain listing has no names\n
@@ -224,6 +256,10 @@ begins: error: give a SCRIPT,\x20
 == no script, and a file to replace
 words: edit|--in-place|mimetool_none
 begins: error: give a SCRIPT,\x20
+
+== no path to unpack
+words: unpack|-s|.1|--from|mimetool_none
+begins: error: invalid value '.1' for '-s <PATH>':\x20
 
 == no part
 words: pack|-b|b|text/plain:mimetool_none|x

@@ -1,0 +1,178 @@
+//! `edit`, `undo` and `redo`, over any devices.
+
+use crate::faults::{Problem, usage};
+use crate::files::{read, read_all};
+use crate::mailboxes::{Picked, pick_message};
+use clap::ArgMatches;
+use mk_mail::{Sink, Source};
+use mk_messages::InMemory;
+use mk_run::{Cause, Journal, Pieces, Script, Status, Stop, report_invalid, try_edit};
+use mk_script::first_invalid;
+use mk_system::{JournalFile, Output};
+use mk_words::options::{ALL, EOL, EXPLAIN, JOURNAL, LINE, PIECE, SCRIPT};
+use std::alloc::{AllocError, Global};
+use std::fs::File;
+use std::io;
+use std::rt::Files;
+
+/// The scripts of two subcommands.
+const UNDO_SCRIPT: &[u8] = b"undo\n";
+
+const REDO_SCRIPT: &[u8] = b"redo\n";
+
+/// mimetool edit
+pub fn edit<R: Files<File = File> + AllocGlobal, S: Source, O: Sink, E: Sink>(
+    rt: &R,
+    matches: &ArgMatches<'_>,
+    input: &mut S,
+    out: &mut O,
+    err: &mut E,
+) -> Result<Status, Problem> {
+    let alloc = rt.alloc();
+    let paths = matches.get_strs(PIECE).unwrap_or(&[]);
+    let as_one = matches.get_flag(ALL);
+    if let Some(lines) = matches.get_strs(LINE) {
+        // Each word that is no line is a piece; the first of them stands where the script would.
+        let script = joined(alloc, lines)?;
+        let mut pieces = Vec::new(alloc);
+        if let Some(path) = matches.get_str(SCRIPT) {
+            pieces.push(read(rt, path)?)?;
+        }
+        for path in paths {
+            pieces.push(read(rt, *path)?)?;
+        }
+        let script = Script {
+            text: &script,
+            as_one,
+        };
+        explain(alloc, err, script, pieces.len())?;
+        return edit_by(rt, matches, input, out, err, script, &pieces);
+    }
+    let Some(path) = matches.get_str(SCRIPT) else {
+        return Ok(usage(err));
+    };
+    let script = read(rt, path)?;
+    let pieces = read_all(rt, paths)?;
+    let script = Script {
+        text: &script,
+        as_one,
+    };
+    if matches.get_flag(EXPLAIN) {
+        explain(alloc, err, script, pieces.len())?;
+    }
+    edit_by(rt, matches, input, out, err, script, &pieces)
+}
+
+// Says why the first invalid line of a script is invalid, if there is one.
+fn explain<E: Sink>(
+    alloc: Global,
+    err: &mut E,
+    script: Script<'_>,
+    pieces: usize,
+) -> Result<(), Problem> {
+    let Some(line) = first_invalid(alloc, script.text, pieces, script.as_one)? else {
+        return Ok(());
+    };
+    match report_invalid(alloc, err, line) {
+        Ok(()) => Ok(()),
+        Err(Stop::Fault) => Err(Problem::Stopped(Cause::Write)),
+        Err(Stop::Memory) => Err(Problem::Stopped(Cause::Memory)),
+    }
+}
+
+/// mimetool undo
+pub fn undo<R: Files<File = File> + AllocGlobal, S: Source, O: Sink, E: Sink>(
+    rt: &R,
+    matches: &ArgMatches<'_>,
+    input: &mut S,
+    out: &mut O,
+    err: &mut E,
+) -> Result<Status, Problem> {
+    edit_by(rt, matches, input, out, err, alone(UNDO_SCRIPT), &[])
+}
+
+/// mimetool redo
+pub fn redo<R: Files<File = File> + AllocGlobal, S: Source, O: Sink, E: Sink>(
+    rt: &R,
+    matches: &ArgMatches<'_>,
+    input: &mut S,
+    out: &mut O,
+    err: &mut E,
+) -> Result<Status, Problem> {
+    edit_by(rt, matches, input, out, err, alone(REDO_SCRIPT), &[])
+}
+
+// A script that is done line by line.
+fn alone(text: &[u8]) -> Script<'_> {
+    Script {
+        text,
+        as_one: false,
+    }
+}
+
+// The lines of a script, each ended.
+fn joined(alloc: Global, lines: &[&str]) -> Result<Vec<u8>, AllocError> {
+    let mut script = Vec::new(alloc);
+    for line in lines {
+        script.extend_from_slice(line.as_bytes())?;
+        script.push(b'\n')?;
+    }
+    Ok(script)
+}
+
+// Edits by a script the input, or the message of it that the command line names.
+fn edit_by<R: Files<File = File> + AllocGlobal, S: Source, O: Sink, E: Sink>(
+    rt: &R,
+    matches: &ArgMatches<'_>,
+    input: &mut S,
+    out: &mut O,
+    err: &mut E,
+    script: Script<'_>,
+    pieces: &[Vec<u8>],
+) -> Result<Status, Problem> {
+    match pick_message(rt.alloc(), matches, input, err)? {
+        Picked::Whole => edit_message(rt, matches, input, out, err, script, pieces),
+        Picked::Message(message) => {
+            let mut input = InMemory::new(&message);
+            edit_message(rt, matches, &mut input, out, err, script, pieces)
+        }
+        Picked::Missing => Ok(Status::Refused),
+    }
+}
+
+// Edits by a script, with the journal that the command line names, if it names one. The journal is read last.
+fn edit_message<R: Files<File = File> + AllocGlobal, S: Source, O: Sink, E: Sink>(
+    rt: &R,
+    matches: &ArgMatches<'_>,
+    input: &mut S,
+    out: &mut O,
+    err: &mut E,
+    script: Script<'_>,
+    pieces: &[Vec<u8>],
+) -> Result<Status, Problem> {
+    let alloc = rt.alloc();
+    let pieces = Pieces {
+        texts: pieces,
+        turned: matches.get_flag(EOL),
+    };
+    let Some(path) = matches.get_str(JOURNAL) else {
+        let mut none = Output::new(io::sink());
+        let journal = Journal::Off;
+        let done = try_edit(alloc, input, out, err, script, pieces, journal, &mut none);
+        return Ok(done?);
+    };
+    let (mut jout, old) = match JournalFile::open(rt, path) {
+        Ok(opened) => opened,
+        Err(error) => return Err(Problem::file(alloc, path, error, Cause::Read)),
+    };
+    let journal = match &old {
+        Some(text) => Journal::Old(text),
+        None => Journal::New,
+    };
+    let done = try_edit(alloc, input, out, err, script, pieces, journal, &mut jout);
+    let unwritten = jout.close();
+    match done {
+        Ok(status) => Ok(status),
+        Err(cause) => Err(Problem::from(cause).blamed(alloc, Cause::Write, path, unwritten)),
+    }
+}

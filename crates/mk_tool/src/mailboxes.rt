@@ -1,0 +1,87 @@
+//! Mailboxes: their messages listed, or one of them in place of the input.
+
+ghost use Rattle.std.specs.Prelude.{◌<◌, IfOk, IfSome};
+
+use crate::faults::Problem;
+use clap::ArgMatches;
+use mk_mail::{FromLines, Sink, Source};
+use mk_messages::{pick, report_missing, try_messages};
+use mk_run::{Cause, Status, Stop};
+use mk_script::numbers;
+use mk_words::options::{NUMBER, RFC4155};
+use std::alloc::{AllocError, Global};
+
+/// The message that a command works on.
+#[derive(Drop)]
+pub enum Picked {
+    /// The whole input.
+    Whole,
+    /// One of a mailbox.
+    Message(Vec<u8>),
+    /// The mailbox has no message of that number, which was reported.
+    Missing,
+}
+
+// mimetool messages
+pub fn messages<S: Source, O: Sink>(
+    alloc: Global,
+    matches: &ArgMatches<'_>,
+    input: &mut S,
+    out: &mut O,
+) -> Result<Status, Problem> {
+    try_messages(alloc, input, out, from_lines(matches))?;
+    Ok(Status::Well)
+}
+
+/// Reads the message of `-n`, where the command line has one.
+pub fn pick_message<S: Source, E: Sink>(
+    alloc: Global,
+    matches: &ArgMatches<'_>,
+    input: &mut S,
+    err: &mut E,
+) -> Result<Picked, Problem> {
+    let Some(word) = matches.get_str(NUMBER) else {
+        return Ok(Picked::Whole);
+    };
+    let Some(number) = message_number(alloc, word)? else {
+        return Ok(Picked::Missing);
+    };
+    match pick(alloc, input, from_lines(matches), number) {
+        Ok(Some(message)) => Ok(Picked::Message(message)),
+        Ok(None) => match report_missing(alloc, err, number) {
+            Ok(()) => Ok(Picked::Missing),
+            Err(stop) => Err(stopped(stop, Cause::Write)),
+        },
+        Err(stop) => Err(stopped(stop, Cause::Read)),
+    }
+}
+
+/// The number in a word: decimal, from 1 to 4,294,967,295, without zeros before it.
+pub fn message_number(alloc: Global, word: &str) -> Result<Option<u32>, AllocError>
+    ensures { IfOk result (λ number. IfSome number (λ n. 0 < n)) }
+{
+    match numbers(alloc, word.as_bytes())? {
+        Some(path) => match path.as_slice() {
+            [number] if *number > 0 => Ok(Some(*number)),
+            _ => Ok(None),
+        },
+        None => Ok(None),
+    }
+}
+
+/// Which From-lines begin a message.
+pub fn from_lines(matches: &ArgMatches<'_>) -> FromLines {
+    if matches.get_flag(RFC4155) {
+        FromLines::Dated
+    } else {
+        FromLines::Any
+    }
+}
+
+// A run that stopped, by this cause where a device failed.
+fn stopped(stop: Stop, fault: Cause) -> Problem {
+    match stop {
+        Stop::Fault => Problem::Stopped(fault),
+        Stop::Memory => Problem::Stopped(Cause::Memory),
+    }
+}

@@ -1,0 +1,138 @@
+//! Mailboxes: the messages listed, one of them picked, and From-lines with dates.
+
+use super::{check_refused, check_rows};
+use std::test::Fail;
+
+const ROWS: &str = r#"
+== the messages
+words: messages
+message: From a\nA: 1\n\nx\n\nFrom b\nContent-Type: message/rfc822\n\nA: b\n\ny\n
+output: 1 0 16 1\n2 16 61 2\n
+status: Well
+
+== none
+words: messages
+message:
+status: Well
+
+== a sentence of a body begins a message
+words: messages
+message: From a Fri Jul  8 12:08:34 2011\n\nx\n\nFrom here on\n
+output: 1 0 36 1\n2 36 49 1\n
+status: Well
+
+== but not where dates are asked for
+words: messages|--rfc4155
+message: From a Fri Jul  8 12:08:34 2011\n\nx\n\nFrom here on\n
+output: 1 0 49 1\n
+status: Well
+
+== the sections of the second message
+words: sections|-n|2
+message: From a\nA: 1\n\nx\n\nFrom b\nContent-Type: message/rfc822\n\nA: b\n\ny\n
+output: 1 message message/rfc822 identity 7 37 45 1 3\n1.1 leaf text/plain identity 37 43 45 1 1\n
+status: Well
+
+== they as JSON
+words: sections|-n|1|--json
+message: From a\nA: 1\n\nx\n\nFrom b\n\n
+output: {"path":"1","kind":"leaf","type":"text/plain","encoding":"identity","start":7,"body":13,"end":16,"field_lines":1,"body_lines":2,"stored_as":"part-1","size":3}\n
+status: Well
+
+== the content of the last
+words: extract|-n|2|-s|1
+message: From a\n\nx\n\nFrom b\nA: b\n\ny\n
+output: y\n
+status: Well
+
+== the same where only dates count
+words: extract|--rfc4155|-n|1|-s|1
+message: From a Fri Jul  8 12:08:34 2011\n\nx\n\nFrom here on\n
+output: x\n\nFrom here on\n
+status: Well
+
+== a message edited alone
+words: edit|-n|2|-e|add 1 X: y
+message: From a\n\nx\n\nFrom b\nA: b\n\ny\n\nFrom c\n\n
+output: From b\nA: b\nX: y\n\ny\n\n
+status: Well
+
+== an edit of it is refused
+words: edit|-n|1|-e|del 1 Z 1
+message: From a\n\nx\n
+output: From a\n\nx\n
+errors: line 1: NoSuchField\n
+status: Refused
+
+== no such message
+words: edit|-n|3|-e|add 1 X: y
+message: From a\n\nx\n\nFrom b\nA: b\n\ny\n
+errors: message 3: NoSuchMessage\n
+status: Refused
+
+== nor one to list
+words: sections|-n|1
+message:
+errors: message 1: NoSuchMessage\n
+status: Refused
+
+== nor one of the greatest number
+words: extract|-n|4294967295|-s|1
+message: A: b\n\nx\n
+errors: message 4294967295: NoSuchMessage\n
+status: Refused
+
+== letters where only dates count
+words: field|-s|--rfc4155|-A|X: y
+message: \nFrom a Fri Jul  8 12:08:34 2011\n\nx\n\nFrom here on\n
+output: \nFrom a Fri Jul  8 12:08:34 2011\nX: y\n\nx\n\nFrom here on\n
+status: Well
+"#;
+
+#[test]
+fn messages_of_a_mailbox(rt: HostRuntime) -> Result<(), Fail> {
+    check_rows(&rt, ROWS)
+}
+
+/// Command lines with an invalid word, and how what is said of it begins.
+const REFUSED: &str = r"
+== -n <N> doesn't take 0
+words: sections|-n|0
+begins: error: invalid value '0' for '-n <N>': write the number of a message, from 1 to 4294967295\n\nUsage: mimetool sections\x20
+
+== -n <N> doesn't take a zero before the number
+words: extract|-n|01|-s|1
+begins: error: invalid value '01' for '-n <N>': write the number of a message, from 1 to 4294967295\n\nUsage: mimetool extract\x20
+
+== -n <N> doesn't take a number that is too large
+words: unpack|-n|4294967296
+begins: error: invalid value '4294967296' for '-n <N>': write the number of a message, from 1 to 4294967295\n\nUsage: mimetool unpack\x20
+
+== -n <N> doesn't take two numbers
+words: edit|-n|1.2|-e|undo
+begins: error: invalid value '1.2' for '-n <N>': write the number of a message, from 1 to 4294967295\n\nUsage: mimetool edit\x20
+
+== --rfc4155 without -n
+words: sections|--rfc4155
+words: extract|--rfc4155|-s|1
+words: unpack|--rfc4155
+words: edit|--rfc4155|-e|undo
+begins: error: --rfc4155 goes only with -n: it says how a mailbox is cut\n\nUsage: mimetool\x20
+
+== --rfc4155 without -s
+words: field|--rfc4155
+begins: error: --rfc4155 goes only with -s: it says how a mailbox is cut\n\nUsage: mimetool field\x20
+
+== -n beside --in-place
+words: edit|-n|1|--in-place|message|-e|undo
+
+== words that messages and field don't have
+words: messages|mailbox
+words: messages|-n|1
+words: field|-n|1
+";
+
+#[test]
+fn other_words_on_mailboxes_are_refused(rt: HostRuntime) -> Result<(), Fail> {
+    check_refused(&rt, REFUSED)
+}
