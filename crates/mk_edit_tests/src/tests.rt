@@ -1,7 +1,5 @@
 //! What no clause says: that calls succeed, and that the clauses mean what users of messages expect. Expected values
-//! are from the rules of the formats, and a plain program that reads the whole edited text again stands beside the
-//! local tests.
-mod agreeing;
+//! are from the rules of the formats.
 mod checks;
 mod counted;
 mod fields;
@@ -12,7 +10,6 @@ mod journals;
 mod kinds;
 mod levels;
 mod long_groups;
-mod looks;
 mod memory;
 mod memory_decisions;
 mod memory_histories;
@@ -21,11 +18,8 @@ mod meter;
 mod named;
 mod names;
 mod parts;
-mod plain;
 mod removals;
 mod sections;
-mod small;
-mod wrapping;
 mod wraps;
 
 use mk_edit::{Edit, EditError, Session};

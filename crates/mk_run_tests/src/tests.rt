@@ -1,19 +1,28 @@
 //! Runs of scripts on messages, over devices in memory. The expected bytes are worked out by hand.
 
 mod as_one;
+mod chosen;
 mod devices;
+mod encodings;
 mod failing;
 mod fields;
 mod filtered;
 mod groups;
 mod hostile;
+mod jobs;
 mod journals;
 mod letters;
 mod memory;
+mod messages;
 mod not_packed;
+mod own_boundaries;
 mod packed;
+mod packed_kinds;
 mod packed_names;
+mod parts_alone;
 mod pieces;
+mod portions;
+mod rounds;
 mod runs;
 mod shelf;
 mod shown;

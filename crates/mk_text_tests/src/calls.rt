@@ -1,5 +1,5 @@
 //! What calls give for the rows of tables, as text.
-use mk_code::{Encoding, b64_encode, decode, qp_encode, words_decode, words_encode};
+use mk_code::{Encoding, b64_encode, decode, decode_front, qp_encode, words_decode, words_encode};
 use mk_head::{
     Field, content_type, each_field, encoding, header, is_boundary, is_token, one_field, unfold,
 };
@@ -29,6 +29,8 @@ pub enum Call {
     ContentType,
     /// Its content, which is in the `encoding`.
     Decode,
+    /// What decodes of base64 that may not be whole.
+    DecodeFront,
     QpWithLf,
     QpWithCrlf,
     Base64WithLf,
@@ -92,6 +94,7 @@ fn given(alloc: Global, call: Call, row: &Row) -> Result<Vec<u8>, Fail> {
         Call::Value => value(alloc, text),
         Call::ContentType => type_of(alloc, text),
         Call::Decode => decoded(alloc, row),
+        Call::DecodeFront => Ok(decode_front(alloc, text)?),
         Call::QpWithLf => Ok(qp_encode(alloc, text, Ending::Lf)?),
         Call::QpWithCrlf => Ok(qp_encode(alloc, text, Ending::Crlf)?),
         Call::Base64WithLf => Ok(b64_encode(alloc, text, Ending::Lf)?),

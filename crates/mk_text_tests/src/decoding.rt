@@ -156,6 +156,49 @@ fn one_letter_over_or_unused_bits_are_no_base64(rt: HostRuntime) -> Result<(), F
     check(&rt, rt.alloc(), Call::Decode, BAD_BASE64)
 }
 
+const CUT_BASE64: &str = "
+== one letter over
+text: aGkA\na
+gives: hi\x00
+
+== one letter alone
+text: a
+gives:
+
+== two letters with unused bits
+text: aGkAaB
+gives: hi\x00
+
+== two letters without unused bits are whole
+text: aGkAaA
+gives: hi\x00h
+
+== unused bits of three letters, of which two are whole
+text: aGkAaAB
+gives: hi\x00h
+
+== unused bits of three letters, of which two have some too
+text: aGkAaGl=aGkA
+gives: hi\x00
+
+== no front but the empty one
+text: aGl=
+gives:
+
+== whole base64 is its own front
+text: aGk=
+gives: hi
+
+== nothing
+text:
+gives:
+";
+
+#[test]
+fn the_longest_whole_front_of_base64_is_decoded(rt: HostRuntime) -> Result<(), Fail> {
+    check(&rt, rt.alloc(), Call::DecodeFront, CUT_BASE64)
+}
+
 const UNKNOWN: &str = r"
 == a text
 encoding: unknown

@@ -2,8 +2,8 @@
 //! `checks/refuse` runs each test here with each growth refused in turn. Tests of the same calls beside these want the
 //! answer at the first call.
 use mk_code::{
-    CodeError, Encoding, b64_encode, decode, push_b64, push_qp, qp_encode, words_decode,
-    words_encode,
+    CodeError, Encoding, b64_encode, decode, decode_front, push_b64, push_qp, qp_encode,
+    words_decode, words_encode,
 };
 use mk_head::{content_type, header, push_multipart_type, unfold, without_endings};
 use mk_line::{Ending, push_close, push_delimiter};
@@ -170,6 +170,15 @@ fn memory_decode(rt: HostRuntime) {
             Err(error) => assert!(rt; wanted == Err(error)),
         }
     }
+}
+
+#[test]
+fn memory_decode_front(rt: HostRuntime) {
+    let bytes = match decode_front(rt.alloc(), b"aGkAaG") {
+        Ok(bytes) => bytes,
+        Err(_) => decode_front(rt.alloc(), b"aGkAaG").expect(&rt, "memory"),
+    };
+    assert_eq!(rt; bytes.as_slice(), b"hi\x00".as_slice());
 }
 
 #[test]

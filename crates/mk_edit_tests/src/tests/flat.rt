@@ -35,68 +35,6 @@ pub struct Item {
     pub boundary: Vec<u8>,
 }
 
-impl Item {
-    pub fn is_field_of(&self, path: &[u32]) -> bool {
-        self.what == What::Field && self.path.as_slice() == path
-    }
-
-    /// Whether it is the line before the part at a path.
-    pub fn is_delimiter_of(&self, path: &[u32]) -> bool {
-        self.what == What::Delimiter && self.path.as_slice() == path
-    }
-
-    /// The same at another path in the place of the two numbers that its path begins with.
-    pub fn moved(self, alloc: Global, path: &[u32]) -> Result<Item, AllocError> {
-        let Item {
-            path: old,
-            what,
-            bytes,
-            boundary,
-        } = self;
-        let mut path = Vec::from_slice(alloc, path)?;
-        path.extend_from_slice(old.get(2..).unwrap_or(&[]))?;
-        Ok(Item {
-            path,
-            what,
-            bytes,
-            boundary,
-        })
-    }
-
-    /// The same after a change of the parts of a section, where the parts from a number on get the next number, or the
-    /// one before.
-    pub fn renumbered(
-        self,
-        alloc: Global,
-        parent: &[u32],
-        from: u32,
-        up: bool,
-    ) -> Result<Item, AllocError> {
-        let Item {
-            path: old,
-            what,
-            bytes,
-            boundary,
-        } = self;
-        let is_below = old.starts_with(parent);
-        let mut path = Vec::new(alloc);
-        for (place, number) in old.iter().enumerate() {
-            let is_hit = is_below && place == parent.len() && *number >= from;
-            path.push(match (is_hit, up) {
-                (true, true) => number.saturating_add(1),
-                (true, false) => number.saturating_sub(1),
-                _ => *number,
-            })?;
-        }
-        Ok(Item {
-            path,
-            what,
-            bytes,
-            boundary,
-        })
-    }
-}
-
 /// An item of a section.
 pub fn item_of(alloc: Global, path: &[u32], what: What, bytes: &[u8]) -> Result<Item, AllocError> {
     Ok(Item {

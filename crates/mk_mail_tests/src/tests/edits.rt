@@ -79,7 +79,7 @@ fn many_fields_of_a_name(rt: HostRuntime) -> Result<(), Fail> {
         text.extend_from_slice(b"A: 1\n")?;
     }
     let doc = read(alloc, &text)?;
-    let mut letters = no_letters();
+    let mut letters = no_letters(alloc);
     letters.only = Some(Vec::from_slice(alloc, b"A: 9")?);
     let edits = edits_of(alloc, &doc, &letters)?;
     assert_eq!(rt; edits.len(), 20_001);

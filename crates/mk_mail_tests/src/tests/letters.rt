@@ -2,15 +2,16 @@
 use super::calls::{Call, check};
 use mk_edit::{Edit, Session};
 use mk_line::Meter;
-use mk_mail::{Letters, field_edits};
+use mk_mail::{Letters, NamePattern, field_edits};
 use mk_rows::Row;
 use mk_tree::Doc;
 use std::alloc::{AllocError, Global};
 use std::test::Fail;
 
 /// None of the letters.
-pub fn no_letters() -> Letters {
+pub fn no_letters(alloc: Global) -> Letters {
     Letters {
+        drops: Vec::new(alloc),
         rename: None,
         add_if: None,
         add: None,
@@ -23,12 +24,19 @@ pub fn no_letters() -> Letters {
     }
 }
 
+/// A name, or the front of names.
+fn pattern(text: Vec<u8>, is_front: bool) -> NamePattern {
+    NamePattern { text, is_front }
+}
+
 /// The letters that a row asks for. A name has no colon.
 pub fn letters_in(alloc: Global, row: &Row) -> Result<Letters, AllocError> {
-    let mut letters = no_letters();
+    let mut letters = no_letters(alloc);
     for cell in &row.cells {
         let value = Vec::from_slice(alloc, &cell.bytes)?;
         match cell.key {
+            "drop" => letters.drops.push(pattern(value, false))?,
+            "drop from" => letters.drops.push(pattern(value, true))?,
             "rename" => {
                 let new = Vec::from_slice(alloc, row.bytes("to"))?;
                 letters.rename = Some((value, new));
@@ -127,7 +135,31 @@ whole: A
 first: B
 gives: no
 
+== a name that goes, and its colon
+drop: A:
+gives: no
+
+== no name
+drop from:
+gives: no
+
+== names that go
+drop: A
+drop from: B-
+gives: yes
+
+== one of the names isn't one
+drop: A
+drop: B C
+gives: no
+
+== fields that go, and values
+drop: A
+take: B
+gives: no
+
 == all letters that change a message
+drop: A
 rename: A
 to: B
 add if: A: 1
@@ -266,6 +298,42 @@ gives: X: y\n
 add: X: y
 message: From a\r\nA: 1\n\n
 gives: From a\r\nA: 1\nX: y\r\n\n
+
+== all fields of a name go, and no other
+drop: a
+message: A: 1\nAb: 2\nA: 3\nB: A\n\nA: 4\n
+gives: Ab: 2\nB: A\n\nA: 4\n
+
+== all whose names begin so
+drop from: x-
+message: X-A: 1\nA: 2\nx-b: 3\n 4\nX: 5\nX-: 6\n\n
+gives: A: 2\nX: 5\n\n
+
+== names that aren't there
+drop: C
+drop from: X-
+message: A: 1\nB: 2\n\n
+gives: A: 1\nB: 2\n\n
+
+== several names, in turn
+drop: C
+drop from: X-
+drop: a
+message: A: 1\nX-A: 2\nB: 3\nC: 4\nA: 5\n\n
+gives: B: 3\n\n
+
+== a name by two patterns
+drop from: X-
+drop: X-A
+message: X-A: 1\nB: 3\nx-a: 2\n\n
+gives: B: 3\n\n
+
+== fields go before all else
+drop from: X-
+add: X-New: 1
+add if: X-Old: 2
+message: X-Old: 1\nB: 2\n\n
+gives: B: 2\nX-Old: 2\nX-New: 1\n\n
 
 == letters that only give fields change nothing
 take: A

@@ -80,7 +80,7 @@ message: From c\nA: 3\n\n
 // A source that gives a text, so many bytes at once. The read of one number, counted from 0, fails, and those after it
 // go on.
 #[derive(Drop)]
-struct Bytes<'a> {
+pub struct Bytes<'a> {
     rest: &'a [u8],
     size: usize,
     failing: u64,
@@ -90,7 +90,7 @@ struct Bytes<'a> {
 }
 
 impl<'a> Bytes<'a> {
-    fn new(text: &'a [u8], size: usize) -> Bytes<'a> {
+    pub fn new(text: &'a [u8], size: usize) -> Bytes<'a> {
         Bytes::failing(text, size, u64::MAX)
     }
 

@@ -4,7 +4,7 @@ use super::devices::{Page, Text};
 use super::memory::page;
 use super::{SIZES, check_left, pieces_of};
 use mk_rows::{Row, rows};
-use mk_run::{Journal, Script, Status, give_up, run_edit, try_edit};
+use mk_run::{Journal, Pieces, Script, Status, give_up, run_edit, try_edit};
 use std::alloc::Global;
 use std::process::Abort;
 use std::test::Fail;
@@ -86,7 +86,14 @@ fn check_row(rt: &impl Abort, alloc: Global, row: &Row, size: usize) -> Result<(
     let mut jout = Page::new(alloc, size)?;
     let journal = Journal::Off;
     let done = try_edit(
-        alloc, &mut input, &mut out, &mut err, script, &pieces, journal, &mut jout,
+        alloc,
+        &mut input,
+        &mut out,
+        &mut err,
+        script,
+        Pieces::as_given(&pieces),
+        journal,
+        &mut jout,
     );
     let status = match done {
         Ok(status) => status,
@@ -126,7 +133,14 @@ fn check_kept(
     let pieces = Vec::new(alloc);
     let journal = Journal::New;
     match try_edit(
-        alloc, &mut input, &mut out, &mut err, SCRIPT, &pieces, journal, jout,
+        alloc,
+        &mut input,
+        &mut out,
+        &mut err,
+        SCRIPT,
+        Pieces::as_given(&pieces),
+        journal,
+        jout,
     ) {
         Ok(status) => {
             assert_eq!(rt; out.bytes(), EDITED);

@@ -3,9 +3,9 @@
 use super::check_left;
 use super::devices::{Page, Text};
 use super::letters::{letters_in, only};
-use mk_mail::{Letters, Sink, Source};
+use mk_mail::{FromLines, Letters, Sink, Source};
 use mk_rows::{Row, rows};
-use mk_run::{Status, run_field};
+use mk_run::{FieldFilter, Round, Status, give_up, run_field, try_field};
 use std::alloc::Global;
 use std::process::Abort;
 use std::test::Fail;
@@ -262,6 +262,40 @@ errors: message 1: Recut\n
 status: Refused
 "#;
 
+/// The same for each message of a mailbox that is cut only at From-lines with a date.
+const DATED: &str = r#"
+== a sentence of a body stays in it
+only: A: 9
+message: From a Fri Jul  8 12:08:34 2011\nA: 1\n\nFrom here on\nA: 2\n\nFrom b Fri Jul  8 12:08:35 2011\nA: 3\n
+output: From a Fri Jul  8 12:08:34 2011\nA: 9\n\nFrom here on\nA: 2\n\nFrom b Fri Jul  8 12:08:35 2011\nA: 9\n
+status: Well
+
+== empty lines before the first From-line are left as they are
+add: X: y
+message: \n\r\nFrom a Fri Jul  8 12:08:34 2011\nA: 1\n
+output: \n\r\nFrom a Fri Jul  8 12:08:34 2011\nA: 1\nX: y\n
+status: Well
+
+== nothing of them is given
+take: A
+message: \nFrom a Fri Jul  8 12:08:34 2011\nA: 1\n
+output: \x201\n
+status: Well
+
+== nor as fields
+whole: A
+message: \nFrom a Fri Jul  8 12:08:34 2011\nA: 1\n
+output: A: 1\n
+status: Well
+
+== they are the first message
+add: X: y
+message: \nFrom b Fri Jul  8 12:08:34 2011\n y\n
+output: \nFrom b Fri Jul  8 12:08:34 2011\n y\n
+errors: message 2: Recut\n
+status: Refused
+"#;
+
 // What a run left.
 #[derive(Drop)]
 struct Left {
@@ -316,6 +350,37 @@ fn letters_filter_a_mailbox(rt: HostRuntime) -> Result<(), Fail> {
     for row in &rows(rt.alloc(), MAILBOXES)? {
         for size in 1..60usize {
             check_row(&rt, rt.alloc(), row, size, true)?;
+        }
+    }
+    Ok(())
+}
+
+fn check_dated(rt: &impl Abort, alloc: Global, row: &Row, size: usize) -> Result<(), Fail> {
+    let letters = letters_in(alloc, row)?;
+    let rounds = [Round::new(&letters)];
+    let filter = FieldFilter {
+        from_lines: FromLines::Dated,
+        ..FieldFilter::new(&rounds)
+    };
+    let mut input = Text::new(row.bytes("message"), size);
+    let mut out = Page::new(alloc, size)?;
+    let mut err = Page::new(alloc, size)?;
+    if !filter.ok() {
+        assert!(rt; false, "{}", row.shows);
+        return Ok(());
+    }
+    let status = match try_field(alloc, &mut input, &mut out, &mut err, &filter, true) {
+        Ok(status) => status,
+        Err(cause) => give_up(&mut err, cause),
+    };
+    check_left(rt, alloc, row, status, &out, &err)
+}
+
+#[test]
+fn letters_filter_a_mailbox_with_dates(rt: HostRuntime) -> Result<(), Fail> {
+    for row in &rows(rt.alloc(), DATED)? {
+        for size in [1, 7, 1_000] {
+            check_dated(&rt, rt.alloc(), row, size)?;
         }
     }
     Ok(())

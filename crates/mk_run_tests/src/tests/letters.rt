@@ -4,8 +4,9 @@ use mk_mail::Letters;
 use mk_rows::Row;
 use std::alloc::{AllocError, Global};
 
-fn no_letters() -> Letters {
+fn no_letters(alloc: Global) -> Letters {
     Letters {
+        drops: Vec::new(alloc),
         rename: None,
         add_if: None,
         add: None,
@@ -20,14 +21,14 @@ fn no_letters() -> Letters {
 
 /// One letter, which leaves one field of its name.
 pub fn only(alloc: Global, field: &[u8]) -> Result<Letters, AllocError> {
-    let mut letters = no_letters();
+    let mut letters = no_letters(alloc);
     letters.only = Some(Vec::from_slice(alloc, field)?);
     Ok(letters)
 }
 
 /// The letters that a row asks for.
 pub fn letters_in(alloc: Global, row: &Row) -> Result<Letters, AllocError> {
-    let mut letters = no_letters();
+    let mut letters = no_letters(alloc);
     for cell in &row.cells {
         let value = Vec::from_slice(alloc, &cell.bytes)?;
         match cell.key {

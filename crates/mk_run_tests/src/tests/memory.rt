@@ -15,8 +15,33 @@ use mk_run::{
     run_sections, unpack,
 };
 use mk_script::{ScriptError, path, steps};
-use std::alloc::Global;
+use std::alloc::{AllocError, Global};
 use std::process::Abort;
+
+/// A script on a message, and what comes of it.
+#[derive(Clone, Copy)]
+struct Case {
+    message: &'static [u8],
+    script: &'static [u8],
+    output: &'static [u8],
+    errors: &'static [u8],
+}
+
+const EDITS: Case = Case {
+    message: MESSAGE,
+    script: SCRIPT,
+    output: OUTPUT,
+    errors: ERRORS,
+};
+
+const JOBS: Case = Case {
+    message: b"A: b\nA: c\nContent-Type: multipart/mixed; boundary=b\n\n--b\nContent-Transfer-Encoding: base64\n\nYQ==\n--b\n\nx\n--b--\n",
+    script: b"attach 1 x n 1\ncontent 1.1 1\nput 1 A: d\nremove 1.2 1.2\nbegin\nappend 1 1\nattach 1 text/plain n 1\nend\ndrop 1 A\nundo\nundo\n",
+    output: b"A: d\nContent-Type: multipart/mixed; boundary=b\n\n--b\nContent-Transfer-Encoding: base64\n\naGkK\n--b--\n",
+    errors: b"line 1: BadType\n",
+};
+
+const PIECE: &[u8] = b"hi\n";
 
 const MESSAGE: &[u8] =
     b"A: b\nContent-Type: multipart/mixed; boundary=\"a:b\"\n\n--a:b\n\nx\n--a:b--\n";
@@ -67,22 +92,38 @@ fn memory_for_a_text(rt: HostRuntime) {
 
 #[test]
 fn memory_for_a_run(rt: HostRuntime) {
-    let alloc = rt.alloc();
+    check_case(&rt, rt.alloc(), EDITS);
+}
+
+#[test]
+fn memory_for_words_of_several_edits(rt: HostRuntime) {
+    check_case(&rt, rt.alloc(), JOBS);
+}
+
+fn check_case(rt: &impl Abort, alloc: Global, case: Case) {
     // Where the test's own devices get no memory, there is nothing to see.
     let (Ok(out), Ok(err)) = (Page::new(alloc, SIZE), Page::new(alloc, SIZE)) else {
         return;
     };
-    let Ok(jout) = Page::new(alloc, SIZE) else {
+    let (Ok(jout), Ok(pieces)) = (Page::new(alloc, SIZE), pieces_in(alloc)) else {
         return;
     };
-    if check_run(&rt, alloc, out, err, jout) == Status::Memory {
-        let (out, err, jout) = (page(&rt, alloc), page(&rt, alloc), page(&rt, alloc));
-        assert_eq!(rt; check_run(&rt, alloc, out, err, jout), Status::Refused);
+    if check_run(rt, alloc, case, &pieces, out, err, jout) == Status::Memory {
+        let (out, err, jout) = (page(rt, alloc), page(rt, alloc), page(rt, alloc));
+        assert_eq!(rt;
+            check_run(rt, alloc, case, &pieces, out, err, jout),
+            Status::Refused
+        );
     }
 }
 
-// A device, where there is memory again.
-/// An empty page.
+fn pieces_in(alloc: Global) -> Result<Vec<Vec<u8>>, AllocError> {
+    let mut pieces = Vec::new(alloc);
+    pieces.push(Vec::from_slice(alloc, PIECE)?)?;
+    Ok(pieces)
+}
+
+/// An empty page, where there is memory again.
 pub fn page(rt: &impl Abort, alloc: Global) -> Page {
     Page::new(alloc, SIZE).expect(rt, "memory")
 }
@@ -91,15 +132,23 @@ pub fn page(rt: &impl Abort, alloc: Global) -> Page {
 fn check_run(
     rt: &impl Abort,
     alloc: Global,
+    case: Case,
+    pieces: &[Vec<u8>],
     mut out: Page,
     mut err: Page,
     mut jout: Page,
 ) -> Status {
-    let pieces = Vec::new(alloc);
-    let mut input = Text::new(MESSAGE, SIZE);
+    let mut input = Text::new(case.message, SIZE);
     let journal = Journal::New;
     let status = run_edit(
-        alloc, &mut input, &mut out, &mut err, SCRIPT, &pieces, journal, &mut jout,
+        alloc,
+        &mut input,
+        &mut out,
+        &mut err,
+        case.script,
+        pieces,
+        journal,
+        &mut jout,
     );
     if status == Status::Memory {
         assert_eq!(rt; out.bytes(), b"".as_slice());
@@ -108,8 +157,8 @@ fn check_run(
         assert!(rt; err.bytes().ends_with(b"mimetool: memory\n"));
     } else {
         assert_eq!(rt; status, Status::Refused);
-        assert_eq!(rt; out.bytes(), OUTPUT);
-        assert_eq!(rt; err.bytes(), ERRORS);
+        assert_eq!(rt; out.bytes(), case.output);
+        assert_eq!(rt; err.bytes(), case.errors);
         assert!(rt; out.is_finished());
         assert!(rt; jout.is_finished());
     }

@@ -101,8 +101,8 @@ status: Well
 
 const SIZES: [usize; 2] = [1, 1_000];
 
-// The files that a folder has before. A key has the name of a file after the word.
-fn fill(dir: &mut Shelf, row: &Row) -> Result<(), Fail> {
+/// The files that a folder has before. A key has the name of a file after the word.
+pub(super) fn fill(dir: &mut Shelf, row: &Row) -> Result<(), Fail> {
     for cell in &row.cells {
         if let Some(name) = cell.key.strip_prefix("before ") {
             dir.add(name.as_bytes(), &cell.bytes)?;
@@ -111,8 +111,8 @@ fn fill(dir: &mut Shelf, row: &Row) -> Result<(), Fail> {
     Ok(())
 }
 
-// A folder has the files that a row has after a run, and no others.
-fn check_files(rt: &impl Abort, dir: &Shelf, row: &Row) {
+/// A folder has the files that a row has after a run, and no others.
+pub(super) fn check_files(rt: &impl Abort, dir: &Shelf, row: &Row) {
     let mut count: usize = 0;
     for cell in &row.cells {
         if let Some(name) = cell.key.strip_prefix("after ") {

@@ -1,17 +1,13 @@
 //! Values of fields as people write them: what `--unfold` and `--decode` print, and what `--encode` puts in. The expected
 //! bytes are worked out by hand from RFC 5322 and RFC 2047.
 
-ghost use Rattle.std.specs.Prelude.{◌≡◌, true};
-ghost use Rattle.mk_mail.specs.LetterViews.{letters_of};
-ghost use Rattle.mk_mail.specs.Letters.{are_allowed};
-
 use super::check_left;
 use super::devices::{Page, Text};
 use super::memory::page;
 use mk_line::Ending;
 use mk_mail::Letters;
 use mk_rows::{Row, rows};
-use mk_run::{FieldFilter, LetterWords, Status, ValueForm, give_up, try_field};
+use mk_run::{FieldFilter, LetterWords, Round, Status, ValueForm, give_up, try_field};
 use std::alloc::{AllocError, Global};
 use std::process::Abort;
 use std::test::Fail;
@@ -185,15 +181,14 @@ fn word<'a>(row: &'a Row, key: &str) -> Option<&'a str> {
     std::str::from_utf8(&cell.bytes).ok()
 }
 
-fn words_in(row: &Row) -> LetterWords<'_> {
-    LetterWords {
-        add_if: word(row, "add if"),
-        add: word(row, "add"),
-        prefixed: word(row, "prefixed"),
-        only: word(row, "only"),
-        take: word(row, "take"),
-        ..LetterWords::default()
-    }
+fn words_in(alloc: Global, row: &Row) -> LetterWords<'_> {
+    let mut words = LetterWords::none(alloc);
+    words.add_if = word(row, "add if");
+    words.add = word(row, "add");
+    words.prefixed = word(row, "prefixed");
+    words.only = word(row, "only");
+    words.take = word(row, "take");
+    words
 }
 
 // Runs the filter of a row over devices that give and take this many bytes a call.
@@ -204,7 +199,7 @@ fn check_row(
     form: ValueForm,
     size: usize,
 ) -> Result<(), Fail> {
-    let words = words_in(row);
+    let words = words_in(alloc, row);
     let (Some(lf), Some(crlf)) = (
         words.letters_in_words(alloc, Ending::Lf)?,
         words.letters_in_words(alloc, Ending::Crlf)?,
@@ -212,12 +207,15 @@ fn check_row(
         assert!(rt; false, "no letters: {row:?}");
         return Ok(());
     };
-    assert!(rt; lf.ok() && crlf.ok(), "{row:?}");
-    let filter = FieldFilter {
+    let rounds = [Round {
         lf: &lf,
         crlf: &crlf,
+    }];
+    let filter = FieldFilter {
         form,
+        ..FieldFilter::new(&rounds)
     };
+    assert!(rt; filter.ok(), "{row:?}");
     let mut out = Page::new(alloc, size)?;
     let mut err = Page::new(alloc, size)?;
     let mut input = Text::new(row.bytes("message"), size);
@@ -254,10 +252,8 @@ fn values_are_encoded(rt: HostRuntime) -> Result<(), Fail> {
 
 // The field of `-I` goes into encoded words.
 fn check_encoding(rt: &impl Abort, alloc: Global) -> Result<(), AllocError> {
-    let words = LetterWords {
-        only: Some("A: \u{e4}"),
-        ..LetterWords::default()
-    };
+    let mut words = LetterWords::none(alloc);
+    words.only = Some("A: \u{e4}");
     let Some(letters) = words.letters_in_words(alloc, Ending::Lf)? else {
         assert!(rt; false, "no letters");
         return Ok(());
@@ -294,14 +290,15 @@ fn check_values(
     letters: &Letters,
     form: ValueForm,
     values: &[u8],
-) -> Status
-    requires { are_allowed (letters_of letters.now) ≡ true }
-{
+) -> Status {
+    let rounds = [Round::new(letters)];
     let filter = FieldFilter {
-        lf: letters,
-        crlf: letters,
         form,
+        ..FieldFilter::new(&rounds)
     };
+    if !filter.ok() {
+        return Status::Usage;
+    }
     let mut input = Text::new(WORDS, 1_000);
     match try_field(alloc, &mut input, &mut out, &mut err, &filter, false) {
         Ok(status) => {
@@ -317,10 +314,8 @@ fn check_values(
 
 // Asks for the values of the fields of a name, and again where memory was refused.
 fn check_memory(rt: &impl Abort, alloc: Global, form: ValueForm, values: &[u8]) {
-    let words = LetterWords {
-        take: Some("A:"),
-        ..LetterWords::default()
-    };
+    let mut words = LetterWords::none(alloc);
+    words.take = Some("A:");
     let (Ok(Some(letters)), Ok(out), Ok(err)) = (
         words.letters(alloc),
         Page::new(alloc, 1_000),
@@ -328,7 +323,7 @@ fn check_memory(rt: &impl Abort, alloc: Global, form: ValueForm, values: &[u8]) 
     ) else {
         return;
     };
-    if letters.ok() && check_values(rt, alloc, out, err, &letters, form, values) == Status::Memory {
+    if check_values(rt, alloc, out, err, &letters, form, values) == Status::Memory {
         let (out, err) = (page(rt, alloc), page(rt, alloc));
         assert_eq!(rt;
             check_values(rt, alloc, out, err, &letters, form, values),

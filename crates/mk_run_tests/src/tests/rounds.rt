@@ -1,0 +1,209 @@
+//! Letters that are given again: rounds, each on what the one before it left. The expected bytes are worked out by hand.
+
+use super::check_left;
+use super::devices::{Page, Text};
+use mk_rows::{Cell, Row, rows};
+use mk_run::{
+    FieldFilter, Letter, LetterWord, LetterWords, Status, give_up, letters_of_rounds, rounds,
+    rounds_of_words, try_field,
+};
+use std::alloc::{AllocError, Global};
+use std::process::Abort;
+use std::test::Fail;
+
+/// Letters in the order of the command line, a message, and what comes of them.
+const ROWS: &str = r#"
+== one field after another
+only: A: 1
+only: B: 2
+message: B: 0\nC: 3\n\n
+output: C: 3\nA: 1\nB: 2\n\n
+status: Well
+
+== the second round works on what the first one left
+add: A: 1
+add: A: 2
+last: A:
+message: A: 0\nB: 0\n\n
+output: B: 0\nA: 2\n\n
+status: Well
+
+== a name that the first round made is renamed by the second
+rename: A:B
+rename: B:C
+message: A: 1\nB: 2\n\n
+output: C: 1\nC: 2\n\n
+status: Well
+
+== two names change places
+rename: A:X-A
+rename: B:A
+rename: X-A:B
+message: A: 1\nB: 2\n\n
+output: B: 1\nA: 2\n\n
+status: Well
+
+== letters of a round work in their own order, whatever the order of their words
+last: A:
+add: A: 1
+last: B:
+message: A: 0\nB: 1\nB: 2\n\n
+output: B: 2\nA: 1\n\n
+status: Well
+
+== a name that goes is of the round that has begun
+add: X-A: 1
+drop: X-*:
+drop: B:
+add: X-A: 2
+message: X-A: 0\nB: 0\nC: 0\n\n
+output: C: 0\nX-A: 1\nX-A: 2\n\n
+status: Well
+
+== what the first round added goes in the second
+add: X-A: 1
+add: X-B: 2
+drop: X-A:
+message: X-A: 0\n\n
+output: X-B: 2\n\n
+status: Well
+
+== a round that is refused leaves no earlier one
+only: A: 1
+only: Content-Type:
+message: Content-Type: multipart/mixed; boundary=b\n\n--b\n\none\n--b--\n
+output: Content-Type: multipart/mixed; boundary=b\n\n--b\n\none\n--b--\n
+errors: message 1: Recut\n
+status: Refused
+
+== nor does it stop at a later one
+only: Content-Type:
+only: A: 1
+message: Content-Type: multipart/mixed; boundary=b\n\n--b\n\none\n--b--\n
+output: Content-Type: multipart/mixed; boundary=b\n\n--b\n\none\n--b--\n
+errors: message 1: Recut\n
+status: Refused
+
+== two rounds before the one that is refused
+only: A: 1
+only: B: 2
+only: Content-Type:
+message: A: 0\nContent-Type: multipart/mixed; boundary=b\n\n--b\n\none\n--b--\n
+output: A: 0\nContent-Type: multipart/mixed; boundary=b\n\n--b\n\none\n--b--\n
+errors: message 1: Recut\n
+status: Refused
+
+== the ending is that of the message as the round before left it
+only: A:
+only: B: 2
+message: A: 1\r\nC: 3\n\n
+output: C: 3\nB: 2\n\n
+status: Well
+
+== values of a name, alone
+take: A:
+message: A: 1\n\n
+output: \x201\n
+status: Well
+
+== values of a name beside a letter
+take: A:
+add: B: 1
+message: A: 1\n\n
+status: Usage
+
+== values of two names
+take: A:
+take: B:
+message: A: 1\n\n
+status: Usage
+"#;
+
+/// The same of the messages of a mailbox.
+const MAILBOXES: &str = r#"
+== each message by itself
+only: A: 1
+only: Content-Type:
+message: From a\nA: 0\nContent-Type: text/plain\n\nFrom b\nContent-Type: multipart/mixed; boundary=b\n\n--b\n\none\n--b--\n\nFrom c\nA: 3\n\n
+output: From a\nA: 1\n\nFrom b\nContent-Type: multipart/mixed; boundary=b\n\n--b\n\none\n--b--\n\nFrom c\nA: 1\n\n
+errors: message 2: Recut\n
+status: Refused
+"#;
+
+fn letter(key: &str) -> Option<Letter> {
+    match key {
+        "drop" => Some(Letter::Drops),
+        "rename" => Some(Letter::Rename),
+        "add if" => Some(Letter::AddIf),
+        "add" => Some(Letter::Add),
+        "prefixed" => Some(Letter::Prefixed),
+        "only" => Some(Letter::Only),
+        "first" => Some(Letter::First),
+        "last" => Some(Letter::Last),
+        "take" => Some(Letter::Take),
+        "whole" => Some(Letter::Whole),
+        _ => None,
+    }
+}
+
+fn word(cell: &Cell) -> Option<LetterWord<'_>> {
+    let letter = letter(cell.key)?;
+    match std::str::from_utf8(&cell.bytes) {
+        Ok(word) => Some(LetterWord { letter, word }),
+        Err(_) => None,
+    }
+}
+
+/// The rounds that a row asks for.
+fn rounds_in(alloc: Global, row: &Row) -> Result<Vec<LetterWords<'_>>, AllocError> {
+    let mut words = Vec::new(alloc);
+    for cell in &row.cells {
+        if let Some(word) = word(cell) {
+            words.push(word)?;
+        }
+    }
+    rounds_of_words(alloc, &words)
+}
+
+fn check_row(
+    rt: &impl Abort,
+    alloc: Global,
+    row: &Row,
+    size: usize,
+    each: bool,
+) -> Result<(), Fail> {
+    let words = rounds_in(alloc, row)?;
+    let Some(letters) = letters_of_rounds(alloc, &words, false)? else {
+        return Err(Fail::new("a name without its colon"));
+    };
+    let rounds = rounds(alloc, &letters)?;
+    let filter = FieldFilter::new(&rounds);
+    let mut input = Text::new(row.bytes("message"), size);
+    let mut out = Page::new(alloc, size)?;
+    let mut err = Page::new(alloc, size)?;
+    let status = if filter.ok() {
+        match try_field(alloc, &mut input, &mut out, &mut err, &filter, each) {
+            Ok(status) => status,
+            Err(cause) => give_up(&mut err, cause),
+        }
+    } else {
+        Status::Usage
+    };
+    check_left(rt, alloc, row, status, &out, &err)
+}
+
+#[test]
+fn rounds_filter_a_message(rt: HostRuntime) -> Result<(), Fail> {
+    for row in &rows(rt.alloc(), ROWS)? {
+        check_row(&rt, rt.alloc(), row, 7, false)?;
+    }
+    Ok(())
+}
+
+#[test]
+fn rounds_filter_a_mailbox(rt: HostRuntime) -> Result<(), Fail> {
+    for row in &rows(rt.alloc(), MAILBOXES)? {
+        check_row(&rt, rt.alloc(), row, 7, true)?;
+    }
+    Ok(())
+}
