@@ -104,12 +104,38 @@ SYNTAX = [
 ]
 
 
+SPACES = "words are separated by exactly one space"
+FEW = "too few arguments"
+MANY = "too many arguments"
+PATH = "invalid path; write numbers from 1 with dots between them, such as 1.2"
+
+# Scripts without pieces, and why a line of each is invalid.
+REASONS = [
+    (b"x\n", 1, "unknown word"), (b"Undo\n", 1, "unknown word"), (b"x 1 A: b\n", 1, "unknown word"), (b"undo\nadd\n", 2, FEW),
+    (b"add 1\n", 1, FEW), (b"del 1 A\n", 1, FEW), (b"ren 1 A 1\n", 1, FEW), (b"wrap 1 mixed\n", 1, FEW), (b"encode 1\n", 1, FEW),
+    (b"undo 1\n", 1, MANY), (b"undo \n", 1, MANY), (b"del 1 A 1 2\n", 1, MANY), (b"ren 1 A 1 B C\n", 1, MANY),
+    (b"drop 1 A B\n", 1, MANY), (b" add 1 A: b\n", 1, SPACES), (b"add  1 A: b\n", 1, SPACES), (b"del 1  A 1\n", 1, SPACES),
+    (b"remove 1.1 \n", 1, PATH), (b"remove  1.1\n", 1, SPACES), (b"drop 1 \n", 1, SPACES), (b"add x A: b\n", 1, PATH),
+    (b"add 1. A: b\n", 1, PATH), (b"add 01 A: b\n", 1, PATH), (b"put 1..2 A: b\n", 1, PATH), (b"del 1 A x\n", 1, "invalid number"),
+    (b"del 1 A 01\n", 1, "invalid number"), (b"insert 1 x 1\n", 1, "invalid number"), (b"body 1 x\n", 1, "invalid number"),
+    (b"body 1 1\n", 1, "no such piece"), (b"attach 1 a/b c 1\n", 1, "no such piece"),
+    (b"encode 1 7bit\n", 1, "invalid encoding; write qp, base64 or 8bit"), (b"begin\nundo\nend\n", 2, "undo and redo can't be in a group"),
+    (b"begin\n", 1, "begin without end, or inside a group"), (b"begin\nbegin\nend\n", 2, "begin without end, or inside a group"),
+    (b"end\n", 1, "end without begin"),
+]
+
+
 def syntax():
     """Scripts with a fault: its line is named, nothing is printed, and no journal is made."""
     for script, line in SYNTAX:
         errors = f"script: line {line}: syntax\n".encode()
         yield Row(f"the script {script!r}", ["edit", "s"], errors, 2, {"s": script})
-    errors = b"script: line 2: syntax\n"
+    for script, line, reason in REASONS:
+        errors = f"script: line {line}: {reason}\nscript: line {line}: syntax\n".encode()
+        yield Row(f"why the script {script!r} is invalid", ["edit", "--explain", "s"], errors, 2, {"s": script})
+    errors = b"script: line 1: with --all, each line has to be an edit\nscript: line 1: syntax\n"
+    yield Row("undo with --all", ["edit", "--all", "-e", "undo"], errors, 2)
+    errors = b"script: line 2: unknown word\nscript: line 2: syntax\n"
     yield Row("a fault in the second -e", ["edit", "-e", "undo", "-e", "x"], errors, 2)
     yield Row("a fault in the second line of one -e", ["edit", "-e", "undo\nx"], errors, 2)
     yield Row("a fault beside a journal", ["edit", "-e", "undo", "-e", "x", "-j", "j"], errors, 2)

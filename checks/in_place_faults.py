@@ -32,7 +32,7 @@ def stays(program, shows, folder, words, status, errors, **options):
 def check_refused(program):
     """Faults before anything is written."""
     for words, status, errors in (
-        (["edit", "s"], 2, b"script: line 2: syntax\n"), (["edit", "-e", "add 1 C: d", "-e", "x"], 2, b"script: line 2: syntax\n"),
+        (["edit", "s"], 2, b"script: line 2: syntax\n"), (["edit", "-e", "add 1 C: d", "-e", "x"], 2, b"script: line 2: unknown word\nscript: line 2: syntax\n"),
         ([*ADD, "-j", "bad"], 1, b"journal: JournalSyntax 0\n"), (["undo", "-j", "bad"], 1, b"journal: JournalSyntax 0\n"),
         (["redo", "-j", "other"], 1, b"journal: JournalOther\n"), ([*ADD, "none"], 3, read_fault("none", MISSING)),
         (["edit", "none"], 3, read_fault("none", MISSING)), ([*ADD, "-j", "none/j"], 3, write_fault("none/j", MISSING)),

@@ -2,28 +2,29 @@
 
 ALBUM = """\
 {"path":"1","kind":"multi","type":"multipart/mixed","encoding":"identity","start":0,"body":120,"end":529,"field_lines":4,"body_lines":20,"boundary":"cut here"}
-{"path":"1.1","kind":"leaf","type":"text/plain","encoding":"quoted-printable","start":159,"body":244,"end":267,"field_lines":2,"body_lines":2,"charset":"utf-8","stored_as":"part-1.1"}
-{"path":"1.2","kind":"leaf","type":"image/gif","encoding":"base64","start":278,"body":353,"end":402,"field_lines":2,"body_lines":1,"filename":"dot.gif","raw_filename":"dot.gif","stored_as":"dot.gif"}
+{"path":"1.1","kind":"leaf","type":"text/plain","encoding":"quoted-printable","start":159,"body":244,"end":267,"field_lines":2,"body_lines":2,"charset":"utf-8","stored_as":"part-1.1","size":20}
+{"path":"1.2","kind":"leaf","type":"image/gif","encoding":"base64","start":278,"body":353,"end":402,"field_lines":2,"body_lines":1,"filename":"dot.gif","raw_filename":"dot.gif","stored_as":"dot.gif","size":34}
 {"path":"1.3","kind":"message","type":"message/rfc822","encoding":"identity","start":413,"body":443,"end":516,"field_lines":1,"body_lines":4}
-{"path":"1.3.1","kind":"leaf","type":"text/plain","encoding":"identity","start":443,"body":498,"end":516,"field_lines":2,"body_lines":1,"stored_as":"part-1.3.1"}
+{"path":"1.3.1","kind":"leaf","type":"text/plain","encoding":"identity","start":443,"body":498,"end":516,"field_lines":2,"body_lines":1,"stored_as":"part-1.3.1","size":17}
 """
 
 
-def leaf(**said):
-    """A leaf; the name as it is written is `filename` unless it is said."""
+def leaf(size=1, **said):
+    """A leaf with a content of one byte, unless its size is said; the name as it is written is `filename` unless it is said."""
+    said = {**said, "size": size}
     if "filename" in said:
         said = {"raw_filename": said["filename"], **said}
     return {"kind": "leaf", **{key: value for key, value in said.items() if value is not None}}
 
 
 def of(fields, **said):
-    """A message of one leaf with these fields."""
-    return fields + b"\n\nx\n", [leaf(**said)]
+    """A message of one leaf with these fields, and a content of two bytes."""
+    return fields + b"\n\nx\n", [leaf(**{"size": 2, **said})]
 
 
 def disposed(value, filename, stored_as):
-    """A leaf with a Content-Disposition."""
-    return of(b"Content-Disposition: " + value, filename=filename, stored_as=stored_as)
+    """A leaf with a Content-Disposition, whose disposition is in lower case and has no blanks or comments around it."""
+    return of(b"Content-Disposition: " + value, disposition=value.split(b";")[0].decode(), filename=filename, stored_as=stored_as)
 
 
 def multi(boundary, *parts, fields=b"Content-Type: multipart/mixed; boundary=%s"):
@@ -40,12 +41,12 @@ DIGEST = multi(b"d", b"\nSubject: s\n\none", b"Content-Type: text/plain; charset
 
 # What a row shows, its message, and what is said of each section in turn.
 ROWS = [
-    ("an empty message", b"", [leaf(type="text/plain", stored_as=PART)]),
-    ("no fields", b"\nx\n", [leaf(type="text/plain", stored_as=PART)]),
-    ("no body", b"A: b\n", [leaf(stored_as=PART)]),
-    ("an envelope", b"From a\nA: b\n\nx\n", [leaf(stored_as=PART)]),
-    ("CR LF", b"Content-Type: image/gif;\r\n name=\"a.gif\"\r\n\r\nx\r\n", [leaf(type="image/gif", filename="a.gif", stored_as="a.gif")]),
-    ("bytes alone", b"\x00\xff\n", [leaf(stored_as=PART)]),
+    ("an empty message", b"", [leaf(type="text/plain", stored_as=PART, size=0)]),
+    ("no fields", b"\nx\n", [leaf(type="text/plain", stored_as=PART, size=2)]),
+    ("no body", b"A: b\n", [leaf(stored_as=PART, size=0)]),
+    ("an envelope", b"From a\nA: b\n\nx\n", [leaf(stored_as=PART, size=2)]),
+    ("CR LF", b"Content-Type: image/gif;\r\n name=\"a.gif\"\r\n\r\nx\r\n", [leaf(type="image/gif", filename="a.gif", stored_as="a.gif", size=3)]),
+    ("bytes alone", b"\x00\xff\n", [leaf(stored_as=PART, size=3)]),
     ("a charset", *of(b"Content-Type: text/plain; charset=UTF-8", charset="UTF-8", stored_as=PART)),
     ("a charset in quotes", *of(b'Content-Type: text/plain; charset="iso-8859-1"', charset="iso-8859-1", stored_as=PART)),
     ("a charset with a comment", *of(b"Content-Type: text/plain; charset=us-ascii (plain)", charset="us-ascii", stored_as=PART)),
@@ -58,11 +59,11 @@ ROWS = [
     ("a name", *of(b"Content-Type: image/gif; name=a.gif", filename="a.gif", stored_as="a.gif")),
     ("a file name", *disposed(b"attachment; filename=a.gif", "a.gif", "a.gif")),
     ("a file name before a name", *of(b"Content-Type: image/gif; name=a.gif\nContent-Disposition: inline; filename=b.gif",
-                                      filename="b.gif", stored_as="b.gif")),
-    ("a disposition without a file name", *of(b"Content-Disposition: inline\nContent-Type: image/gif; name=a.gif", filename="a.gif", stored_as="a.gif")),
-    ("a file name that is empty", *of(b'Content-Type: image/gif; name=a\nContent-Disposition: inline; filename=""', filename="", stored_as=PART)),
+                                      disposition="inline", filename="b.gif", stored_as="b.gif")),
+    ("a disposition without a file name", *of(b"Content-Disposition: inline\nContent-Type: image/gif; name=a.gif", disposition="inline", filename="a.gif", stored_as="a.gif")),
+    ("a file name that is empty", *of(b'Content-Type: image/gif; name=a\nContent-Disposition: inline; filename=""', disposition="inline", filename="", stored_as=PART)),
     ("a file name without a disposition", *of(b"Content-Disposition: filename=a", stored_as=PART)),
-    ("a name of a disposition", *of(b"Content-Disposition: inline; name=a", stored_as=PART)),
+    ("a name of a disposition", *of(b"Content-Disposition: inline; name=a", disposition="inline", stored_as=PART)),
     ("blanks in a file name", *disposed(b'inline; filename="a b.gif"', "a b.gif", "a_b.gif")),
     ("a folded file name", *disposed(b'inline;\n filename="a\n b.gif"', "a b.gif", "a_b.gif")),
     ("quotes in a file name", *disposed(rb'inline; filename="a \"b\".gif"', 'a "b".gif', "a__b_.gif")),
@@ -79,15 +80,15 @@ ROWS = [
     ("a byte that isn't UTF-8", *disposed(b'inline; filename="caf\xe9.gif"', "caf\ufffd.gif", "caf_.gif")),
     ("bytes that can't be UTF-8", *disposed(b'inline; filename="\xff\xfe"', "\ufffd\ufffd", "__")),
     ("a charset that isn't UTF-8", *of(b"Content-Type: text/plain; charset=\xff", charset="\ufffd", stored_as=PART)),
-    ("an encoded word", *of(b'Content-Disposition: inline; filename="=?utf-8?q?a=C3=A4.gif?="', filename="a\u00e4.gif",
+    ("an encoded word", *of(b'Content-Disposition: inline; filename="=?utf-8?q?a=C3=A4.gif?="', disposition="inline", filename="a\u00e4.gif",
                             raw_filename="=?utf-8?q?a=C3=A4.gif?=", stored_as="__utf-8_q_a_C3_A4.gif__")),
-    ("an extended parameter", *of(b"Content-Disposition: inline; filename*=utf-8''a%20b", filename="a b", raw_filename=None, stored_as=PART)),
+    ("an extended parameter", *of(b"Content-Disposition: inline; filename*=utf-8''a%20b", disposition="inline", filename="a b", raw_filename=None, stored_as=PART)),
     ("a long file name", *disposed(b"inline; filename=" + b"n" * 300, "n" * 300, "n" * 100)),
     ("an unclosed file name", *disposed(b'inline; filename="a; b', "a; b", "a__b")),
     ("a comment in a file name", *disposed(b"inline; filename=a(b)c", "ac", "ac")),
     ("characters that HTML has", *disposed(b'inline; filename="<a>&\'/b"', "<a>&'/b", "b")),
     ("a multipart in a multipart", multi(b"out", INNER, b"\nx"), [
-        {"kind": "multi", "boundary": "out"}, {"kind": "multi", "boundary": "in"}, leaf(stored_as="part-1.1.1"),
+        {"kind": "multi", "boundary": "out"}, {"kind": "multi", "boundary": "in"}, leaf(stored_as="part-1.1.1", size=3),
         leaf(type="image/gif", filename="a.gif", stored_as="a.gif"), leaf(stored_as="part-1.2")]),
     ("names that are the same", multi(b"b", GIF, GIF, b"Content-Type: image/gif; name=a.gif.1\n\nx", GIF, b"Content-Type: text/plain; name=part-1.6\n\nx", b"\nx"), [
         {"boundary": "b"}, leaf(filename="a.gif", stored_as="a.gif"), leaf(filename="a.gif", stored_as="a.gif.1"),
@@ -97,10 +98,29 @@ ROWS = [
         {"boundary": "b"}, leaf(filename="a.gif", stored_as="a.gif"), leaf(filename="A.gif", stored_as="A.gif")]),
     ("a message in a message", b"Content-Type: message/rfc822; name=m\n\nContent-Type: message/rfc822\n\n" + GIF, [
         {"kind": "message", "filename": "m", "raw_filename": "m"}, {"kind": "message"}, leaf(filename="a.gif", stored_as="a.gif")]),
-    ("a message in base64", *of(b"Content-Type: message/rfc822\nContent-Transfer-Encoding: base64", type="message/rfc822", encoding="base64", stored_as=PART)),
-    ("an unknown encoding", *of(b"Content-Transfer-Encoding: x", encoding="other", stored_as=PART)),
+    ("a message in base64", *of(b"Content-Type: message/rfc822\nContent-Transfer-Encoding: base64", type="message/rfc822", encoding="base64", stored_as=PART, size=None)),
+    ("an unknown encoding", *of(b"Content-Transfer-Encoding: x", encoding="other", stored_as=PART, size=None)),
+    ("a disposition in capitals", *of(b"Content-Disposition: ATTachment", disposition="attachment", stored_as=PART)),
+    ("a disposition between blanks", *of(b"Content-Disposition: \t inline \t; a=b", disposition="inline", stored_as=PART)),
+    ("a folded disposition", *of(b"Content-Disposition:\n inline\n ; a=b", disposition="inline", stored_as=PART)),
+    ("a disposition between comments", *of(b'Content-Disposition: (a; "(b)) inline (c); a=b', disposition="inline", stored_as=PART)),
+    ("a disposition with a comment in it", *of(b"Content-Disposition: in(a)line", disposition="inline", stored_as=PART)),
+    ("a disposition of another name", *of(b"Content-Disposition: x-mine+a.b", disposition="x-mine+a.b", stored_as=PART)),
+    ("a disposition in quotes", *of(b'Content-Disposition: "inline"', stored_as=PART)),
+    ("a comment and a disposition in quotes", *of(b'Content-Disposition: (a)"inline"', stored_as=PART)),
+    ("two words for a disposition", *of(b"Content-Disposition: inline attachment", stored_as=PART)),
+    ("an empty disposition", *of(b"Content-Disposition: ; a=b", stored_as=PART)),
+    ("a field without a disposition", *of(b"Content-Disposition:", stored_as=PART)),
+    ("a disposition with a byte that isn't ASCII", *of(b"Content-Disposition: inl\xefne", stored_as=PART)),
+    ("a comment that isn't closed", *of(b"Content-Disposition: (inline", stored_as=PART)),
+    ("two dispositions", *of(b"Content-Disposition: inline\nContent-Disposition: attachment", disposition="inline", stored_as=PART)),
+    ("a disposition of a multipart", multi(b"b", b"\nx", fields=b"Content-Disposition: inline\nContent-Type: multipart/mixed; boundary=b"), [
+        {"kind": "multi", "boundary": "b", "disposition": "inline"}, leaf(stored_as="part-1.1")]),
+    ("quoted-printable", b"Content-Transfer-Encoding: quoted-printable\n\na=3Db=\nc\n", [leaf(stored_as=PART, size=5)]),
+    ("base64 on two lines", b"Content-Transfer-Encoding: base64\n\naGkA\naGk=\n", [leaf(stored_as=PART, size=5)]),
+    ("base64 that isn't whole", b"Content-Transfer-Encoding: base64\n\naGkA\na\n", [leaf(stored_as=PART, size=None)]),
     ("a digest", DIGEST, [
-        {"type": "multipart/digest", "boundary": "d"}, {"kind": "message", "type": "message/rfc822"}, leaf(stored_as="part-1.1.1"),
+        {"type": "multipart/digest", "boundary": "d"}, {"kind": "message", "type": "message/rfc822"}, leaf(stored_as="part-1.1.1", size=3),
         leaf(type="text/plain", charset="koi8-r", stored_as="part-1.2")]),
     ("a multipart with a name and a charset", multi(b"b", b"\nx", fields=b"Content-Type: multipart/mixed; name=n; charset=c; boundary=b"), [
         {"kind": "multi", "boundary": "b", "charset": "c", "filename": "n", "raw_filename": "n"}, leaf(stored_as="part-1.1")]),
@@ -140,12 +160,15 @@ def broad(count):
 
 def deep(levels):
     """Multiparts in multiparts, with a leaf in the last one. At level 101 all is a leaf."""
-    text, said = b"\nx\n", []
+    text, said, size = b"\nx\n", [], 1
     for level in range(levels, 0, -1):
+        if level == 100 and levels > 100:
+            # The leaf of level 101: its content begins after its fields, and the ending before a delimiter isn't in it.
+            size = len(text.split(b"\n\n", 1)[1]) - 1
         text = b"Content-Type: multipart/mixed; boundary=b%d\n\n--b%d\n%s--b%d--\n" % (level, level, text, level)
     for level in range(1, min(levels, 100) + 1):
         said.append({"kind": "multi", "boundary": f"b{level}"})
     level = min(levels, 100) + 1
     last = {"type": "multipart/mixed"} if levels > 100 else {"type": "text/plain"}
-    said.append(leaf(**last, stored_as="part-1" + ".1" * (level - 1)))
+    said.append(leaf(size, **last, stored_as="part-1" + ".1" * (level - 1)))
     return text, said

@@ -11,9 +11,11 @@ FILTERED = MAILBOX.replace(b"A: 1\n", b"A: 1\nC: d\n").replace(b"A: 2\n", b"A: 2
 UNDONE = journal(MESSAGE, b"0 1\n1\n5 0 5\nC: d\n\n")
 LISTING = b"1 leaf text/plain identity 0 6 8 1 1\n"
 OBJECT = (b'{"path":"1","kind":"leaf","type":"text/plain","encoding":"identity","start":0,"body":6,"end":8,"field_lines":1,'
-          b'"body_lines":1,"stored_as":"part-1"}\n')
+          b'"body_lines":1,"stored_as":"part-1","size":2}\n')
 PACKED = (b'Subject: s\nMIME-Version: 1.0\nContent-Type: multipart/mixed; boundary="b"\n\n--b\nContent-Type: text/plain; name="p"\n'
           b'Content-Disposition: attachment; filename="p"\nContent-Transfer-Encoding: quoted-printable\n\nhi\n\n--b--\n')
+SHOWN = b'Content-Type: text/plain; charset=utf-8\nContent-Transfer-Encoding: quoted-printable\n\nhi\n'
+DRESSED = b'Subject: s\nMIME-Version: 1.0\nContent-Type: multipart/digest; boundary="b"\n\n--b\n' + SHOWN + b"\n--b--\n"
 # A leaf that isn't base64, and one that is.
 LEAVES = (b"Content-Type: multipart/mixed; boundary=b\n\n"
           b"--b\nContent-Type: image/gif; name=bad.gif\nContent-Transfer-Encoding: base64\n\naGl=\n"
@@ -47,7 +49,7 @@ def edits():
     yield Case(["edit", "s", "p"], b"A: b\nC: d\n\nhi\n", files=files)
     yield Case(["edit", *ADD, "-j", "new"], EDITED, files=files, left={"new": journal(EDITED, DONE)})
     yield Case(["edit", "-e", "add 1 E: f", "-j", "j"], EDITED.replace(b"d\n", b"d\nE: f\n"), message=EDITED, files=files, left={"j": more})
-    yield Case(["edit", *ADD, "-e", "x"], b"", b"script: line 2: syntax\n", 2, reads=False)
+    yield Case(["edit", *ADD, "-e", "x"], b"", b"script: line 2: unknown word\nscript: line 2: syntax\n", 2, reads=False)
     yield Case(["edit", *ADD, "-j", "bad"], b"", b"journal: JournalSyntax 0\n", 1, files=files)
     yield Case(["undo", "-j", "j"], MESSAGE, message=EDITED, files=files, left={"j": UNDONE})
     yield Case(["redo", "-j", "k"], EDITED, files=files, left={"k": journal(EDITED, DONE)})
@@ -57,6 +59,8 @@ def edits():
 def letters():
     yield Case(["field"], MESSAGE)
     yield Case(["field", "-A", "C: d"], EDITED)
+    yield Case(["field", "--drop", "Z:", "--drop", "X-*:", "-A", "C: d"], EDITED)
+    yield Case(["field", "-A", "Z: 1", "-A", "C: d", "--drop", "Z:"], EDITED)
     yield Case(["field", "-s", "-A", "C: d"], FILTERED, message=MAILBOX)
     yield Case(["field", "-A", "A: b"], OPEN, b"message 1: Recut\n", 1, OPEN, early=True)
 
@@ -80,6 +84,10 @@ def alone():
     files = {"p": b"hi\n"}
     yield Case(["pack", "-b", "b", "text/plain:p"], PACKED, message=b"Subject: s\n", files=files)
     yield Case(["pack", "-b", "b", "text/plain:p"], b"", b"pack: BadField 1\n", 1, b"Subject: s\n\nx\n", files)
+    yield Case(["pack", "-b", "b", "-m", "digest", "--inline", "--charset", "utf-8", "text/plain:p"], DRESSED, message=b"Subject: s\n", files=files)
+    yield Case(["pack", "--part", "text/plain:p", "--inline", "--charset", "utf-8"], SHOWN, files=files, reads=False)
+    yield Case(["pack", "-b", "b", "-m", "a b", "text/plain:p"], b"", b"pack: BadSubtype\n", 1, b"Subject: s\n", files)
+    yield Case(["pack", "-b", "b", "--charset", "", "text/plain:p"], b"", b"pack: BadCharset\n", 1, b"Subject: s\n", files)
     yield Case(["--version"], b"mimetool 0.1.0\n", reads=False)
     yield Case([b"\xff"], b"", b"mimetool: usage\n", 2, reads=False, ended=True)
     yield Case(["sections", "--from", "none"], b"", read_fault("none", MISSING), 3, reads=False, ended=True)

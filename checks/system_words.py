@@ -16,7 +16,7 @@ def faults():
     yield ["extract"], "error: the following required arguments were not provided:\n  -s <PATH>\n"
     for command in ("undo", "redo"):
         yield [command], "error: the following required arguments were not provided:\n  -j <JOURNAL>\n"
-    yield ["pack", "text/plain:none"], "error: the following required arguments were not provided:\n  -b <BOUNDARY>\n"
+    yield ["pack", "-b", "b"], "error: the following required arguments were not provided:\n  <SPEC>...\n"
     yield ["pack", "-b", "b", "text/plain:none", "x"], "error: invalid value 'x' for '<SPEC>...': write TYPE:FILE, as image/gif:dot.gif\n"
     yield ["edit", "none", "-Z"], "error: unexpected argument '-Z' found\n"
 

@@ -4,6 +4,7 @@ A_PAIR = "write two names with a colon between them, as Subject:X-Subject"
 A_FIELD = "write a name, a colon and a value, as 'X-Seen: yes'"
 A_FIELD_OR_NAME = A_FIELD + ", or a name and a colon alone, as X-Seen:"
 A_NAME = "write a name and a colon, as Subject:"
+A_NAME_OR_FRONT = A_NAME + ", or with an asterisk before the colon, as X-*:"
 A_PATH = "write numbers from 1 on with dots between them, as 1.2"
 A_SPEC = "write TYPE:FILE, as image/gif:dot.gif"
 APART = "-x and -X print fields, so neither stands beside another letter"
@@ -25,10 +26,10 @@ OPTIONS = {
     "redo": {"-j <JOURNAL>": "j"},
     "sections": {},
     "extract": {"-s <PATH>": "1"},
-    "unpack": {"-C <DIR>": "d"},
-    "pack": {"-b <BOUNDARY>": "b"},
+    "unpack": {"-C <DIR>": "d", "-s <PATH>": "1"},
+    "pack": {"-b <BOUNDARY>": "b", "-m <SUBTYPE>": "related", "--charset <NAME>": "utf-8"},
     "field": {
-        "--rename <OLD:NEW>": "A:B", "-a <FIELD>": "A: 1", "-A <FIELD>": "A: 1", "-i <FIELD>": "A: 1", "-I <FIELD>": "A: 1",
+        "--drop <NAME:>": "A:", "--rename <OLD:NEW>": "A:B", "-a <FIELD>": "A: 1", "-A <FIELD>": "A: 1", "-i <FIELD>": "A: 1", "-I <FIELD>": "A: 1",
         "-u <NAME:>": "A:", "-U <NAME:>": "A:", "-x <NAME:>": "A:", "-X <NAME:>": "A:",
     },
 }
@@ -37,20 +38,30 @@ for command in WITH_FROM:
 for command in IN_PLACE:
     OPTIONS[command]["--in-place <FILE>"] = "f"
 
-FLAGS = {"sections": ["--json"], "unpack": ["-f", "-t", "--silent", "--utf8"], "field": ["-s"]}
+FLAGS = {
+    "sections": ["--json"], "extract": ["--raw", "--head", "--prefix"], "unpack": ["-f", "-t", "--silent", "--paths", "--utf8"],
+    "pack": ["--inline", "--utf8"], "field": ["-s"],
+}
 
 # Values that a command's argument doesn't take: the words, the argument, the value, and what should stand there.
 VALUES = [
     *[(["extract", "-s", value], "-s <PATH>", value, A_PATH)
       for value in ("", "0", "1.0", "01", "1.01", "1.", ".1", "1..2", "-1", "1,2", "a", " 1", "1 ", "1.4294967296", "1\n")],
+    *[(["unpack", "-s", "1", "-s", value], "-s <PATH>", value, A_PATH) for value in ("", "0", "1.", "-1", "a")],
     *[(["pack", "-b", "b", value], "<SPEC>...", value, A_SPEC) for value in ("text", "text/plain", "", "a b")],
     (["pack", "-b", "b", "text/plain:f", "n"], "<SPEC>...", "n", A_SPEC),
+    *[(["pack", "--part", value], "--part <SPEC>", value, A_SPEC) for value in ("text", "text/plain", "", "a b")],
     *[(["field", "--rename", value], "--rename <OLD:NEW>", value, A_PAIR)
       for value in ("", "AB", ":", "A:", ":B", "A:B C", "A B:C", "A:B:C", "A: B")],
     *[(["field", letter, value], f"{letter} <FIELD>", value, A_FIELD)
       for letter in ("-a", "-A") for value in ("", "x", "A:", "A: ", "A: \t", ": x", "A b: c", "A: b\n", "A: b\nC: d")],
     *[(["field", letter, value], f"{letter} <FIELD>", value, A_FIELD_OR_NAME)
       for letter in ("-i", "-I") for value in ("", "x", ":", ": x", "A b: c", "A: b\n", "A: b\nC: d")],
+    *[(["field", "--drop", value], "--drop <NAME:>", value, A_NAME_OR_FRONT)
+      for value in ("", "A", ":", "A: b", "A b:", "A:B:", "*:", "*", "A b*:", "A*")],
+    (["field", "--drop", "A:", "--drop", "B"], "--drop <NAME:>", "B", A_NAME_OR_FRONT),
+    (["field", "-u", "A", "--drop", "B"], "--drop <NAME:>", "B", A_NAME_OR_FRONT),
+    (["field", "-A", "A: 1", "-A", "x"], "-A <FIELD>", "x", A_FIELD),
     *[(["field", letter, value], f"{letter} <NAME:>", value, A_NAME)
       for letter in ("-u", "-U", "-x", "-X") for value in ("", "A", ":", "A: b", "A b:", "A:B:")],
     (["field", "-A", "A: 1", "-I", "x y"], "-I <FIELD>", "x y", A_FIELD_OR_NAME),
@@ -62,7 +73,7 @@ VALUES = [
 BESIDE = [
     ["-x", "A:", "-X", "A:"],
     *[[letter, "A:", *other] for letter in ("-x", "-X") for other in (
-        ["--rename", "A:B"], ["-a", "A: 1"], ["-A", "A: 1"], ["-i", "A: 1"], ["-I", "A: 1"], ["-u", "A:"], ["-U", "A:"])],
+        ["--drop", "A:"], ["--rename", "A:B"], ["-a", "A: 1"], ["-A", "A: 1"], ["-i", "A: 1"], ["-I", "A: 1"], ["-u", "A:"], ["-U", "A:"])],
 ]
 
 # Other command lines, and all that has to be said of each.
@@ -80,11 +91,11 @@ SAID = [
     ("undo without a journal", ["undo"], ["required arguments were not provided", "-j <JOURNAL>", "Usage: mimetool undo"]),
     ("redo without a journal", ["redo"], ["required arguments were not provided", "-j <JOURNAL>", "Usage: mimetool redo"]),
     ("extract without a path", ["extract"], ["required arguments were not provided", "-s <PATH>", "Usage: mimetool extract"]),
-    ("pack without all", ["pack"], ["required arguments were not provided", "-b <BOUNDARY>", "<SPEC>...", "Usage: mimetool pack"]),
-    ("pack without a boundary", ["pack", "text/plain:f"],
-     ["required arguments were not provided", "-b <BOUNDARY>", "Usage: mimetool pack"]),
+    ("pack without all", ["pack"], ["required arguments were not provided", "<SPEC>...", "Usage: mimetool pack"]),
     ("pack without parts", ["pack", "-b", "b"], ["required arguments were not provided", "<SPEC>...", "Usage: mimetool pack"]),
-    ("a piece that begins with a hyphen", ["edit", "-e", "undo", "-n"], ["unexpected argument '-n' found", "Usage: mimetool edit"]),
+    ("a multipart around a part alone", ["pack", "-m", "digest", "--part", "text/plain:f"],
+     ["cannot be used with", "-m <SUBTYPE>", "--part <SPEC>", "Usage: mimetool pack"]),
+    ("a piece that begins with a hyphen", ["edit", "-e", "undo", "-m"], ["unexpected argument '-m' found", "Usage: mimetool edit"]),
     ("--json with a value", ["sections", "--json=1"], ["--json", "Usage: mimetool sections"]),
     ("--json of another command", ["unpack", "--json"], ["unexpected argument '--json' found", "Usage: mimetool unpack"]),
     ("--utf8 without --json", ["sections", "--utf8"], ["--utf8 goes only with --json", "Usage: mimetool sections"]),
@@ -100,6 +111,10 @@ EXCLUDED = [
     ("field", ["--in-place", "f", "-x", "A:"], ["--in-place <FILE>", "-x <NAME:>"]),
     ("field", ["--in-place", "f", "-X", "A:"], ["--in-place <FILE>", "-X <NAME:>"]),
     ("field", ["-s", "-x", "A:", "--in-place", "f"], ["--in-place <FILE>", "-x <NAME:>"]),
+    ("unpack", ["--silent", "--paths"], ["--silent", "--paths"]),
+    ("extract", ["--raw", "--head"], ["--raw", "--head"]),
+    ("extract", ["--head", "--prefix"], ["--head", "--prefix"]),
+    ("extract", ["--prefix", "--raw"], ["--raw", "--prefix"]),
 ]
 
 # Command lines of which a word isn't UTF-8.
@@ -112,17 +127,21 @@ NO_TEXT = [
 ]
 
 
+# Options that may be given again.
+REPEATED = {("edit", "-e"), ("unpack", "-s"), *(("field", letter) for letter in ("--drop", "--rename", "-a", "-A", "-i", "-I", "-u", "-U"))}
+
+
 def doubled():
     """Each option given twice where it may be given once: the command, its words and the option."""
     for command, options in OPTIONS.items():
         for option, value in options.items():
             word = option.split()[0]
-            if (command, word) != ("edit", "-e"):
+            if (command, word) not in REPEATED:
                 needed = NEEDED[command] if word not in NEEDED[command] else NEEDED[command][2:]
                 yield command, [command, *needed, word, value, word, value], option
     for command, flags in FLAGS.items():
         for flag in flags:
-            yield command, [command, flag, flag], flag
+            yield command, [command, *NEEDED[command], flag, flag], flag
 
 
 def said():

@@ -1,5 +1,5 @@
 # Removes the attachments of a message file in place, as one step, and keeps it in JOURNAL.
 # usage: sh strip.sh MESSAGE JOURNAL
-words=$(mimetool sections --from "$1" |
-    awk '$2 == "leaf" && $1 != "1" && $3 !~ /^text\// { print "remove " $1 }' | tac)
-[ -z "$words" ] || mimetool edit --all -j "$2" -e "$words" --in-place "$1"
+word=$(mimetool sections --from "$1" |
+    awk '$2 == "leaf" && $1 != "1" && $3 !~ /^text\// { paths = paths " " $1 } END { if (paths) print "remove" paths }')
+[ -z "$word" ] || mimetool edit -j "$2" -e "$word" --in-place "$1"

@@ -78,6 +78,10 @@ def letter(chooser, name, there):
         old = a_name(chooser, there)
         new = old.swapcase() if chooser.maybe(0.2) else a_name(chooser, there)
         return [name, chooser.choice(FAULTY_NAMES) if odd else old + b":" + new]
+    if name == b"--drop":
+        dropped = a_name(chooser, there)
+        front = dropped[:chooser.choice([1, 2, 4])] + b"*"
+        return [name, chooser.choice(FAULTY_NAMES + [b"*:"]) if odd else (front if chooser.maybe(0.4) else dropped) + b":"]
     if name in (b"-u", b"-U", b"-x", b"-X"):
         return [name, chooser.choice(FAULTY_NAMES) if odd else a_name(chooser, there) + b":"]
     word = chooser.choice(FAULTY_FIELDS if odd else FIELDS)
@@ -94,8 +98,10 @@ def field(chooser):
     if chooser.maybe(0.2):
         chosen = [chooser.choice([b"-x", b"-X"])] + chooser.some([b"-x", b"-X", b"-a"], 1)[:chooser.maybe(0.1)]
     else:
-        every = [b"--rename", b"-a", b"-A", b"-i", b"-I", b"-u", b"-U"]
-        chosen = chooser.sample(every, chooser.choice([0, 1, 1, 1, 2, 2, 3, 7])) + chooser.some(every, 1)[:chooser.maybe(0.02)]
+        every = [b"--drop", b"--rename", b"-a", b"-A", b"-i", b"-I", b"-u", b"-U"]
+        chosen = chooser.sample(every, chooser.choice([0, 1, 1, 1, 2, 2, 3, 8]))
+        for _ in range(chooser.choice([0, 0, 0, 1, 2, 4])):
+            chosen.append(chooser.choice(every))
     words = [b"field"] + [word for name in chosen for word in letter(chooser, name, there)]
     for flag, chance in ((b"-s", each), (b"--decode", 0.4 if b"-x" in chosen else 0.02), (b"--unfold", 0.4 if b"-x" in chosen else 0.02), (b"--refused-ok", 0.2), (b"--encode", 0.3 if chosen else 0.02)):
         if chooser.maybe(chance):
@@ -113,7 +119,7 @@ def edit(chooser):
     message = messages.message(chooser)
     pieces = scripts.some_pieces(chooser, message)
     as_one = chooser.maybe(0.2)
-    edit_words = [b"edit", b"--all"] if as_one else [b"edit"]
+    edit_words = [b"edit"] + [flag for flag, chance in ((b"--all", as_one), (b"--eol", 0.2), (b"--explain", 0.2)) if chance is True or chooser.maybe(chance)]
     if chooser.maybe(0.85):
         script = scripts.script(chooser, message, list(pieces))
         files = {b"s": edits_alone(script) if as_one and chooser.maybe(0.9) else script, **pieces}

@@ -10,12 +10,17 @@ ODD_PATHS = [b"2", b"1.1", b"1.9", b"1.1.1.1", b"1.4294967295", b"2.1", b"1." + 
 FAULTY_PATHS = [b"0", b"1.0", b"01", b"1.", b".1", b"", b"1.4294967296", b"x", b"1.+1", b"1." * 101 + b"1", b"1,1"]
 FAULTY_LINES = [b" ", b"undo ", b"Undo", b"add", b"add 1", b"del 1 A", b"del 1 A 1 ", b"del 1  A 1", b"ren 1 A 1 ", b"ren 1 A 1 b c",
                 b"set 1 A 1", b"set 1  1 A: b", b"body 1 0", b"body 1 01", b"body 1 99", b"insert 1 00 1", b"insert 1 0", b"wrap 1 mixed",
-                b"wrap 1  b", b"remove 1 1", b"remove", b"bogus", b" # x", b"begin x", b"end ", b"del 1 A 4294967296", b"del 1 A -1",
+                b"wrap 1  b", b"remove 1 x", b"remove", b"content 1 0", b"content 1", b"encode 1 7bit", b"encode 1", b"encode 1 qp ", b"put 1", b"drop 1", b"drop 1 A B", b"put-piece 1 99", b"append 1  1",
+                b"attach 1 text/plain n", b"attach 1 text/plain a b 1", b"remove 1.1 1.2 ", b"contents 1 1", b"bogus", b" # x", b"begin x", b"end ", b"del 1 A 4294967296", b"del 1 A -1",
                 b"replace 1", b"\xff", b"redo 1", b"begin", b"end"]
 SUBTYPES = [b"mixed", b"mixed", b"digest", b"Digest", b"alternative", b"x-y", b"a/b", b"\xff", b"mi\txed", b"\"x\""]
 LIMITS = [b"0", b"1", b"2", b"99999999999999999999", b"100000000000000000000", b"18446744073709551615", b"18446744073709551616", b"01", b"-1"]
 WORDS = [("add", 5), ("top", 3), ("del", 3), ("ren", 3), ("set", 3), ("body", 3), ("replace", 3), ("insert", 9), ("remove", 4), ("wrap", 5),
-         ("undo", 4), ("redo", 2)]
+         ("content", 4), ("encode", 4), ("put", 3), ("put-piece", 2), ("drop", 2), ("append", 4), ("attach", 3), ("undo", 4), ("redo", 2)]
+OF_LEAVES, OF_MULTIPARTS = ("body", "content", "encode"), ("insert", "append", "attach")
+OF_PIECES = ("body", "replace", "insert", "content", "put-piece", "append", "attach")
+FILES = [b"n.txt", b"a/b.gif", b"x", b"-n", b"a/", b"a\\b", b"q\"q", b"\xc3\xa9", b"n" * 101]
+TYPES = [b"text/plain", b"image/gif", b"application/x-y", b"TEXT/html", b"multipart/mixed", b"message/rfc822", b"text", b"a/" + b"b" * 99]
 
 
 def field_text(chooser, boundaries):
@@ -44,11 +49,11 @@ class Writer:
 
     def fits(self, word, section):
         """Whether a word can say something of a section."""
-        if word in ("body", "insert"):
-            return isinstance(section.entity.body, tree.Leaf if word == "body" else tree.Multi)
+        if word in OF_LEAVES + OF_MULTIPARTS:
+            return isinstance(section.entity.body, tree.Leaf if word in OF_LEAVES else tree.Multi)
         if word == "remove":
             return section.path[:-1] in self.multiparts
-        return bool(section.entity.fields) or word not in ("del", "ren", "set")
+        return bool(section.entity.fields) or word not in ("del", "ren", "set", "drop")
 
     def section(self, word):
         """A section, in most cases one of which the word can say something; None where there is none such."""
@@ -78,12 +83,18 @@ class Writer:
     def rest(self, word, section):
         """What follows the path."""
         choose = self.chooser.choice
-        if word in ("add", "top"):
+        if word in ("add", "top", "put"):
             return field_text(self.chooser, self.boundaries)
+        if word == "drop":
+            return self.name(section)
+        if word == "encode":
+            return choose([b"qp", b"base64", b"8bit"])
+        if word == "attach":
+            return choose(TYPES[:3] if self.chooser.maybe(0.8) else TYPES) + b" " + choose(FILES[:3] if self.chooser.maybe(0.8) else FILES) + b" " + self.piece()
         if word == "wrap":
             boundaries = messages.BOUNDARIES if self.chooser.maybe(0.1) else self.boundaries + [b"c", b"d", b"z z"]
             return choose(SUBTYPES[:6] if self.chooser.maybe(0.9) else SUBTYPES) + b" " + choose(boundaries)
-        if word in ("body", "replace"):
+        if word in OF_PIECES and word != "insert":
             return self.piece()
         if word == "insert":
             return choose([b"0", b"0", b"1", b"1", b"2", b"3"]) + b" " + self.piece()
@@ -97,13 +108,16 @@ class Writer:
         word = self.chooser.weighted(WORDS[:-2] if inside else WORDS)
         if word in ("undo", "redo"):
             return word.encode()
-        if word in ("body", "replace", "insert") and not self.pieces:
+        if word in OF_PIECES and not self.pieces:
             word = "remove"
         section = self.section(word)
         if section is None:
             return self.line(inside)
         words = [word.encode(), self.path(section)]
-        return b" ".join(words + ([self.rest(word, section)] if word != "remove" else []))
+        if word == "remove":
+            others = [self.path(self.section(word) or section) for _ in range(self.chooser.choice([0, 0, 1, 2]))]
+            return b" ".join(words + others)
+        return b" ".join(words + [self.rest(word, section)])
 
 
 def some_pieces(chooser, message):

@@ -2,7 +2,7 @@
 
 from . import edits, fields, lines, session, tree, values, wording
 
-EDITING = ("--rename", "-a", "-A", "-i", "-I", "-u", "-U")
+EDITING = ("--drop", "--rename", "-a", "-A", "-i", "-I", "-u", "-U")
 PRINTING = ("-x", "-X")
 WITH_FIELDS = ("-a", "-A", "-i", "-I")
 SHAPES = (b"--unfold", b"--decode")
@@ -29,6 +29,18 @@ def is_open_field(field):
     return fields.is_one_field(field) and not lines.cut(field)[-1].ending
 
 
+def pattern(word):
+    """A name and a colon mean that name, with an asterisk before the colon all that begin so (own): name, whether it is a front."""
+    name = word[:-1]
+    return (name[:-1], True) if name.endswith(b"*") else (name, False)
+
+
+def is_meant(word, name):
+    """Case doesn't count (own)."""
+    front, is_front = pattern(word)
+    return name.lower().startswith(front.lower()) if is_front else name.lower() == front.lower()
+
+
 def is_allowed_letter(letter, word):
     """The value of a letter is a field, a name with its colon, or two names with one between them (own)."""
     if letter == "--rename":
@@ -36,13 +48,28 @@ def is_allowed_letter(letter, word):
         return bool(colon) and lines.is_name(old) and lines.is_name(new)
     if letter in ("-u", "-U", "-x", "-X"):
         return word.endswith(b":") and lines.is_name(word[:-1])
+    if letter == "--drop":
+        return word.endswith(b":") and lines.is_name(pattern(word)[0])
     return is_open_field(word) and not (letter in ("-a", "-A") and is_bare(word))
 
 
-def are_allowed(letters):
+def are_allowed(given):
     """`-x` and `-X` stand alone, and each value is of its form (own)."""
-    printing = [letter for letter in letters if letter in PRINTING]
-    return not (printing and len(letters) > 1) and all(is_allowed_letter(*pair) for pair in letters.items())
+    printing = [letter for letter, _ in given if letter in PRINTING]
+    return not (printing and len(given) > 1) and all(is_allowed_letter(*pair) for pair in given)
+
+
+def rounds(given):
+    """A letter that its round has already begins another; `--drop` never does (own)."""
+    found = [{}]
+    for letter, word in given:
+        if letter == "--drop":
+            found[-1].setdefault(letter, []).append(word)
+            continue
+        if letter in found[-1]:
+            found.append({})
+        found[-1][letter] = word
+    return found
 
 
 def head_of(history):
@@ -58,8 +85,16 @@ def rename_edits(head, word):
             for number in range(1, len(fields.numbers(head, old)) + 1)]
 
 
+def drop_edits(head, words):
+    """The fields that are meant go, each as the first of its name (own)."""
+    names = [fields.name(field) for field in head]
+    return [edits.Edit("del", (1,), name=name, number=1) for name in names if any(is_meant(word, name) for word in words)]
+
+
 def letter_edits(letter, word, head, ending):
     """The edits of one letter on the fields that are there (own)."""
+    if letter == "--drop":
+        return drop_edits(head, word)
     name = word[:-1] if letter in ("-u", "-U") else lines.name_of(word)
     there = fields.numbers(head, name)
     adding = [edits.Edit("add", (1,), text=word + ending)]
@@ -77,8 +112,18 @@ def letter_edits(letter, word, head, ending):
     return [edits.Edit("del", (1,), name=name, number=2 if letter == "-u" else 1)] * (len(there) - 1)
 
 
-def filtered(message, letters, encode):
-    """A message after its letters, or as it came with the reason where an edit is refused (own): text, reason."""
+def filtered(message, given, encode):
+    """A message after its rounds, or as it came with the reason where an edit is refused (own): text, reason."""
+    text = message
+    for letters in rounds(given):
+        text, reason = round_filtered(text, letters, encode)
+        if reason:
+            return message, reason
+    return text, None
+
+
+def round_filtered(message, letters, encode):
+    """A text after a round of letters, or as it came with the reason where an edit is refused (own): text, reason."""
     history, ending = session.Session(message), lines.ending_of(message)
     for letter in EDITING:
         if letter in letters:
@@ -98,10 +143,10 @@ def shaped(value, flags):
     return wording.unfolded(value) + b"\n" if b"--unfold" in flags else value
 
 
-def shown(message, letters, flags):
+def shown(message, given, flags):
     """`-X` prints fields of a name whole, `-x` what stands behind their colons (own)."""
     found = b""
-    for letter, word in letters.items():
+    for letter, word in given:
         for field in tree.document(message).root.fields:
             if fields.is_named(field, word[:-1]):
                 raw = lines.printed(field)
@@ -109,14 +154,14 @@ def shown(message, letters, flags):
     return found
 
 
-def run(text, letters, flags):
+def run(text, given, flags):
     """The whole input, or each message of a mailbox, goes through the letters (own): output, errors, status."""
     output, errors = b"", b""
     for number, message in enumerate(messages(text) if b"-s" in flags else [text], 1):
-        if any(letter in PRINTING for letter in letters):
-            output += shown(message, letters, flags)
+        if any(letter in PRINTING for letter, _ in given):
+            output += shown(message, given, flags)
             continue
-        result, reason = filtered(message, letters, b"--encode" in flags)
+        result, reason = filtered(message, given, b"--encode" in flags)
         output += result
         errors += b"message %d: %s\n" % (number, reason.encode()) if reason else b""
     return output, errors, 1 if errors and b"--refused-ok" not in flags else 0

@@ -9,11 +9,12 @@ Answer = namedtuple("Answer", "status output errors files loose", defaults=(Fals
 
 OPTIONS = {
     b"sections": (b"--from",), b"extract": (b"-s", b"--from"), b"unpack": (b"-C", b"--from"),
-    b"field": (b"--rename", b"-a", b"-A", b"-i", b"-I", b"-u", b"-U", b"-x", b"-X", b"--from"),
+    b"field": (b"--drop", b"--rename", b"-a", b"-A", b"-i", b"-I", b"-u", b"-U", b"-x", b"-X", b"--from"),
     b"edit": (b"-j", b"-e", b"--from"), b"undo": (b"-j", b"--from"), b"redo": (b"-j", b"--from"), b"pack": (b"-b",),
 }
 FLAGS = {b"unpack": (b"-f", b"-t", b"--silent", b"--utf8"), b"field": (b"-s", b"--unfold", b"--decode", b"--encode", b"--refused-ok"),
-         b"pack": (b"--utf8",), b"edit": (b"--all",)}
+         b"pack": (b"--utf8",), b"edit": (b"--all", b"--eol", b"--explain")}
+AGAIN = {b"edit": (b"-e",), b"field": (b"--drop", b"--rename", b"-a", b"-A", b"-i", b"-I", b"-u", b"-U")}
 NEEDED = {b"extract": b"-s", b"undo": b"-j", b"redo": b"-j", b"pack": b"-b"}
 
 
@@ -26,16 +27,18 @@ class ReadFault(Exception):
 
 
 def asked(words):
-    """A command, options with a value, flags, and other words; an option but `-e` is given once (own)."""
+    """A command, options with a value, flags, and other words; most options are given once (own)."""
     command, waiting, found, others = words[0], list(words[1:]), {}, []
+    again = AGAIN.get(command, ())
     while waiting:
         word = waiting.pop(0)
         if word == b"--":
             others, waiting = others + waiting, []
         elif word in OPTIONS[command]:
-            if not waiting or (word in found and word != b"-e"):
+            if not waiting or (word in found and word not in again):
                 raise Usage
             found.setdefault(word, []).append(waiting.pop(0))
+            found.setdefault("order", []).append((word.decode(), found[word][-1]))
         elif word in FLAGS.get(command, ()):
             if word in found:
                 raise Usage
@@ -46,7 +49,7 @@ def asked(words):
             others.append(word)
     if NEEDED.get(command, b"") not in found and command in NEEDED:
         raise Usage
-    return command, {word: value[0] if isinstance(value, list) and word != b"-e" else value
+    return command, {word: value[0] if isinstance(value, list) and word not in again and word != "order" else value
                      for word, value in found.items()}, others
 
 
@@ -58,15 +61,15 @@ def file_of(files, name):
 
 
 def letters_given(found):
-    """`field` takes its letters by the words of the command line (own)."""
-    return {letter: found[letter.encode()] for letter in letters.EDITING + letters.PRINTING if letter.encode() in found}
+    """`field` takes its letters with their words in the order of the command line (own)."""
+    return [(letter, word) for letter, word in found.get("order", []) if letter in letters.EDITING + letters.PRINTING]
 
 
 def are_letters_valid(found):
     """`--unfold` and `--decode` are for `-x`, `--encode` for letters that take a field (own)."""
     given = letters_given(found)
-    shapes, encodes = any(flag in found for flag in letters.SHAPES), any(letter in given for letter in letters.WITH_FIELDS)
-    return letters.are_allowed(given) and (not shapes or "-x" in given) and (b"--encode" not in found or encodes)
+    shapes, encodes = any(flag in found for flag in letters.SHAPES), any(letter in letters.WITH_FIELDS for letter, _ in given)
+    return letters.are_allowed(given) and (not shapes or b"-x" in found) and (b"--encode" not in found or encodes)
 
 
 def are_valid(command, found, others):
@@ -92,7 +95,8 @@ def run_edit(command, found, others, message, files):
     else:
         script, pieces = file_of(files, others[0]), others[1:]
     given = [file_of(files, name) for name in pieces]
-    output, errors, status, left = scripts.run(message, script, given, files.get(journal), journal is not None, b"--all" in found)
+    output, errors, status, left = scripts.run(message, script, given, files.get(journal), journal is not None, b"--all" in found,
+                                                b"--eol" in found)
     return output, errors, status, {**files, journal: left} if left is not None else files
 
 
@@ -134,7 +138,7 @@ def obeyed(run):
 
 
 def answer(run):
-    """How a run ends; of a fault the errors end with its line, of a usage fault the status counts alone (own)."""
+    """How a run ends; of a fault, of a script too, the errors end with its line, of a usage fault the status counts alone (own)."""
     try:
         for word in run.words:
             word.decode()
@@ -143,4 +147,4 @@ def answer(run):
         return Answer(2, b"", b"", run.files, True)
     except ReadFault:
         return Answer(3, b"", b"mimetool: read fault\n", run.files, True)
-    return Answer(status, output, errors, files)
+    return Answer(status, output, errors, files, status == 2)

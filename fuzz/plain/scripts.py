@@ -1,12 +1,11 @@
 """Scripts: their syntax, and what a run of one prints."""
 
-from dataclasses import replace
-
-from . import edits, journals, lines, listing, session
+from . import edits, jobs, journals, lines, listing, session
 
 PATH_NUMBERS = 101
-WORDS = {"add": 3, "top": 3, "del": 4, "ren": 5, "set": 5, "body": 3, "replace": 3, "insert": 4, "remove": 2, "wrap": 4}
-REST = ("add", "top", "set", "wrap")
+WORDS = {"add": 3, "top": 3, "del": 4, "ren": 5, "set": 5, "body": 3, "replace": 3, "insert": 4, "remove": 2, "wrap": 4,
+         "content": 3, "encode": 3, "put": 3, "put-piece": 3, "drop": 3, "append": 3, "attach": 5}
+REST = ("add", "top", "set", "wrap", "put")
 
 
 class Fault(Exception):
@@ -49,14 +48,34 @@ def parts_of(content):
     if word not in WORDS:
         raise Fault
     found = content.split(b" ", WORDS[word] - 1) if word in REST else content.split(b" ")
-    if len(found) != WORDS[word]:
+    if len(found) != WORDS[word] and not (word == "remove" and len(found) > WORDS[word]):
         raise Fault
     return word, found[1:]
+
+
+def job_of(word, given, pieces):
+    """A word for edits which the document decides (own)."""
+    if word == "remove":
+        return jobs.Job(word, paths=tuple(map(path, given)))
+    where = path(given[0])
+    if word == "put":
+        return jobs.Job(word, where, text=given[1])
+    if word == "encode":
+        if given[1] not in jobs.ENCODINGS:
+            raise Fault
+        return jobs.Job(word, where, name=given[1])
+    if word == "drop":
+        return jobs.Job(word, where, name=word_of(given[1]))
+    if word == "attach":
+        return jobs.Job(word, where, text=piece(given[3], pieces), name=word_of(given[2]), media=word_of(given[1]))
+    return jobs.Job(word, where, text=piece(given[1], pieces))
 
 
 def edit_of(content, pieces):
     """A line that names an edit, without the ending of its field (own)."""
     word, given = parts_of(content)
+    if word in jobs.MEANINGS or word == "put-piece" or len(given) > 1 and word == "remove":
+        return job_of(word, given, pieces)
     where = path(given[0])
     if word in ("add", "top"):
         return edits.Edit(word, where, text=given[1])
@@ -111,34 +130,33 @@ def parsed_as_one(script, pieces):
     return [(0, "begin")] + steps + [(0, "end")], None
 
 
-def with_ending(edit, ending):
-    """A field of a script gets the ending of the text (own)."""
-    if edit.word not in ("add", "top", "set"):
-        return edit
-    return replace(edit, text=edit.text + ending)
+def words_made(history, words, turned):
+    """Words are made in turn as one step, or not at all; lines that are made get the ending of the text before them (own)."""
+    ending = lines.ending_of(history.text())
+    given = [(at, jobs.field_ended(jobs.turned(word, ending) if turned else word, ending)) for at, word in words]
+    return history.words([(at, lambda document, word=word: jobs.meaning(word, document, ending)) for at, word in given])
 
 
-def obey(history, steps):
+def obey(history, steps, turned):
     """The lines are done in turn; a refused one is reported and the run goes on (own): the error lines."""
     errors, members = b"", None
     for at, step in steps:
         if step == "begin":
             members = []
         elif members is not None and step != "end":
-            members.append((at, with_ending(step, lines.ending_of(history.text()))))
+            members.append((at, step))
         else:
-            if step == "end":
-                refused = history.group([edit for _, edit in members])
-                at, reason = (members[refused[0]][0], refused[1]) if refused else (at, None)
-                members = None
+            if step in ("undo", "redo"):
+                reason = history.undo() if step == "undo" else history.redo()
+                refused = reason and (at, reason)
             else:
-                reason = (history.undo() if step == "undo" else history.redo() if step == "redo" else
-                          history.edit(with_ending(step, lines.ending_of(history.text()))))
-            errors += b"line %d: %s\n" % (at, reason.encode()) if reason else b""
+                refused = words_made(history, members if step == "end" else [(at, step)], turned)
+                members = None
+            errors += b"line %d: %s\n" % (refused[0], refused[1].encode()) if refused else b""
     return errors
 
 
-def run(message, script, pieces, journal=None, journaled=False, as_one=False):
+def run(message, script, pieces, journal=None, journaled=False, as_one=False, turned=False):
     """Syntax, journal, lines, message, journal, in this order (own): output, errors, status, journal."""
     steps, fault = (parsed_as_one if as_one else parsed)(script, pieces)
     if fault:
@@ -147,5 +165,5 @@ def run(message, script, pieces, journal=None, journaled=False, as_one=False):
         history = session.Session(message) if journal is None else journals.loaded(message, journal)
     except journals.Refused as reason:
         return b"", b"journal: " + str(reason).encode() + b"\n", 1, journal
-    errors = obey(history, steps)
+    errors = obey(history, steps, turned)
     return history.text(), errors, 1 if errors else 0, journals.saved(history) if journaled else None

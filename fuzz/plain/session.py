@@ -1,6 +1,6 @@
 """A history of texts, and the edits, groups, undos and redos that make it."""
 
-from . import edits, refusals, splices, tree
+from . import edits, jobs, refusals, splices, tree
 
 
 class Session:
@@ -19,18 +19,28 @@ class Session:
         self.steps = self.steps[:self.place] + [step]
         self.place += 1
 
-    def group(self, members):
-        """Edits are made together or not at all: the number of the first refused one and its reason, or None (own)."""
+    def words(self, members):
+        """Words are made in turn, all or none, each of them the edits that it stands for in the document that the earlier
+        ones left: the name of the first refused one and the reason, or None (own)."""
         text, step = self.text(), []
-        for number, edit in enumerate(members):
-            document = tree.document(text)
-            reason = refusals.reason(edit, document)
-            if reason:
-                return number, reason
-            step.append(splices.splice(edit, document))
-            text = tree.printed(edits.edited(edit, document))
+        for name, meaning in members:
+            try:
+                found = meaning(tree.document(text))
+            except jobs.Fault as fault:
+                return name, str(fault)
+            for edit in found:
+                document = tree.document(text)
+                reason = refusals.reason(edit, document)
+                if reason:
+                    return name, reason
+                step.append(splices.splice(edit, document))
+                text = tree.printed(edits.edited(edit, document))
         self.take(text, step)
         return None
+
+    def group(self, members):
+        """Edits are made together or not at all: the number of the first refused one and its reason, or None (own)."""
+        return self.words([(number, lambda document, edit=edit: [edit]) for number, edit in enumerate(members)])
 
     def edit(self, edit):
         """One edit is a step of its own: its reason, or None (own)."""
