@@ -1,8 +1,7 @@
 -- The pieces of a script: texts that its words name by their numbers (own).
-use Rattle.std.specs.Prelude.{◌-◌, if◌then◌else◌, ℕ, Bool, false, List, [], map, slice_index_or}
+use Rattle.std.specs.Prelude.{◌-◌, if◌then◌else◌, ℕ, Bool, false, List, [], slice_index_or}
 use Rattle.mk_line.specs.declared.cutting.Ending.{Ending}
-use Rattle.mk_line.specs.declared.cutting.Ending.TheVariants.{Crlf, Lf, Missing}
-use Rattle.mk_line.specs.Lines.{TextLine, cut, text_line, text_of}
+use Rattle.mk_script.specs.Endings.{turned_to}
 
 -- pieces, and whether their lines end as those of the message do
 pub record Pieces : Type 0 where
@@ -16,20 +15,6 @@ as_given texts = record { texts = texts; turned = false }
 -- the piece of a number, counted from 1
 abbrev pub piece_text : Pieces → ℕ → List ℕ
 piece_text pieces number = slice_index_or pieces.texts (number - 1) []
-
--- another ending, where there is one
-abbrev pub turned_ending : Ending → Ending → Ending
-turned_ending eol Crlf = eol
-turned_ending eol Lf = eol
-turned_ending eol Missing = Missing
-
--- a line with another ending
-abbrev pub turned_line : Ending → TextLine → TextLine
-turned_line eol l = text_line l.content (turned_ending eol l.ending)
-
--- a text with another ending at each of its lines
-abbrev pub turned_to : Ending → List ℕ → List ℕ
-turned_to eol text = text_of (map (turned_line eol) (cut text))
 
 -- the piece of a number as lines of the message, which end with `eol`
 abbrev pub piece_lines : Pieces → Ending → ℕ → List ℕ

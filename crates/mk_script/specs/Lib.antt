@@ -1,3 +1,4 @@
+pub mod Endings
 pub mod Paths
 pub mod Script
 pub mod ScriptSteps
