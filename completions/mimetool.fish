@@ -59,6 +59,7 @@ complete -c mimetool -n '__fish_seen_subcommand_from field' -s X -x -d 'Print th
 complete -c mimetool -n '__fish_seen_subcommand_from field' -l unfold -d 'With -x, print the value of each field on one line'
 complete -c mimetool -n '__fish_seen_subcommand_from field' -l decode -d 'With -x, print what each field says on one line'
 complete -c mimetool -n '__fish_seen_subcommand_from field' -l encode -d 'Write values as encoded words where they need it'
+complete -c mimetool -n '__fish_seen_subcommand_from field' -l eol -d 'End the lines of fields as the message ends its lines'
 complete -c mimetool -n '__fish_seen_subcommand_from field' -l refused-ok -d 'Exit with 0 where an edit is refused'
 complete -c mimetool -n '__fish_seen_subcommand_from field' -s s -d 'Take the input as a mailbox'
 complete -c mimetool -n '__fish_seen_subcommand_from help' -a 'edit undo redo sections extract unpack pack field messages'

@@ -7,7 +7,7 @@ from plain.program import Run
 
 FIELDS = [b"A: 9", b"A:", b"A: ", b"B: 2", b"subject: x", b"SUBJECT:", b"Content-Type: text/html", b"Content-Type:", b"MIME-Version: 1.0",
           b"From: z", b"--b: c", b"A: b\n c", b"A : 9", b"X:\n ", b"Content-Transfer-Encoding: base64", b"content-type: message/rfc822",
-          "X: \u00e9".encode(), b"A: b\r", b"From : q", b"A: =?", "Subject : \u00e4 \u20ac\t".encode(), "A: b\n \u00e9".encode(),
+          "X: \u00e9".encode(), b"A: b\r", b"From : q", b"A: =?", "Subject : \u00e4 \u20ac\t".encode(), "A: b\n \u00e9".encode(), b"A: b\r\n c\n d",
           ("B: " + "\u00e9" * 23).encode(), ("A:" + "a\u20ac\U0001d11e" * 12).encode(), b"A: " + b"long " * 50, b"X: a\tb"]
 FAULTY_FIELDS = [b"", b"A", b"A: b\n", b" A: b", b"A: b\nB: c", b": x", b"A b: c", b"A: b\n\n", b"\n", b"-x"]
 NAMES = [b"A", b"a", b"Subject", b"SUBJECT", b"Content-Type", b"From", b"--b", b"Old-A", b"Z", b"MIME-Version", b"Content-X", b"!"]
@@ -103,7 +103,8 @@ def field(chooser):
         for _ in range(chooser.choice([0, 0, 0, 1, 2, 4])):
             chosen.append(chooser.choice(every))
     words = [b"field"] + [word for name in chosen for word in letter(chooser, name, there)]
-    for flag, chance in ((b"-s", each), (b"--decode", 0.4 if b"-x" in chosen else 0.02), (b"--unfold", 0.4 if b"-x" in chosen else 0.02), (b"--refused-ok", 0.2), (b"--encode", 0.3 if chosen else 0.02)):
+    for flag, chance in ((b"-s", each), (b"--decode", 0.4 if b"-x" in chosen else 0.02), (b"--unfold", 0.4 if b"-x" in chosen else 0.02), (b"--refused-ok", 0.2), (b"--encode", 0.3 if chosen else 0.02),
+                         (b"--eol", 0.3 if chosen else 0.02)):
         if chooser.maybe(chance):
             words.insert(chooser.choice([1, len(words)]), flag)
     yield from_file(chooser, Run(words, text, {}))

@@ -28,7 +28,7 @@ def turned(step, ending):
     """With `--eol` the lines of a piece get the ending of the message; a file that is attached stays as it is (own)."""
     if step.word not in TURNED:
         return step
-    return replace(step, text=b"".join(line.content + (ending if line.ending else b"") for line in lines.cut(step.text)))
+    return replace(step, text=lines.turned(step.text, ending))
 
 
 def divided(text, ending):

@@ -6,6 +6,7 @@ EDITING = ("--drop", "--rename", "-a", "-A", "-i", "-I", "-u", "-U")
 PRINTING = ("-x", "-X")
 WITH_FIELDS = ("-a", "-A", "-i", "-I")
 SHAPES = (b"--unfold", b"--decode")
+FORMS = (b"--encode", b"--eol")
 
 
 def messages(text):
@@ -112,23 +113,29 @@ def letter_edits(letter, word, head, ending):
     return [edits.Edit("del", (1,), name=name, number=2 if letter == "-u" else 1)] * (len(there) - 1)
 
 
-def filtered(message, given, encode):
+def filtered(message, given, flags):
     """A message after its rounds, or as it came with the reason where an edit is refused (own): text, reason."""
     text = message
     for letters in rounds(given):
-        text, reason = round_filtered(text, letters, encode)
+        text, reason = round_filtered(text, letters, flags)
         if reason:
             return message, reason
     return text, None
 
 
-def round_filtered(message, letters, encode):
+def formed(word, ending, flags):
+    """A field in encoded words, and with the ending of the message at its lines, as far as that is asked for (own)."""
+    word = wording.worded(word, ending) if b"--encode" in flags else word
+    return lines.turned(word, ending) if b"--eol" in flags else word
+
+
+def round_filtered(message, letters, flags):
     """A text after a round of letters, or as it came with the reason where an edit is refused (own): text, reason."""
     history, ending = session.Session(message), lines.ending_of(message)
     for letter in EDITING:
         if letter in letters:
             word = letters[letter]
-            word = wording.worded(word, ending) if encode and letter in WITH_FIELDS else word
+            word = formed(word, ending, flags) if letter in WITH_FIELDS else word
             for edit in letter_edits(letter, word, head_of(history), ending):
                 reason = history.edit(edit)
                 if reason:
@@ -161,7 +168,7 @@ def run(text, given, flags):
         if any(letter in PRINTING for letter, _ in given):
             output += shown(message, given, flags)
             continue
-        result, reason = filtered(message, given, b"--encode" in flags)
+        result, reason = filtered(message, given, flags)
         output += result
         errors += b"message %d: %s\n" % (number, reason.encode()) if reason else b""
     return output, errors, 1 if errors and b"--refused-ok" not in flags else 0

@@ -63,3 +63,8 @@ def is_close_mark(content, boundary):
 def is_mark(content, boundary):
     """A mark of a boundary is its delimiter or its close line (RFC 2046, 5.1.1)."""
     return is_part_mark(content, boundary) or is_close_mark(content, boundary)
+
+
+def turned(text, ending):
+    """The text with this ending at each line that has one (own)."""
+    return b"".join(line.content + (ending if line.ending else b"") for line in cut(text))

@@ -12,7 +12,7 @@ OPTIONS = {
     b"field": (b"--drop", b"--rename", b"-a", b"-A", b"-i", b"-I", b"-u", b"-U", b"-x", b"-X", b"--from"),
     b"edit": (b"-j", b"-e", b"--from"), b"undo": (b"-j", b"--from"), b"redo": (b"-j", b"--from"), b"pack": (b"-b",),
 }
-FLAGS = {b"unpack": (b"-f", b"-t", b"--silent", b"--utf8"), b"field": (b"-s", b"--unfold", b"--decode", b"--encode", b"--refused-ok"),
+FLAGS = {b"unpack": (b"-f", b"-t", b"--silent", b"--utf8"), b"field": (b"-s", b"--unfold", b"--decode", b"--encode", b"--eol", b"--refused-ok"),
          b"pack": (b"--utf8",), b"edit": (b"--all", b"--eol", b"--explain")}
 AGAIN = {b"edit": (b"-e",), b"field": (b"--drop", b"--rename", b"-a", b"-A", b"-i", b"-I", b"-u", b"-U")}
 NEEDED = {b"extract": b"-s", b"undo": b"-j", b"redo": b"-j", b"pack": b"-b"}
@@ -66,10 +66,11 @@ def letters_given(found):
 
 
 def are_letters_valid(found):
-    """`--unfold` and `--decode` are for `-x`, `--encode` for letters that take a field (own)."""
+    """`--unfold` and `--decode` are for `-x`, `--encode` and `--eol` for letters that take a field (own)."""
     given = letters_given(found)
-    shapes, encodes = any(flag in found for flag in letters.SHAPES), any(letter in letters.WITH_FIELDS for letter, _ in given)
-    return letters.are_allowed(given) and (not shapes or b"-x" in found) and (b"--encode" not in found or encodes)
+    shapes, adds = any(flag in found for flag in letters.SHAPES), any(letter in letters.WITH_FIELDS for letter, _ in given)
+    forms = any(flag in found for flag in letters.FORMS)
+    return letters.are_allowed(given) and (not shapes or b"-x" in found) and (not forms or adds)
 
 
 def are_valid(command, found, others):

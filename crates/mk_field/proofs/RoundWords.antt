@@ -4,7 +4,7 @@ use Rattle.std.proofs.lemmas.List.{map-append}
 use Rattle.mk_line.specs.declared.cutting.Ending.{Ending}
 use Rattle.mk_line.specs.declared.cutting.Ending.TheVariants.{Crlf, Lf}
 use Rattle.mk_mail.specs.Letters.{PlainLetters}
-use Rattle.mk_field.specs.Wording.{worded}
+use Rattle.mk_field.specs.declared.forms.FieldForm.{FieldForm}
 use Rattle.std.specs.List.{list_all}
 use Rattle.std.specs.Option.{option_map}
 use Rattle.mk_field.specs.Asked.{PlainWords, asked, have_colons, letters_asked}
@@ -20,27 +20,27 @@ pub word_next : (done all : List PlainWords) (w : PlainWords) (x : PlainWord) (r
 word_next done all w x rest h t = append_assoc done (w ∷ []) (rounds_from (with_word x no_words) rest) ∙ (rw t at h)
 
 -- words whose names have their colons ask for a round
-pub round_is : (encoded : Bool) (w : PlainWords) (r : PlainRound) → Some r ≡ round_if encoded w → (have_colons w ≡ true) × (r ≡ round_in encoded w)
-round_is encoded w r e = go (have_colons w) e
+pub round_is : (form : FieldForm) (w : PlainWords) (r : PlainRound) → Some r ≡ round_if form w → (have_colons w ≡ true) × (r ≡ round_in form w)
+round_is form w r e = go (have_colons w) e
   where
     inner : Option PlainRound → PlainRound
     inner None = r
     inner (Some x) = x
 
-    go : (have : Bool) → Some r ≡ (if have then Some (round_in encoded w) else None) → (have ≡ true) × (r ≡ round_in encoded w)
+    go : (have : Bool) → Some r ≡ (if have then Some (round_in form w) else None) → (have ≡ true) × (r ≡ round_in form w)
     go true h = (refl, ap inner h)
     go false h = cc
 
-pub round_none : (encoded : Bool) (w : PlainWords) → None ≡ round_if encoded w → have_colons w ≡ false
-round_none encoded w e = go (have_colons w) e
+pub round_none : (form : FieldForm) (w : PlainWords) → None ≡ round_if form w → have_colons w ≡ false
+round_none form w e = go (have_colons w) e
   where
-    go : (have : Bool) → None ≡ (if have then Some (round_in encoded w) else None) → have ≡ false
+    go : (have : Bool) → None ≡ (if have then Some (round_in form w) else None) → have ≡ false
     go true h = cc
     go false h = refl
 
 -- the letters for both endings are a round
-pub round_some : (encoded : Bool) (w : PlainWords) (lf crlf : PlainLetters) → Some lf ≡ letters_if encoded Lf w → Some crlf ≡ letters_if encoded Crlf w → Some (record { lf = lf; crlf = crlf }) ≡ round_if encoded w
-round_some encoded w lf crlf e f = go (have_colons w) e f
+pub round_some : (form : FieldForm) (w : PlainWords) (lf crlf : PlainLetters) → Some lf ≡ letters_if form Lf w → Some crlf ≡ letters_if form Crlf w → Some (record { lf = lf; crlf = crlf }) ≡ round_if form w
+round_some form w lf crlf e f = go (have_colons w) e f
   where
     inner : PlainLetters → Option PlainLetters → PlainLetters
     inner other None = other
@@ -49,22 +49,22 @@ round_some encoded w lf crlf e f = go (have_colons w) e f
     both : PlainLetters → PlainLetters → PlainRound
     both a b = record { lf = a; crlf = b }
 
-    go : (have : Bool) → Some lf ≡ (if have then Some (letters_in encoded Lf w) else None) → Some crlf ≡ (if have then Some (letters_in encoded Crlf w) else None)
-        → Some (record { lf = lf; crlf = crlf }) ≡ (if have then Some (round_in encoded w) else None)
+    go : (have : Bool) → Some lf ≡ (if have then Some (letters_in form Lf w) else None) → Some crlf ≡ (if have then Some (letters_in form Crlf w) else None)
+        → Some (record { lf = lf; crlf = crlf }) ≡ (if have then Some (round_in form w) else None)
     go true h k = λ i. Some (record { lf = ap (inner lf) h i; crlf = ap (inner crlf) k i })
     go false h k = cc
 
-pub no_round : (encoded : Bool) (eol : Ending) (w : PlainWords) → None ≡ letters_if encoded eol w → None ≡ round_if encoded w
-no_round encoded eol w e = go (have_colons w) e
+pub no_round : (form : FieldForm) (eol : Ending) (w : PlainWords) → None ≡ letters_if form eol w → None ≡ round_if form w
+no_round form eol w e = go (have_colons w) e
   where
-    go : (have : Bool) → None ≡ (if have then Some (letters_in encoded eol w) else None) → None ≡ (if have then Some (round_in encoded w) else None)
+    go : (have : Bool) → None ≡ (if have then Some (letters_in form eol w) else None) → None ≡ (if have then Some (round_in form w) else None)
     go true h = cc
     go false h = refl
 
-pub none_worded : (eol : Ending) (w : PlainWords) → None ≡ asked w → None ≡ asked (worded eol w)
-none_worded eol w e = go (have_colons w) e
+pub none_in_form : (form : FieldForm) (eol : Ending) (w : PlainWords) → None ≡ asked w → None ≡ letters_if form eol w
+none_in_form form eol w e = go (have_colons w) e
   where
-    go : (have : Bool) → None ≡ (if have then Some (letters_asked w) else None) → None ≡ (if have then Some (letters_asked (worded eol w)) else None)
+    go : (have : Bool) → None ≡ (if have then Some (letters_asked w) else None) → None ≡ (if have then Some (letters_in form eol w) else None)
     go true h = cc
     go false h = refl
 
@@ -80,11 +80,11 @@ made_more g f k old new l xs i x m p h e s =
     ap (map g) p ∙ (map-append g old (l ∷ []) ∙ ((λ j. m j ++ s j ∷ []) ∙ (sym (map-append f (map k (take i xs)) (k x ∷ [])) ∙ (ap (map f) (sym (map-append k (take i xs) (x ∷ []))) ∙ ap (λ zs. map f (map k zs)) (sym (take_on i xs x h e))))))
 
 -- one whose names don't ends it
-pub none_asked : (encoded : Bool) (ws rest : List PlainWords) (w : PlainWords) → list_all have_colons (w ∷ rest) ≡ list_all have_colons ws → have_colons w ≡ false → None ≡ rounds_asked encoded ws
-none_asked encoded ws rest w h n = let none : list_all have_colons ws ≡ false = sym h ∙ ap (λ b. b && list_all have_colons rest) n in rw none refl
+pub none_asked : (form : FieldForm) (ws rest : List PlainWords) (w : PlainWords) → list_all have_colons (w ∷ rest) ≡ list_all have_colons ws → have_colons w ≡ false → None ≡ rounds_asked form ws
+none_asked form ws rest w h n = let none : list_all have_colons ws ≡ false = sym h ∙ ap (λ b. b && list_all have_colons rest) n in rw none refl
 
-pub all_asked : (encoded : Bool) (ws : List PlainWords) (rs : List PlainRound) → true ≡ list_all have_colons ws → rs ≡ map (round_in encoded) ws → Some rs ≡ rounds_asked encoded ws
-all_asked encoded ws rs t e = rw (sym t) (ap (λ x. Some x) e)
+pub all_asked : (form : FieldForm) (ws : List PlainWords) (rs : List PlainRound) → true ≡ list_all have_colons ws → rs ≡ map (round_in form) ws → Some rs ≡ rounds_asked form ws
+all_asked form ws rs t e = rw (sym t) (ap (λ x. Some x) e)
 
 pub colons_on : (w : PlainWords) (rest : List PlainWords) (b : Bool) → list_all have_colons (w ∷ rest) ≡ b → have_colons w ≡ true → list_all have_colons rest ≡ b
 colons_on w rest b h t = sym (ap (λ x. x && list_all have_colons rest) t) ∙ h

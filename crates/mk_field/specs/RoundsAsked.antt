@@ -7,8 +7,9 @@ use Rattle.mk_mail.specs.LetterViews.{letters_of}
 use Rattle.mk_mail.specs.Letters.{PlainLetters}
 use Rattle.mk_mail.specs.Rounds.{PlainRound}
 use Rattle.mk_field.specs.Asked.{PlainWords, have_colons, letters_asked}
-use Rattle.mk_field.specs.Wording.{worded}
+use Rattle.mk_field.specs.FieldForms.{words_in_form}
 use Rattle.mk_field.specs.declared.filters.RoundLetters.{RoundLetters}
+use Rattle.mk_field.specs.declared.forms.FieldForm.{FieldForm}
 use Rattle.mk_field.specs.declared.words.Letter.{Letter}
 use Rattle.mk_field.specs.declared.words.Letter.TheVariants.{Drops, Rename, AddIf, Add, Prefixed, Only, First, Last, Take, Whole}
 use Rattle.mk_field.specs.declared.words.LetterWord.{LetterWord}
@@ -65,25 +66,25 @@ rounds_from w (x ∷ xs) = if is_given x.letter w then w ∷ rounds_from (with_w
 abbrev pub rounds_given : List PlainWord → List PlainWords
 rounds_given xs = rounds_from no_words xs
 
--- the letters that words ask for, their fields in encoded words where that is asked for
-abbrev pub letters_in : Bool → Ending → PlainWords → PlainLetters
-letters_in encoded eol w = letters_asked (if encoded then worded eol w else w)
+-- the letters that words ask for, their fields in a form
+abbrev pub letters_in : FieldForm → Ending → PlainWords → PlainLetters
+letters_in form eol w = letters_asked (words_in_form form eol w)
 
 -- the round that words ask for
-abbrev pub round_in : Bool → PlainWords → PlainRound
-round_in encoded w = record { lf = letters_in encoded Lf w; crlf = letters_in encoded Crlf w }
+abbrev pub round_in : FieldForm → PlainWords → PlainRound
+round_in form w = record { lf = letters_in form Lf w; crlf = letters_in form Crlf w }
 
 -- the letters, where all names have their colons
-abbrev pub letters_if : Bool → Ending → PlainWords → Option PlainLetters
-letters_if encoded eol w = if have_colons w then Some (letters_in encoded eol w) else None
+abbrev pub letters_if : FieldForm → Ending → PlainWords → Option PlainLetters
+letters_if form eol w = if have_colons w then Some (letters_in form eol w) else None
 
 -- the round, where all names have their colons
-abbrev pub round_if : Bool → PlainWords → Option PlainRound
-round_if encoded w = if have_colons w then Some (round_in encoded w) else None
+abbrev pub round_if : FieldForm → PlainWords → Option PlainRound
+round_if form w = if have_colons w then Some (round_in form w) else None
 
 -- the rounds that words ask for, where all names have their colons
-abbrev pub rounds_asked : Bool → List PlainWords → Option (List PlainRound)
-rounds_asked encoded ws = if list_all have_colons ws then Some (map (round_in encoded) ws) else None
+abbrev pub rounds_asked : FieldForm → List PlainWords → Option (List PlainRound)
+rounds_asked form ws = if list_all have_colons ws then Some (map (round_in form) ws) else None
 
 -- the letters of a round as they are
 abbrev pub round_letters : RoundLetters → PlainRound

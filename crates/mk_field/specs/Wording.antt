@@ -2,7 +2,6 @@
 -- made is our own).
 use Rattle.std.specs.Prelude.{◌==◌, ◌&&◌, ◌||◌, ◌++◌, if◌then◌else◌, ℕ, Bool, not, Option, None, Some, List, [], ◌∷◌, codes, map}
 use Rattle.std.specs.List.{list_all}
-use Rattle.std.specs.Option.{option_map}
 use Rattle.std.specs.Str.{is_utf8}
 use Rattle.mk_line.specs.declared.cutting.Ending.{Ending}
 use Rattle.mk_line.specs.Ascii.{carriage_return, colon, equals_sign, line_feed, question_mark, space}
@@ -10,7 +9,6 @@ use Rattle.mk_line.specs.Marks.{trimmed}
 use Rattle.mk_head.specs.Values.{stripped}
 use Rattle.mk_code.specs.EncodedWords.{has_pair, is_shown, unfolded, words_decoded, words_encoded}
 use Rattle.mk_script.specs.Paths.{parted}
-use Rattle.mk_field.specs.Asked.{PlainWords}
 use Rattle.mk_field.specs.declared.filters.ValueForm.{ValueForm}
 use Rattle.mk_field.specs.declared.filters.ValueForm.TheVariants.{AsWritten, Unfolded, Decoded}
 
@@ -56,18 +54,3 @@ worded_by eol field (Some p) = worded_parts eol field (trimmed p.0) (stripped p.
 -- a field whose value is in encoded words, where it needs them (`--encode`)
 abbrev pub worded_field : Ending → List ℕ → List ℕ
 worded_field eol field = worded_by eol field (parted colon field)
-
--- words of the command line of which those that are fields are worded
-abbrev pub worded : Ending → PlainWords → PlainWords
-worded eol w = record {
-  drops = w.drops;
-  rename = w.rename;
-  add_if = option_map (worded_field eol) w.add_if;
-  add = option_map (worded_field eol) w.add;
-  prefixed = option_map (worded_field eol) w.prefixed;
-  only = option_map (worded_field eol) w.only;
-  first = w.first;
-  last = w.last;
-  take = w.take;
-  whole = w.whole;
-}

@@ -7,10 +7,10 @@ ghost use Rattle.mk_line.specs.Ascii.{colon};
 ghost use Rattle.mk_mail.specs.LetterViews.{bytes_in, pattern_of};
 ghost use Rattle.mk_mail.specs.Letters.{passes};
 ghost use Rattle.mk_field.specs.Asked.{is_name_word, is_pair_word, name_in as name_in_word, pattern_asked, pattern_in};
-ghost use Rattle.mk_field.specs.Wording.{worded_field as in_words};
+ghost use Rattle.mk_field.specs.FieldForms.{in_form as made_in_form};
 ghost use Rattle.mk_script.specs.Paths.{parted as parted_at};
 
-use crate::wording::worded_field;
+use crate::forms::{FieldForm, in_form};
 use mk_line::Ending;
 use mk_mail::{Letters, NamePattern};
 use mk_script::parted;
@@ -51,7 +51,7 @@ impl LetterWords<'_> {
     ghost use Rattle.std.specs.Option.{option_map};
     ghost use Rattle.mk_mail.specs.LetterViews.{letters_of};
     ghost use Rattle.mk_field.specs.Asked.{asked, have_colons as words_have_colons, words_of};
-    ghost use Rattle.mk_field.specs.Wording.{worded};
+    ghost use Rattle.mk_field.specs.RoundsAsked.{letters_if};
 
     /// What the words ask for. `None` where a name stands without its colon.
     pub fn letters(&self, alloc: Global) -> Result<Option<Letters>, AllocError>
@@ -74,23 +74,24 @@ impl LetterWords<'_> {
         }))
     }
 
-    /// What the words ask for with the values of fields in encoded words, for messages whose lines end with `eol`. `None` where a
-    /// name stands without its colon.
-    pub fn letters_in_words(
+    /// What the words ask for with the fields in a form, for messages whose lines end with `eol`. `None` where a name stands
+    /// without its colon.
+    pub fn letters_in(
         &self,
         alloc: Global,
+        form: FieldForm,
         eol: Ending,
     ) -> Result<Option<Letters>, AllocError>
         requires { eol ≢ Ending.Missing }
-        ensures { IfOk result (λ letters. option_map letters_of letters ≡ asked (worded eol (words_of self.now))) }
+        ensures { IfOk result (λ letters. option_map letters_of letters ≡ letters_if form eol (words_of self.now)) }
     {
         let Some(mut letters) = self.letters(alloc)? else {
             return Ok(None);
         };
-        letters.add_if = field_in_words(alloc, self.add_if, eol)?;
-        letters.add = field_in_words(alloc, self.add, eol)?;
-        letters.prefixed = field_in_words(alloc, self.prefixed, eol)?;
-        letters.only = field_in_words(alloc, self.only, eol)?;
+        letters.add_if = field_in(alloc, self.add_if, form, eol)?;
+        letters.add = field_in(alloc, self.add, form, eol)?;
+        letters.prefixed = field_in(alloc, self.prefixed, form, eol)?;
+        letters.only = field_in(alloc, self.only, form, eol)?;
         Ok(Some(letters))
     }
 
@@ -166,17 +167,18 @@ fn field(alloc: Global, word: Option<&str>) -> Result<Option<Vec<u8>>, AllocErro
     }
 }
 
-// The field that a word is, its value in encoded words where it needs them.
-fn field_in_words(
+// The field that a word is, in a form.
+fn field_in(
     alloc: Global,
     word: Option<&str>,
+    form: FieldForm,
     eol: Ending,
 ) -> Result<Option<Vec<u8>>, AllocError>
     requires { eol ≢ Ending.Missing }
-    ensures { IfOk result (λ field. bytes_in field ≡ option_map (in_words eol) (option_map (λ s. s.now) word.entry)) }
+    ensures { IfOk result (λ field. bytes_in field ≡ option_map (made_in_form form eol) (option_map (λ s. s.now) word.entry)) }
 {
     match word {
-        Some(word) => Ok(Some(worded_field(alloc, word.as_bytes(), eol)?)),
+        Some(word) => Ok(Some(in_form(alloc, word.as_bytes(), form, eol)?)),
         None => Ok(None),
     }
 }

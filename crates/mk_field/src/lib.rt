@@ -4,6 +4,7 @@
 mod fields;
 mod filtering;
 mod filters;
+mod forms;
 mod letters;
 pub mod word_laws;
 mod wording;
@@ -11,5 +12,6 @@ mod words;
 
 pub use filtering::{run_field, try_field};
 pub use filters::{FieldFilter, Round, RoundLetters, ValueForm, rounds};
+pub use forms::FieldForm;
 pub use letters::LetterWords;
 pub use words::{Letter, LetterWord, letters_of_rounds, rounds_of_words};

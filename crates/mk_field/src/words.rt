@@ -6,9 +6,9 @@ ghost use Rattle.mk_field.specs.Asked.{words_of};
 ghost use Rattle.mk_field.specs.RoundsAsked.{round_letters, rounds_asked, rounds_given, word_of};
 
 use crate::filters::RoundLetters;
+use crate::forms::FieldForm;
 use crate::letters::LetterWords;
 use mk_line::Ending;
-use mk_mail::Letters;
 use std::alloc::{AllocError, Global};
 use std::mem;
 
@@ -65,18 +65,17 @@ pub fn rounds_of_words<'a>(
     Ok(rounds)
 }
 
-/// What the words of rounds ask for; with `encoded` the fields that they add are in encoded words. `None` where a name stands
-/// without its colon.
+/// What the words of rounds ask for, with the fields that they add in a form. `None` where a name stands without its colon.
 pub fn letters_of_rounds(
     alloc: Global,
     rounds: &[LetterWords<'_>],
-    encoded: bool,
+    form: FieldForm,
 ) -> Result<Option<Vec<RoundLetters>>, AllocError>
-    ensures { IfOk result (λ letters. option_map (λ v. map round_letters v.items) letters ≡ rounds_asked encoded (map words_of rounds.now)) }
+    ensures { IfOk result (λ letters. option_map (λ v. map round_letters v.items) letters ≡ rounds_asked form (map words_of rounds.now)) }
 {
     let mut all = Vec::new(alloc);
     for words in rounds {
-        match words.round(alloc, encoded)? {
+        match words.round(alloc, form)? {
             Some(letters) => all.push(letters)?,
             None => return Ok(None),
         }
@@ -85,11 +84,10 @@ pub fn letters_of_rounds(
 }
 
 impl<'a> LetterWords<'a> {
-    ghost use Rattle.std.specs.Prelude.{◌≡◌, ◌≢◌, ◌∷◌, [], IfOk, OnOk};
+    ghost use Rattle.std.specs.Prelude.{◌≡◌, ◌∷◌, [], IfOk, OnOk};
     ghost use Rattle.std.specs.Option.{option_map};
-    ghost use Rattle.mk_mail.specs.LetterViews.{letters_of};
     ghost use Rattle.mk_field.specs.Asked.{have_colons as words_have_colons, words_of};
-    ghost use Rattle.mk_field.specs.RoundsAsked.{is_given, letters_if, no_words, round_if, round_letters, with_word, word_of};
+    ghost use Rattle.mk_field.specs.RoundsAsked.{is_given, no_words, round_if, round_letters, with_word, word_of};
 
     /// No words.
     pub fn none(alloc: Global) -> LetterWords<'a>
@@ -147,32 +145,15 @@ impl<'a> LetterWords<'a> {
     }
 
     // The round that the words ask for. `None` where a name stands without its colon.
-    fn round(&self, alloc: Global, encoded: bool) -> Result<Option<RoundLetters>, AllocError>
-        ensures { IfOk result (λ round. option_map round_letters round ≡ round_if encoded (words_of self.now)) }
+    fn round(&self, alloc: Global, form: FieldForm) -> Result<Option<RoundLetters>, AllocError>
+        ensures { IfOk result (λ round. option_map round_letters round ≡ round_if form (words_of self.now)) }
     {
-        let Some(lf) = self.letters_for(alloc, encoded, Ending::Lf)? else {
+        let Some(lf) = self.letters_in(alloc, form, Ending::Lf)? else {
             return Ok(None);
         };
-        let Some(crlf) = self.letters_for(alloc, encoded, Ending::Crlf)? else {
+        let Some(crlf) = self.letters_in(alloc, form, Ending::Crlf)? else {
             return Ok(None);
         };
         Ok(Some(RoundLetters { lf, crlf }))
-    }
-
-    // What the words ask for in texts whose lines end with `eol`.
-    fn letters_for(
-        &self,
-        alloc: Global,
-        encoded: bool,
-        eol: Ending,
-    ) -> Result<Option<Letters>, AllocError>
-        requires { eol ≢ Ending.Missing }
-        ensures { IfOk result (λ letters. option_map letters_of letters ≡ letters_if encoded eol (words_of self.now)) }
-    {
-        if encoded {
-            self.letters_in_words(alloc, eol)
-        } else {
-            self.letters(alloc)
-        }
     }
 }

@@ -12,7 +12,7 @@ pub use engine::{run_edit, try_edit};
 pub use journaling::Journal;
 pub use mk_expand::Pieces;
 pub use mk_field::{
-    FieldFilter, Letter, LetterWord, LetterWords, Round, RoundLetters, ValueForm,
+    FieldFilter, FieldForm, Letter, LetterWord, LetterWords, Round, RoundLetters, ValueForm,
     letters_of_rounds, rounds, rounds_of_words, run_field, try_field, word_laws,
 };
 pub use mk_show::{

@@ -9,15 +9,15 @@ use clap::ArgMatches;
 use mk_mail::{NameForm, Sink, Source};
 use mk_messages::InMemory;
 use mk_run::{
-    Cause, FieldFilter, Manner, Portion, Report, Status, Stop, UnpackOptions, ValueForm,
+    Cause, FieldFilter, FieldForm, Manner, Portion, Report, Status, Stop, UnpackOptions, ValueForm,
     letters_of_rounds, read_doc, rounds, rounds_of_words, try_extract_as, try_field, try_sections,
     try_unpack_with, write_all,
 };
 use mk_script::numbers;
 use mk_system::Directory;
 use mk_words::options::{
-    DECODE, DIR, EACH, EDIT, ENCODE, EXTRACT, FIELD, HEAD, JSON, MESSAGES, OVER, PACK, PATH, PATHS,
-    PREFIX, RAW, REDO, REFUSED_OK, SECTIONS, SILENT, TEXTS, UNDO, UNFOLD, UNPACK, UTF8,
+    DECODE, DIR, EACH, EDIT, ENCODE, EOL, EXTRACT, FIELD, HEAD, JSON, MESSAGES, OVER, PACK, PATH,
+    PATHS, PREFIX, RAW, REDO, REFUSED_OK, SECTIONS, SILENT, TEXTS, UNDO, UNFOLD, UNPACK, UTF8,
 };
 use std::alloc::{AllocError, Global};
 use std::fs::File;
@@ -213,7 +213,7 @@ fn field<R: AllocGlobal, S: Source, O: Sink, E: Sink>(
 ) -> Result<Status, Problem> {
     let alloc = rt.alloc();
     let words = rounds_of_words(alloc, &letter_words(alloc, matches)?)?;
-    let Some(letters) = letters_of_rounds(alloc, &words, matches.get_flag(ENCODE))? else {
+    let Some(letters) = letters_of_rounds(alloc, &words, field_form(matches))? else {
         return Ok(usage(err));
     };
     let rounds = rounds(alloc, &letters)?;
@@ -229,6 +229,14 @@ fn field<R: AllocGlobal, S: Source, O: Sink, E: Sink>(
     match try_field(alloc, input, out, err, &filter, each)? {
         Status::Refused if matches.get_flag(REFUSED_OK) => Ok(Status::Well),
         status => Ok(status),
+    }
+}
+
+// How fields go into a message.
+fn field_form(matches: &ArgMatches<'_>) -> FieldForm {
+    FieldForm {
+        encoded: matches.get_flag(ENCODE),
+        turned: matches.get_flag(EOL),
     }
 }
 

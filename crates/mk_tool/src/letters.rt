@@ -2,12 +2,14 @@
 
 ghost use Rattle.std.specs.Prelude.{◌≡◌, ◌++◌, map, IfOk, OnOk};
 ghost use Rattle.clap.specs.Matches.{found_of};
-ghost use Rattle.mk_tool.specs.Found.{letters_found, words_found, words_in, words_with};
+ghost use Rattle.mk_field.specs.RoundsAsked.{word_of};
+ghost use Rattle.mk_tool.specs.Found.{AreInOrder, letter_found, letters_found, placed_word, words_placed};
 
 use clap::ArgMatches;
 use mk_run::{Letter, LetterWord, LetterWords};
 use mk_words::options::{
-    ADD, ADD_IF, DECODE, DROP, ENCODE, FIRST, LAST, ONLY, PREFIXED, RENAME, TAKE, UNFOLD, WHOLE,
+    ADD, ADD_IF, DECODE, DROP, ENCODE, EOL, FIRST, LAST, ONLY, PREFIXED, RENAME, TAKE, UNFOLD,
+    WHOLE,
 };
 use std::alloc::{AllocError, Global};
 
@@ -15,14 +17,12 @@ use std::alloc::{AllocError, Global};
 pub fn letter_words<'a>(
     alloc: Global,
     matches: &'a ArgMatches<'_>,
-) -> Result<Vec<LetterWord<'a>>, AllocError> {
+) -> Result<Vec<LetterWord<'a>>, AllocError>
+    ensures { IfOk result (λ words. AreInOrder (letters_found (found_of matches.now)) (map word_of words.items)) }
+{
     let mut placed = placed_words(alloc, matches)?;
     placed.sort_by_key(|placed| placed.0)?;
-    let mut words = Vec::new(alloc);
-    for (_, word) in placed {
-        words.push(word)?;
-    }
-    Ok(words)
+    placed.iter().map(|placed| placed.1).collect(alloc)
 }
 
 /// The words of all letters with their places on the command line, letter by letter.
@@ -30,7 +30,7 @@ pub fn placed_words<'a>(
     alloc: Global,
     matches: &'a ArgMatches<'_>,
 ) -> Result<Vec<(usize, LetterWord<'a>)>, AllocError>
-    ensures { IfOk result (λ placed. words_in placed.items ≡ letters_found (found_of matches.now)) }
+    ensures { IfOk result (λ placed. map placed_word placed.items ≡ letters_found (found_of matches.now)) }
 {
     let mut placed = Vec::new(alloc);
     place(&mut placed, matches, Letter::Drops, DROP)?;
@@ -46,14 +46,14 @@ pub fn placed_words<'a>(
     Ok(placed)
 }
 
-// Puts the words that an option takes behind others, each with its letter and its place.
+// Puts the words that an option takes after others, each with its letter and its place.
 fn place<'a>(
     placed: &mut Vec<(usize, LetterWord<'a>)>,
     matches: &'a ArgMatches<'_>,
     letter: Letter,
     option: &str,
 ) -> Result<(), AllocError>
-    ensures { OnOk result (words_in placed.new.items ≡ words_in placed.old.items ++ words_with letter (words_found (found_of matches.now) option.now)) }
+    ensures { OnOk result (map placed_word placed.new.items ≡ map placed_word placed.old.items ++ letter_found (found_of matches.now) letter option.now) }
 {
     match matches.get_strs(option) {
         Some(words) => {
@@ -64,14 +64,14 @@ fn place<'a>(
     }
 }
 
-// Puts words of a letter behind others, each with its place.
+// Puts words of a letter after others, each with its place.
 fn place_each<'a>(
     placed: &mut Vec<(usize, LetterWord<'a>)>,
     letter: Letter,
     words: &[&'a str],
     places: &[usize],
 ) -> Result<(), AllocError>
-    ensures { OnOk result (words_in placed.new.items ≡ words_in placed.old.items ++ words_with letter (map (λ s. s.now) words.now)) }
+    ensures { OnOk result (map placed_word placed.new.items ≡ map placed_word placed.old.items ++ words_placed letter (map (λ s. s.now) words.now) places.now) }
 {
     let mut places = places.iter();
     for word in words {
@@ -109,6 +109,8 @@ const DECODE_ALONE: &str = "--decode is for the values that -x prints";
 
 const ENCODE_ALONE: &str = "--encode is for the fields of -a, -A, -i and -I";
 
+const EOL_ALONE: &str = "--eol is for the fields of -a, -A, -i and -I";
+
 /// Why letters are refused, if they are: the first whose word it doesn't take, or that they don't stand together.
 pub fn why_refused(
     alloc: Global,
@@ -141,8 +143,12 @@ pub fn why_no_values(
     if matches.get_flag(DECODE) && !takes {
         return Ok(Some(String::from_str(alloc, DECODE_ALONE)?));
     }
-    if matches.get_flag(ENCODE) && !words.iter().any(|word| adds(word.1.letter)) {
+    let adds_some = words.iter().any(|word| adds(word.1.letter));
+    if matches.get_flag(ENCODE) && !adds_some {
         return Ok(Some(String::from_str(alloc, ENCODE_ALONE)?));
+    }
+    if matches.get_flag(EOL) && !adds_some {
+        return Ok(Some(String::from_str(alloc, EOL_ALONE)?));
     }
     Ok(None)
 }

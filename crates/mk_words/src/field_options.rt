@@ -2,7 +2,7 @@
 
 use crate::mailbox_options::rfc4155;
 use crate::options::{
-    ADD, ADD_IF, DECODE, DROP, EACH, ENCODE, FIELD, FIRST, LAST, ONLY, PREFIXED, REFUSED_OK,
+    ADD, ADD_IF, DECODE, DROP, EACH, ENCODE, EOL, FIELD, FIRST, LAST, ONLY, PREFIXED, REFUSED_OK,
     RENAME, TAKE, UNFOLD, WHOLE, flag, from, in_place,
 };
 use clap::{Arg, ArgAction, Command};
@@ -13,7 +13,7 @@ const A_FIELD: &str = "FIELD";
 
 const A_NAME: &str = "NAME:";
 
-/// mimetool field [--drop NAME:] [-a FIELD] [-A FIELD] [-i FIELD] [-I FIELD] [-u NAME:] [-U NAME:] [-x NAME:] [-X NAME:] [--rename OLD:NEW] [--unfold] [--decode] [--encode] [--refused-ok] [-s [--rfc4155]]
+/// mimetool field [--drop NAME:] [-a FIELD] [-A FIELD] [-i FIELD] [-I FIELD] [-u NAME:] [-U NAME:] [-x NAME:] [-X NAME:] [--rename OLD:NEW] [--unfold] [--decode] [--encode] [--eol] [--refused-ok] [-s [--rfc4155]]
 pub fn field_command<'a>(alloc: Global) -> Result<Command<'a>, AllocError> {
     let rename = letter(alloc, RENAME, "OLD:NEW", "Give the fields OLD the name NEW").long(RENAME);
     let command = Command::new(alloc, FIELD)
@@ -97,6 +97,12 @@ fn with_flags<'a>(alloc: Global, command: Command<'a>) -> Result<Command<'a>, Al
             "Write values of FIELD that aren't plain ASCII as encoded words",
         )
         .long(ENCODE))?
+        .arg(flag(
+            alloc,
+            EOL,
+            "End the lines of FIELD as the message ends its lines",
+        )
+        .long(EOL))?
         .arg(flag(
             alloc,
             REFUSED_OK,

@@ -4,8 +4,8 @@ use super::check_left;
 use super::devices::{Page, Text};
 use mk_rows::{Cell, Row, rows};
 use mk_run::{
-    FieldFilter, Letter, LetterWord, LetterWords, Status, give_up, letters_of_rounds, rounds,
-    rounds_of_words, try_field,
+    FieldFilter, FieldForm, Letter, LetterWord, LetterWords, Status, give_up, letters_of_rounds,
+    rounds, rounds_of_words, try_field,
 };
 use std::alloc::{AllocError, Global};
 use std::process::Abort;
@@ -119,6 +119,41 @@ message: A: 1\n\n
 status: Usage
 "#;
 
+/// Fields of several lines, which end as those of the message do.
+const TURNED: &str = r#"
+== line feeds become CR LF
+only: A: a\n b
+message: A: 1\r\n\r\n
+output: A: a\r\n b\r\n\r\n
+status: Well
+
+== CR LF becomes a line feed
+add: A: a\r\n\tb\n c
+message: B: 1\n\n
+output: B: 1\nA: a\n\tb\n c\n\n
+status: Well
+
+== the ending is that of the first line, and a message without lines has line feeds
+add if: A: a\r\n b
+message:
+output: A: a\n b\n
+status: Well
+
+== each round takes the ending of what the one before it left
+only: A: a\n b
+drop: B:
+only: C: c\n d
+message: B: 1\r\nA: 2\n\n
+output: A: a\r\n b\r\nC: c\r\n d\r\n\n
+status: Well
+
+== a carriage return within a line stays
+prefixed: A: a\rb\n c
+message: A: 1\r\n\r\n
+output: Old-A: 1\r\nA: a\rb\r\n c\r\n\r\n
+status: Well
+"#;
+
 /// The same of the messages of a mailbox.
 const MAILBOXES: &str = r#"
 == each message by itself
@@ -169,11 +204,12 @@ fn check_row(
     rt: &impl Abort,
     alloc: Global,
     row: &Row,
+    form: FieldForm,
     size: usize,
     each: bool,
 ) -> Result<(), Fail> {
     let words = rounds_in(alloc, row)?;
-    let Some(letters) = letters_of_rounds(alloc, &words, false)? else {
+    let Some(letters) = letters_of_rounds(alloc, &words, form)? else {
         return Err(Fail::new("a name without its colon"));
     };
     let rounds = rounds(alloc, &letters)?;
@@ -195,7 +231,7 @@ fn check_row(
 #[test]
 fn rounds_filter_a_message(rt: HostRuntime) -> Result<(), Fail> {
     for row in &rows(rt.alloc(), ROWS)? {
-        check_row(&rt, rt.alloc(), row, 7, false)?;
+        check_row(&rt, rt.alloc(), row, FieldForm::default(), 7, false)?;
     }
     Ok(())
 }
@@ -203,7 +239,19 @@ fn rounds_filter_a_message(rt: HostRuntime) -> Result<(), Fail> {
 #[test]
 fn rounds_filter_a_mailbox(rt: HostRuntime) -> Result<(), Fail> {
     for row in &rows(rt.alloc(), MAILBOXES)? {
-        check_row(&rt, rt.alloc(), row, 7, true)?;
+        check_row(&rt, rt.alloc(), row, FieldForm::default(), 7, true)?;
+    }
+    Ok(())
+}
+
+#[test]
+fn fields_end_as_the_message_does(rt: HostRuntime) -> Result<(), Fail> {
+    let turned = FieldForm {
+        encoded: false,
+        turned: true,
+    };
+    for row in &rows(rt.alloc(), TURNED)? {
+        check_row(&rt, rt.alloc(), row, turned, 7, false)?;
     }
     Ok(())
 }

@@ -7,10 +7,16 @@ use super::memory::page;
 use mk_line::Ending;
 use mk_mail::Letters;
 use mk_rows::{Row, rows};
-use mk_run::{FieldFilter, LetterWords, Round, Status, ValueForm, give_up, try_field};
+use mk_run::{FieldFilter, FieldForm, LetterWords, Round, Status, ValueForm, give_up, try_field};
 use std::alloc::{AllocError, Global};
 use std::process::Abort;
 use std::test::Fail;
+
+/// Fields in encoded words.
+const IN_WORDS: FieldForm = FieldForm {
+    encoded: true,
+    turned: false,
+};
 
 /// The values of the fields of a name, unfolded.
 const UNFOLDED: &str = r#"
@@ -201,8 +207,8 @@ fn check_row(
 ) -> Result<(), Fail> {
     let words = words_in(alloc, row);
     let (Some(lf), Some(crlf)) = (
-        words.letters_in_words(alloc, Ending::Lf)?,
-        words.letters_in_words(alloc, Ending::Crlf)?,
+        words.letters_in(alloc, IN_WORDS, Ending::Lf)?,
+        words.letters_in(alloc, IN_WORDS, Ending::Crlf)?,
     ) else {
         assert!(rt; false, "no letters: {row:?}");
         return Ok(());
@@ -254,7 +260,7 @@ fn values_are_encoded(rt: HostRuntime) -> Result<(), Fail> {
 fn check_encoding(rt: &impl Abort, alloc: Global) -> Result<(), AllocError> {
     let mut words = LetterWords::none(alloc);
     words.only = Some("A: \u{e4}");
-    let Some(letters) = words.letters_in_words(alloc, Ending::Lf)? else {
+    let Some(letters) = words.letters_in(alloc, IN_WORDS, Ending::Lf)? else {
         assert!(rt; false, "no letters");
         return Ok(());
     };

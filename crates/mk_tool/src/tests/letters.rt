@@ -172,6 +172,18 @@ message: A: 1\nB: 2\nA: 3\n\nx\n
 output: B: 2\nA: =?utf-8?B?w6Q=?=\n\nx\n
 status: Well
 
+== lines of a field that end as those of the message
+words: field|--eol|-I|A: a\n b
+message: A: 1\r\n\r\nx\r\n
+output: A: a\r\n b\r\n\r\nx\r\n
+status: Well
+
+== lines of a field as they are given
+words: field|-I|A: a\n b
+message: A: 1\r\n\r\nx\r\n
+output: A: a\n b\r\n\r\nx\r\n
+status: Well
+
 == a field as it is given
 words: field|-I|A: ä
 message: A: 1\nB: 2\nA: 3\n\nx\n

@@ -133,6 +133,10 @@ begins: error: --unfold is for the values that -x prints\n
 words: field|--encode|-u|A:
 begins: error: --encode is for the fields of -a, -A, -i and -I\n
 
+== --eol without a letter that takes a field
+words: field|--eol|-u|A:
+begins: error: --eol is for the fields of -a, -A, -i and -I\n
+
 == --encode beside -x
 words: field|--encode|--decode|-x|A:
 begins: error: --encode is for the fields of -a, -A, -i and -I\n

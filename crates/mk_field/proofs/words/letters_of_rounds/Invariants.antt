@@ -6,6 +6,6 @@ use Rattle.mk_field.proofs.words.letters_of_rounds.Given as goal
 
 abbrev pub invariant-loop-words : goal.invariant-loop-words
 invariant-loop-words l = record {
-  made : map round_letters l.all.items ≡ map (round_in l.encoded) (map words_of (take l.words-index l.rounds));
+  made : map round_letters l.all.items ≡ map (round_in l.form) (map words_of (take l.words-index l.rounds));
   colons : list_all have_colons (map words_of (drop l.words-index l.rounds)) ≡ list_all have_colons (map words_of l.rounds);
 }
