@@ -50,4 +50,4 @@ pub record AreInOrder (found : List PlacedWord) (words : List PlainWord) : Type 
   pub placed : List PlacedWord
   pub all : IsPermutation found placed
   pub order : IsNonDecreasingBy (λ p. p.place) placed
-  pub words : words ≡ map (λ p. p.word) placed
+  pub same : words ≡ map (λ p. p.word) placed

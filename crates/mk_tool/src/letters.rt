@@ -22,6 +22,16 @@ pub fn letter_words<'a>(
 {
     let mut placed = placed_words(alloc, matches)?;
     placed.sort_by_key(|placed| placed.0)?;
+    without_places(alloc, &placed)
+}
+
+// Words without their places.
+fn without_places<'a>(
+    alloc: Global,
+    placed: &[(usize, LetterWord<'a>)],
+) -> Result<Vec<LetterWord<'a>>, AllocError>
+    ensures { IfOk result (λ words. words.items ≡ map (λ p. p.1) placed.now) }
+{
     placed.iter().map(|placed| placed.1).collect(alloc)
 }
 
