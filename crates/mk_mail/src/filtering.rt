@@ -1,7 +1,6 @@
 //! The fields of a message by their names, and the edits that letters make of them.
 ghost use Rattle.std.specs.Prelude.{◌≡◌, ◌≤◌, ◌++◌, Some, false, drop, filter, length, map, not, IfOk, OnOk};
 ghost use Rattle.std.specs.List.{list_all, list_any, prefix_len};
-ghost use Rattle.mk_line.specs.Ascii.{is_blank as blank, is_name_byte as name_byte};
 ghost use Rattle.mk_line.specs.Lines.{ending_bytes};
 ghost use Rattle.mk_decide.specs.Edits.{AddField, RemoveField, RenameField};
 ghost use Rattle.mk_decide.specs.Views.{edit_of};
@@ -9,20 +8,14 @@ ghost use Rattle.mk_mail.specs.LetterWork.{plain_edits, texts_of, work_of};
 ghost use Rattle.mk_mail.specs.Letters.{add_if_letter, added as added_field, added_full, dropped, first_letter, is_bare as bare, is_dropped as is_dropped_name, last_of, made_old, name_in, old_name, only_letter, others, prefixed_letter, removed_all, rename_letter, renamed_all as all_renamed, replaced, respelling, respelt, root_names, root_path, same_name, then_do, those, untouched, with_first};
 ghost use Rattle.mk_mail.specs.LetterViews.{bytes_in, pattern_of};
 
+use crate::field_names::{is_bare, name_of};
 use crate::patterns::{NamePattern, is_dropped, is_same};
-use memchr::memchr;
 use mk_edit::Edit;
 use mk_head::each_field;
-use mk_line::{Ending, is_blank};
+use mk_line::Ending;
 use mk_tree::Doc;
 use std::alloc::{AllocError, Global};
 use std::mem;
-
-const COLON: u8 = b':';
-
-const FIRST_OF_NAME: u8 = b'!';
-
-const LAST_OF_NAME: u8 = b'~';
 
 const OLD: &[u8; 4] = b"Old-";
 
@@ -360,47 +353,4 @@ fn has_name(names: &[Vec<u8>], name: &[u8]) -> bool
         }
     }
     false
-}
-
-/// Whether only blanks stand after the first colon.
-pub(crate) fn is_bare(field: &[u8]) -> bool
-    ensures { result ≡ bare field.now }
-{
-    match memchr(COLON, field) {
-        Some(place) => are_blank(&field[place + 1..]),
-        None => true,
-    }
-}
-
-fn are_blank(bytes: &[u8]) -> bool
-    ensures { result ≡ list_all blank bytes.now }
-{
-    for byte in bytes {
-        if !is_blank(*byte) {
-            return false;
-        }
-    }
-    true
-}
-
-// Whether a byte may stand in a name (RFC 5322, 2.2).
-fn is_name_byte(byte: u8) -> bool
-    ensures { result ≡ name_byte byte }
-{
-    byte >= FIRST_OF_NAME && byte <= LAST_OF_NAME && byte != COLON
-}
-
-// The name that a field begins with.
-fn name_of(field: &[u8]) -> &[u8]
-    ensures { result.now ≡ name_in field.now }
-{
-    &field[..name_size(field)]
-}
-
-// How many bytes of a name stand at the start.
-fn name_size(field: &[u8]) -> usize
-    ensures size { result ≡ prefix_len name_byte field.now }
-    ensures within { result ≤ length field.now }
-{
-    field.iter().take_while(|byte| is_name_byte(**byte)).count()
 }

@@ -7,7 +7,8 @@ ghost use Rattle.mk_mail.specs.LetterViews.{bytes_in, letters_of};
 ghost use Rattle.mk_mail.specs.LetterWork.{work_of};
 ghost use Rattle.mk_mail.specs.Letters.{add_if_letter, added, are_allowed, are_names, edits_of, edits_some as some_edits, first_letter, have_values as values_are_had, is_full_field as full_field, is_given_field as given_field, letter, only_letter, passes, prefixed_letter, rename_letter, stand_together as stand_so};
 
-use crate::filtering::{Filter, is_bare};
+use crate::field_names::is_bare;
+use crate::filtering::Filter;
 use crate::patterns::{NamePattern, are_patterns};
 use mk_edit::Edit;
 use mk_head::one_field;

@@ -3,6 +3,7 @@
 
 #![tactic(auto)]
 
+mod field_names;
 mod filtering;
 pub mod laws;
 mod letters;

@@ -1,7 +1,7 @@
 use Rattle.std.proofs.Common.{◌≡◌, drop}
 use Rattle.std.specs.List.{list_all}
 use Rattle.mk_line.specs.Ascii.{is_blank}
-use Rattle.mk_mail.proofs.filtering.are_blank.Given as goal
+use Rattle.mk_mail.proofs.field_names.are_blank.Given as goal
 
 abbrev pub invariant-loop-byte : goal.invariant-loop-byte
 invariant-loop-byte l = list_all is_blank (drop l.byte-index l.bytes) ≡ list_all is_blank l.bytes
