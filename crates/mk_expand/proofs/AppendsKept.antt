@@ -34,7 +34,7 @@ use Rattle.mk_expand.specs.Contents.{divided}
 use Rattle.mk_expand.specs.ExpandLaws.{AppendsKeepContents, IsMultipart, all_edited}
 use Rattle.mk_expand.proofs.ContentsBack.{none_some, ok_same, plan_by, some_same}
 use Rattle.mk_expand.proofs.EncodingsKept.{in_turn, last_edit, there_again}
-use Rattle.mk_expand.proofs.GrownLines.{Grows}
+use Rattle.mk_build.proofs.EndedTexts.{Grows}
 use Rattle.mk_expand.proofs.GrownTexts.{grown_divided}
 use Rattle.mk_expand.proofs.KeptContents.{Keeps, KeepParts, keeps_same, read_kept}
 use Rattle.mk_expand.proofs.KeptPlaces.{contents_kept, flag, flag_line, keeps_by, plug_keeps, some_part}

@@ -13,16 +13,9 @@ use Rattle.mk_head.specs.Split.{belongs, body_of, fields_from, is_empty, is_more
 use Rattle.mk_head.specs.Fields.{continuations, field_text, is_named}
 use Rattle.mk_head.specs.Types.{field_value}
 use Rattle.mk_head.specs.Unfolding.{contents, or_nothing}
+use Rattle.mk_build.proofs.EndedTexts.{Grows}
 use Rattle.mk_tree.specs.Cutting.{Cut, cut_before, cut_by}
 use Rattle.mk_tree.specs.Sections.{has_tail, unended}
-
--- lines, and the same with an ending after them: a line more that is empty, or the last, which was open, with an ending
-abbrev pub Grows : List TextLine → List TextLine → Type 0
-Grows [] [] = ⊥
-Grows [] (m ∷ []) = m.content ≡ []
-Grows [] (m ∷ n ∷ ms) = ⊥
-Grows (l ∷ ls) [] = ⊥
-Grows (l ∷ ls) (m ∷ ms) = ((l ≡ m) × Grows ls ms) ⊎ ((ls ≡ []) × (ms ≡ []) × (l.content ≡ m.content) × (l.ending ≡ Missing) × (is_nil l.content ≡ false))
 
 -- or no lines at all
 abbrev pub GrowsOr : List TextLine → List TextLine → Type 0
