@@ -5,3 +5,4 @@ pub mod LinesGathered
 pub mod Intaking
 pub mod MailboxRuns
 pub mod PieceLaws
+pub mod PlaceLemmas

@@ -1,6 +1,7 @@
 pub mod Devices
 pub mod Dates
 pub mod Pieces
+pub mod Places
 pub mod Held
 pub mod Mailboxes
 pub mod Gathered

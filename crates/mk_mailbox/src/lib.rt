@@ -8,7 +8,9 @@ mod gathering;
 mod intake;
 pub mod laws;
 mod mailbox;
+mod places;
 
 pub use device::{CHUNK_BYTES, Fault, MOST_READS, Sink, Source};
 pub use from_lines::FromLines;
 pub use mailbox::{MailFault, Mailbox};
+pub use places::Place;

@@ -1,0 +1,37 @@
+-- Places of messages in a mailbox, and the texts that may stand there (own).
+use Rattle.std.specs.Prelude.{◌&&◌, ◌||◌, ℕ, Bool, true, false, not, List, [], ◌∷◌}
+use Rattle.mk_line.specs.Lines.{TextLine, cut, is_nil}
+use Rattle.mk_mailbox.specs.declared.from_lines.FromLines.{FromLines}
+use Rattle.mk_mailbox.specs.Pieces.{is_mail_start, mailbox_pieces}
+
+-- the first of some lines is a From-line that counts
+abbrev pub begins_from : FromLines → List TextLine → Bool
+begins_from way [] = false
+begins_from way (l ∷ ls) = is_mail_start way l.content
+
+-- the last of some lines is empty; `e` where there is none
+abbrev pub ends_empty : Bool → List TextLine → Bool
+ends_empty e [] = e
+ends_empty e (l ∷ ls) = ends_empty (is_nil l.content) ls
+
+-- no messages
+abbrev pub are_none : List (List ℕ) → Bool
+are_none [] = true
+are_none (p ∷ ps) = false
+
+-- one message at most
+abbrev pub at_most_one : List (List ℕ) → Bool
+at_most_one [] = true
+at_most_one (p ∷ ps) = are_none ps
+
+-- a text is cut as one message, or is none
+abbrev pub is_uncut : FromLines → List ℕ → Bool
+is_uncut way text = at_most_one (mailbox_pieces way text)
+
+-- a text may stand where a message begins with a From-line that counts, or not, and ends with an empty line, or not
+abbrev pub fits_place : FromLines → Bool → Bool → List ℕ → Bool
+fits_place way begins ends text = is_uncut way text && ((not begins || begins_from way (cut text)) && (not ends || ends_empty false (cut text)))
+
+-- a text may stand in the place of a message
+abbrev pub takes_place : FromLines → List ℕ → List ℕ → Bool
+takes_place way old new = fits_place way (begins_from way (cut old)) (ends_empty false (cut old)) new
