@@ -1,6 +1,6 @@
 -- The first that fails a test, and texts written one after another.
-use Rattle.std.proofs.Common.{◌≡◌, ◌+◌, ◌++◌, ℕ, zero, suc, Bool, true, false, Option, None, Some, List, [], ◌∷◌, refl, ap, sym, ◌∙◌, length, map, drop, get_or, arith, append_assoc, ◌<◌, ◌≤◌}
-use Rattle.std.specs.List.{flat_map}
+use Rattle.std.proofs.Common.{◌≡◌, ◌&&◌, ◌||◌, ◌+◌, ◌++◌, ℕ, zero, suc, Bool, true, false, Option, None, Some, List, [], ◌∷◌, refl, ap, sym, ◌∙◌, length, map, drop, get_or, arith, append_assoc, ◌<◌, ◌≤◌}
+use Rattle.std.specs.List.{flat_map, list_all, list_any}
 use Rattle.std.specs.Option.{option_map}
 use Rattle.mk_build.specs.Building.{first_failing}
 
@@ -54,3 +54,16 @@ mapped_end g (x ∷ ws) w rest = ap (λ t. g x ∷ t) (mapped_end g ws w rest)
 pub mapped_one : {W Y : Type 0} (g : W → Y) (ws new : List W) (w : W) (ys rest all : List Y) (y : Y) → new ≡ ws ++ w ∷ [] → ys ≡ y ∷ rest → g w ≡ y → map g ws ++ ys ≡ all → map g new ++ rest ≡ all
 mapped_one g ws new w ys rest all y n e m h =
     ap (λ list. map g list ++ rest) n ∙ (mapped_end g ws w rest ∙ ((λ i. map g ws ++ (m i ∷ rest)) ∙ (ap (λ list. map g ws ++ list) (sym e) ∙ h)))
+
+-- one test more of a list
+pub any_hit : {X : Type 0} (p : X → Bool) (ys zs rest : List X) (y : X) → ys ≡ y ∷ rest → p y ≡ true → list_any p ys ≡ list_any p zs → true ≡ list_any p zs
+any_hit p ys zs rest y e t h = sym (ap (list_any p) e ∙ ap (λ b. b || list_any p rest) t) ∙ h
+
+pub any_miss : {X : Type 0} (p : X → Bool) (ys zs rest : List X) (y : X) → ys ≡ y ∷ rest → p y ≡ false → list_any p ys ≡ list_any p zs → list_any p rest ≡ list_any p zs
+any_miss p ys zs rest y e t h = sym (ap (list_any p) e ∙ ap (λ b. b || list_any p rest) t) ∙ h
+
+pub all_hit : {X : Type 0} (p : X → Bool) (ys zs rest : List X) (y : X) → ys ≡ y ∷ rest → p y ≡ true → list_all p ys ≡ list_all p zs → list_all p rest ≡ list_all p zs
+all_hit p ys zs rest y e t h = sym (ap (list_all p) e ∙ ap (λ b. b && list_all p rest) t) ∙ h
+
+pub all_miss : {X : Type 0} (p : X → Bool) (ys zs rest : List X) (y : X) → ys ≡ y ∷ rest → p y ≡ false → list_all p ys ≡ list_all p zs → false ≡ list_all p zs
+all_miss p ys zs rest y e t h = sym (ap (list_all p) e ∙ ap (λ b. b && list_all p rest) t) ∙ h

@@ -35,4 +35,5 @@ IsBuildRefused fields parts boundary (build.BadName index) = build_refusal field
 IsBuildRefused fields parts boundary build.BadSubtype = build_refusal fields parts boundary ≡ Some build.BadSubtype
 IsBuildRefused fields parts boundary build.BadCharset = build_refusal fields parts boundary ≡ Some build.BadCharset
 IsBuildRefused fields parts boundary build.BadBoundary = build_refusal fields parts boundary ≡ Some build.BadBoundary
+IsBuildRefused fields parts boundary (build.HoldsBoundary index) = build_refusal fields parts boundary ≡ Some (build.HoldsBoundary index)
 IsBuildRefused fields parts boundary build.Memory = Unit {0}

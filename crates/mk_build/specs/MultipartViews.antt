@@ -13,4 +13,5 @@ IsRefusedAs fields parts m (build.BadName index) = refusal_as fields parts m ≡
 IsRefusedAs fields parts m build.BadSubtype = refusal_as fields parts m ≡ Some build.BadSubtype
 IsRefusedAs fields parts m build.BadCharset = refusal_as fields parts m ≡ Some build.BadCharset
 IsRefusedAs fields parts m build.BadBoundary = refusal_as fields parts m ≡ Some build.BadBoundary
+IsRefusedAs fields parts m (build.HoldsBoundary index) = refusal_as fields parts m ≡ Some (build.HoldsBoundary index)
 IsRefusedAs fields parts m build.Memory = Unit {0}

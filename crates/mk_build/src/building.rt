@@ -5,11 +5,14 @@ ghost use Rattle.mk_line.specs.Lines.{cut as lines_of};
 ghost use Rattle.mk_head.specs.Values.{lowered};
 ghost use Rattle.mk_build.specs.BuildViews.{attached_of, named_of, written_of, IsBuildRefused};
 ghost use Rattle.mk_build.specs.Building.{build_refusal, built, close_line, closed_field, first_failing, is_free_field as may_begin, is_free_start as begins_free, is_made_name as is_made, is_media as may_be_attached, is_name_or_none};
+ghost use Rattle.mk_build.specs.ForwardViews.{forwarded_of, IsRefusedWith};
+ghost use Rattle.mk_build.specs.Forwards.{built_with, head_with, refusal_with};
 ghost use Rattle.mk_build.specs.MultipartViews.{IsRefusedAs};
-ghost use Rattle.mk_build.specs.Multiparts.{built_as, head_as, mixed as plain_mixed, multipart_of, multipart_refusal, part_as, refusal_as};
+ghost use Rattle.mk_build.specs.Multiparts.{built_as, mixed as plain_mixed, multipart_of, multipart_refusal, part_as, refusal_as};
 
 use crate::attaching::push_attached;
 use crate::attachment::{Attach, Written, as_given, has_name, in_utf8, is_media};
+use crate::forwarding::{Forward, are_8bit, first_holding, push_8bit, push_forwards};
 use crate::multipart::{MIXED, Multipart, is_charset};
 use mk_head::{is_boundary, is_token, one_field};
 use mk_line::{Ending, ends_open, first_line, name_len};
@@ -22,7 +25,7 @@ const CONTENT: &[u8; 8] = b"content-";
 
 const VERSION: &[u8; 12] = b"MIME-Version";
 
-/// Why no message is built. An index counts the fields or the parts from 0.
+/// Why no message is built. An index counts the fields, the parts or the forwarded messages from 0.
 #[derive(Clone, Copy, Debug, PartialEq, Eq, Error)]
 pub enum BuildError {
     /// A field isn't exactly one, or is one that is made.
@@ -43,6 +46,9 @@ pub enum BuildError {
     /// The boundary isn't one (RFC 2046, 5.1.1).
     #[error("the boundary is none")]
     BadBoundary,
+    /// A line of a forwarded message begins with two hyphens and the boundary.
+    #[error("forwarded message {index} holds the boundary")]
+    HoldsBoundary { index: usize },
     /// Memory ran out.
     #[error("out of memory")]
     Memory,
@@ -102,8 +108,7 @@ pub fn build_as(
     ensures text { IfOk result (λ text. (refusal_as (map (λ f. f.items) fields.now) (map attached_of parts.now) (multipart_of multipart.now) ≡ None) × (text.items ≡ built_as eol (map (λ f. f.items) fields.now) (map attached_of parts.now) (multipart_of multipart.now))) }
     ensures refused { IfErr result (λ error. IsRefusedAs (map (λ f. f.items) fields.now) (map attached_of parts.now) (multipart_of multipart.now) error) }
 {
-    let parts = all_as_given(alloc, parts)?;
-    build_of(alloc, fields, &parts, multipart, eol)
+    build_with(alloc, fields, parts, &[], multipart, eol)
 }
 
 /// A message as `build_in_utf8` makes it, in a multipart of any kind.
@@ -118,8 +123,41 @@ pub fn build_as_in_utf8(
     ensures text { IfOk result (λ text. (refusal_as (map (λ f. f.items) fields.now) (map named_of parts.now) (multipart_of multipart.now) ≡ None) × (text.items ≡ built_as eol (map (λ f. f.items) fields.now) (map named_of parts.now) (multipart_of multipart.now))) }
     ensures refused { IfErr result (λ error. IsRefusedAs (map (λ f. f.items) fields.now) (map named_of parts.now) (multipart_of multipart.now) error) }
 {
+    build_with_in_utf8(alloc, fields, parts, &[], multipart, eol)
+}
+
+/// A message as `build_as` makes it, with messages that are forwarded after the parts.
+pub fn build_with(
+    alloc: Global,
+    fields: &[Vec<u8>],
+    parts: &[Attach],
+    messages: &[Forward],
+    multipart: &Multipart<'_>,
+    eol: Ending,
+) -> Result<Vec<u8>, BuildError>
+    requires { eol ≢ Ending.Missing }
+    ensures text { IfOk result (λ text. (refusal_with (map (λ f. f.items) fields.now) (map attached_of parts.now) (map forwarded_of messages.now) (multipart_of multipart.now) ≡ None) × (text.items ≡ built_with eol (map (λ f. f.items) fields.now) (map attached_of parts.now) (map forwarded_of messages.now) (multipart_of multipart.now))) }
+    ensures refused { IfErr result (λ error. IsRefusedWith (map (λ f. f.items) fields.now) (map attached_of parts.now) (map forwarded_of messages.now) (multipart_of multipart.now) error) }
+{
+    let parts = all_as_given(alloc, parts)?;
+    build_of(alloc, fields, &parts, messages, multipart, eol)
+}
+
+/// A message as `build_as_in_utf8` makes it, with messages that are forwarded after the parts.
+pub fn build_with_in_utf8(
+    alloc: Global,
+    fields: &[Vec<u8>],
+    parts: &[Attach],
+    messages: &[Forward],
+    multipart: &Multipart<'_>,
+    eol: Ending,
+) -> Result<Vec<u8>, BuildError>
+    requires { eol ≢ Ending.Missing }
+    ensures text { IfOk result (λ text. (refusal_with (map (λ f. f.items) fields.now) (map named_of parts.now) (map forwarded_of messages.now) (multipart_of multipart.now) ≡ None) × (text.items ≡ built_with eol (map (λ f. f.items) fields.now) (map named_of parts.now) (map forwarded_of messages.now) (multipart_of multipart.now))) }
+    ensures refused { IfErr result (λ error. IsRefusedWith (map (λ f. f.items) fields.now) (map named_of parts.now) (map forwarded_of messages.now) (multipart_of multipart.now) error) }
+{
     let parts = all_in_utf8(alloc, parts)?;
-    build_of(alloc, fields, &parts, multipart, eol)
+    build_of(alloc, fields, &parts, messages, multipart, eol)
 }
 
 // A multipart/mixed whose texts name no charset.
@@ -155,17 +193,18 @@ fn all_in_utf8(alloc: Global, parts: &[Attach]) -> Result<Vec<Written<'_>>, Allo
     Ok(list)
 }
 
-// The message of what is written of its parts.
+// The message of what is written of its parts, and of messages.
 fn build_of(
     alloc: Global,
     fields: &[Vec<u8>],
     parts: &[Written<'_>],
+    messages: &[Forward],
     multipart: &Multipart<'_>,
     eol: Ending,
 ) -> Result<Vec<u8>, BuildError>
     requires { eol ≢ Ending.Missing }
-    ensures text { IfOk result (λ text. (refusal_as (map (λ f. f.items) fields.now) (map written_of parts.now) (multipart_of multipart.now) ≡ None) × (text.items ≡ built_as eol (map (λ f. f.items) fields.now) (map written_of parts.now) (multipart_of multipart.now))) }
-    ensures refused { IfErr result (λ error. IsRefusedAs (map (λ f. f.items) fields.now) (map written_of parts.now) (multipart_of multipart.now) error) }
+    ensures text { IfOk result (λ text. (refusal_with (map (λ f. f.items) fields.now) (map written_of parts.now) (map forwarded_of messages.now) (multipart_of multipart.now) ≡ None) × (text.items ≡ built_with eol (map (λ f. f.items) fields.now) (map written_of parts.now) (map forwarded_of messages.now) (multipart_of multipart.now))) }
+    ensures refused { IfErr result (λ error. IsRefusedWith (map (λ f. f.items) fields.now) (map written_of parts.now) (map forwarded_of messages.now) (multipart_of multipart.now) error) }
 {
     if let Some(index) = bad_field(fields) {
         return Err(BuildError::BadField { index });
@@ -179,10 +218,14 @@ fn build_of(
     if let Some(reason) = refusal(multipart) {
         return Err(reason);
     }
+    if let Some(index) = first_holding(messages, multipart.boundary) {
+        return Err(BuildError::HoldsBoundary { index });
+    }
     let mut text = Vec::new(alloc);
     push_fields(&mut text, fields, eol)?;
-    push_head(&mut text, multipart, eol)?;
+    push_head(&mut text, multipart, are_8bit(messages), eol)?;
     push_parts(&mut text, parts, multipart, eol)?;
+    push_forwards(&mut text, messages, multipart.boundary, eol)?;
     push_close(&mut text, multipart.boundary, eol)?;
     Ok(text)
 }
@@ -293,8 +336,13 @@ fn push_field(text: &mut Vec<u8>, field: &[u8], eol: Ending) -> Result<(), Alloc
     }
 }
 
-fn push_head(text: &mut Vec<u8>, multipart: &Multipart<'_>, eol: Ending) -> Result<(), AllocError>
-    ensures { OnOk result (text.new.items ≡ text.old.items ++ head_as eol (multipart_of multipart.now)) }
+fn push_head(
+    text: &mut Vec<u8>,
+    multipart: &Multipart<'_>,
+    wide: bool,
+    eol: Ending,
+) -> Result<(), AllocError>
+    ensures { OnOk result (text.new.items ≡ text.old.items ++ head_with eol wide (multipart_of multipart.now)) }
 {
     let ending = eol.bytes();
     text.extend_from_slice(b"MIME-Version: 1.0")?;
@@ -305,6 +353,7 @@ fn push_head(text: &mut Vec<u8>, multipart: &Multipart<'_>, eol: Ending) -> Resu
     text.extend_from_slice(multipart.boundary)?;
     text.extend_from_slice(b"\"")?;
     text.extend_from_slice(ending)?;
+    push_8bit(text, wide, eol)?;
     text.extend_from_slice(ending)
 }
 
