@@ -150,7 +150,7 @@ start_plain l h = rw h (and_none (starts_with nat_eq l.content (codes "From ")))
 begins_by : (l : TextLine) (ls xs rest : List TextLine) → xs ≡ l ∷ ls → is_start l ≡ true → BeginsPlain (xs ++ rest)
 begins_by l ls xs rest e h = subst (λ ys. BeginsPlain (ys ++ rest)) (sym e) (start_plain l h)
 
-begins : (eol : Ending) (fields : List (List ℕ)) (made s rest : List TextLine) → is_open eol ≡ false → AreFreeFields fields → BeginsPlain (((fields_lines eol fields ++ (version eol ∷ made)) ++ s) ++ rest)
+pub begins : (eol : Ending) (fields : List (List ℕ)) (made s rest : List TextLine) → is_open eol ≡ false → AreFreeFields fields → BeginsPlain (((fields_lines eol fields ++ (version eol ∷ made)) ++ s) ++ rest)
 begins eol [] made s rest c h = refl
 begins eol (field ∷ fields) made s rest c h =
     let k = field_lines eol field c h.0 in
@@ -168,11 +168,11 @@ read_built eol fields sub b list c k m h g =
     (well_read levels false root (root_well eol fields sub b list c k m h g)))
 
 -- what its parts hold
-or_true : (t : Bool) → true ≡ (t || true)
+pub or_true : (t : Bool) → true ≡ (t || true)
 or_true true = refl
 or_true false = refl
 
-first_is : (x a : Attached) → ◌≡◌ {A = Option Attached} (Some x) (Some a) → x ≡ a
+pub first_is : (x a : Attached) → ◌≡◌ {A = Option Attached} (Some x) (Some a) → x ≡ a
 first_is x a e = cc
 
 pub record Holds (o : Option Placed) (text : List ℕ) : Type 0 where
@@ -217,7 +217,7 @@ parts_count : (eol : Ending) (b : List ℕ) (place : ℕ) (digest : Bool) (list 
 parts_count eol b place digest [] = refl
 parts_count eol b place digest (a ∷ list) = ap suc (parts_count eol b (place + size (delimiter_line eol b ∷ []) + size (print (part_entity eol a))) digest list)
 
-extracted : (o : Option Placed) (text : List ℕ) → Holds o text → IsExtract (option_and_then (section_below []) o) text
+pub extracted : (o : Option Placed) (text : List ℕ) → Holds o text → IsExtract (option_and_then (section_below []) o) text
 extracted o text h = subst (λ p. IsExtract (option_and_then (section_below []) p) text) (sym h.found) h.content
 
 gives_back : (eol : Ending) (fields : List (List ℕ)) (sub b : List ℕ) (list : List Attached) → is_open eol ≡ false → AreGood list → GivesBack list (record { envelope = None; root = root_entity eol fields sub b list })
@@ -232,7 +232,7 @@ gives_back eol fields sub b list c g =
     }
 
 -- nothing was against building it
-none_at : (f : ℕ → BuildError) (o : Option ℕ) (other : Option BuildError) → refusal_at f o other ≡ None → (o ≡ None) × (other ≡ None)
+pub none_at : (f : ℕ → BuildError) (o : Option ℕ) (other : Option BuildError) → refusal_at f o other ≡ None → (o ≡ None) × (other ≡ None)
 none_at f None other h = (refl, h)
 none_at f (Some index) other h = absurd cc
 
@@ -240,30 +240,30 @@ map_none : (o : Option ℕ) → option_map suc o ≡ None → o ≡ None
 map_none None h = refl
 map_none (Some n) h = absurd cc
 
-first_passes : {X : Type 0} (test : X → Bool) (x : X) (xs : List X) → first_failing test (x ∷ xs) ≡ None → (test x ≡ true) × (first_failing test xs ≡ None)
+pub first_passes : {X : Type 0} (test : X → Bool) (x : X) (xs : List X) → first_failing test (x ∷ xs) ≡ None → (test x ≡ true) × (first_failing test xs ≡ None)
 first_passes test x xs h =
     elim (cases_Bool (test x)) [
       | inl y ↦ (y, map_none (first_failing test xs) (rw y at h))
       | inr n ↦ let now = rw n at h in absurd cc
     ]
 
-free_fields : (fields : List (List ℕ)) → first_failing is_free_field fields ≡ None → AreFreeFields fields
+pub free_fields : (fields : List (List ℕ)) → first_failing is_free_field fields ≡ None → AreFreeFields fields
 free_fields [] h = tt
 free_fields (field ∷ fields) h = let p = first_passes is_free_field field fields h in (p.0, free_fields fields p.1)
 
-good_parts : (list : List Attached) → first_failing (λ (a : Attached). is_media a.media) list ≡ None → first_failing (λ (a : Attached). is_name_or_none a.name) list ≡ None → HaveBytes list → AreGood list
+pub good_parts : (list : List Attached) → first_failing (λ (a : Attached). is_media a.media) list ≡ None → first_failing (λ (a : Attached). is_name_or_none a.name) list ≡ None → HaveBytes list → AreGood list
 good_parts [] h k s = tt
 good_parts (a ∷ list) h k s =
     let p = first_passes (λ (x : Attached). is_media x.media) a list h in
     let q = first_passes (λ (x : Attached). is_name_or_none x.name) a list k in
     (p.0, q.0, s.0, good_parts list p.1 q.1 s.1)
 
-allowed : (t u : Bool) → (if t then (if u then None else Some build.BadBoundary) else Some build.BadSubtype) ≡ None → (t ≡ true) × (u ≡ true)
+pub allowed : (t u : Bool) → (if t then (if u then None else Some build.BadBoundary) else Some build.BadSubtype) ≡ None → (t ≡ true) × (u ≡ true)
 allowed true true h = (refl, refl)
 allowed true false h = absurd cc
 allowed false u h = absurd cc
 
-closed_eol : (eol : Ending) → eol ≢ Missing → is_open eol ≡ false
+pub closed_eol : (eol : Ending) → eol ≢ Missing → is_open eol ≡ false
 closed_eol Crlf h = refl
 closed_eol Lf h = refl
 closed_eol Missing h = absurd (h refl)

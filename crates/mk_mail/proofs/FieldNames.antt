@@ -1,44 +1,35 @@
 -- Names of fields: those of a message, and what letters make of them.
-use Rattle.std.proofs.Common.{◌≡◌, ◌&&◌, ◌||◌, ◌⊎◌, ◌++◌, ℕ, Bool, true, false, not, List, [], ◌∷◌, Option, None, refl, ap, sym, ◌∙◌, subst, inl, inr, map, drop, filter, append_assoc, append-nil}
-use Rattle.std.specs.List.{list_all, list_any}
+use Rattle.std.proofs.Common.{◌≡◌, ◌&&◌, ◌||◌, ◌⊎◌, ◌++◌, ℕ, Bool, true, false, not, List, [], ◌∷◌, Option, None, Some, refl, ap, sym, ◌∙◌, subst, inl, inr, map, drop, filter, append_assoc, append-nil}
+use Rattle.std.specs.List.{list_any}
 use Rattle.std.proofs.lemmas.Bool.{cases_Bool, or_parts}
 use Rattle.std.proofs.lemmas.List.Elements.{filter-append}
 use Rattle.std.proofs.lemmas.List.{map-append}
 use Rattle.mk_line.specs.Lines.{cut}
-use Rattle.mk_head.specs.Fields.{FieldText, fields_of}
+use Rattle.mk_head.specs.Fields.{fields_of}
 use Rattle.mk_head.specs.Split.{fields_from}
 use Rattle.mk_head.specs.Splits.{IsRun}
 use Rattle.mk_tree.specs.Documents.{tree}
-use Rattle.mk_tree.specs.Sections.{head_text, root_of, section_fields}
+use Rattle.mk_tree.specs.Sections.{Placed, head_text, section_at, section_fields}
 use Rattle.mk_tree.specs.Tree.{field_lines}
 use Rattle.mk_decide.proofs.FieldPlaces.{run_all}
 use Rattle.mk_decide.proofs.SectionSites.{head_cut, head_is_run, site}
-use Rattle.mk_mail.specs.Letters.{Work, others, respelling, respelt, root_names, same_name, then_do, those, with_first}
+use Rattle.mk_mail.specs.Letters.{Work, fields_at, fields_in, names_at, others, respelling, respelt, same_name, then_do, those, with_first}
 use Rattle.mk_decide.specs.Edits.{PlainEdit}
-use Rattle.std.specs.Global.{Vec}
-use Rattle.mk_mail.specs.LetterWork.{texts_of}
 use Rattle.mk_mailbox.proofs.Intaking.{true_or_false}
 
--- the fields of the root are those of the lines of its head
-pub root_fields : (text : List ℕ) → fields_of (fields_from false (cut (head_text (root_of (tree text))))) ≡ section_fields (root_of (tree text))
-root_fields text =
-    let p = root_of (tree text) in
-    let s = site text (1 ∷ []) p refl in
-    let lines = head_cut text (1 ∷ []) p s in
-    ap (λ ls. fields_of (fields_from false ls)) lines ∙ ap fields_of (run_all false (field_lines p.entity) (subst (IsRun false) lines (head_is_run text (1 ∷ []) p s)))
+-- the fields of a section are those of the lines of its head
+pub fields_read : (path text : List ℕ) (p : Placed) → section_at path (tree text) ≡ Some p → fields_of (fields_from false (cut (head_text p))) ≡ section_fields p
+fields_read path text p e =
+    let s = site text path p e in
+    let lines = head_cut text path p s in
+    ap (λ ls. fields_of (fields_from false ls)) lines ∙ ap fields_of (run_all false (field_lines p.entity) (subst (IsRun false) lines (head_is_run text path p s)))
 
--- one test more of a list
-pub any_hit : {X : Type 0} (p : X → Bool) (ys zs rest : List X) (y : X) → ys ≡ y ∷ rest → p y ≡ true → list_any p ys ≡ list_any p zs → true ≡ list_any p zs
-any_hit p ys zs rest y e t h = sym (ap (list_any p) e ∙ ap (λ b. b || list_any p rest) t) ∙ h
+-- the same of those at a path
+pub fields_found : (path text head : List ℕ) (p : Placed) → Some p ≡ section_at path (tree text) → head ≡ head_text p → fields_of (fields_from false (cut head)) ≡ fields_at path text
+fields_found path text head p e h = ap (λ b. fields_of (fields_from false (cut b))) h ∙ (fields_read path text p (sym e) ∙ ap fields_in e)
 
-pub any_miss : {X : Type 0} (p : X → Bool) (ys zs rest : List X) (y : X) → ys ≡ y ∷ rest → p y ≡ false → list_any p ys ≡ list_any p zs → list_any p rest ≡ list_any p zs
-any_miss p ys zs rest y e t h = sym (ap (list_any p) e ∙ ap (λ b. b || list_any p rest) t) ∙ h
-
-pub all_hit : {X : Type 0} (p : X → Bool) (ys zs rest : List X) (y : X) → ys ≡ y ∷ rest → p y ≡ true → list_all p ys ≡ list_all p zs → list_all p rest ≡ list_all p zs
-all_hit p ys zs rest y e t h = sym (ap (list_all p) e ∙ ap (λ b. b && list_all p rest) t) ∙ h
-
-pub all_miss : {X : Type 0} (p : X → Bool) (ys zs rest : List X) (y : X) → ys ≡ y ∷ rest → p y ≡ false → list_all p ys ≡ list_all p zs → false ≡ list_all p zs
-all_miss p ys zs rest y e t h = sym (ap (list_all p) e ∙ ap (λ b. b && list_all p rest) t) ∙ h
+pub names_found : (path text head : List ℕ) (p : Placed) → Some p ≡ section_at path (tree text) → head ≡ head_text p → map (λ f. f.name) (fields_of (fields_from false (cut head))) ≡ names_at path text
+names_found path text head p e h = ap (λ fs. map (λ f. f.name) fs) (fields_found path text head p e h)
 
 -- work after other work
 pub chained : (old mid : Work) (f g : List (List ℕ) → Work) → mid ≡ then_do old g → then_do mid f ≡ then_do old (λ names. then_do (g names) f)
@@ -138,18 +129,18 @@ none_respelt : (old new : List ℕ) (names : List (List ℕ)) → respelt old ne
 none_respelt old new [] = refl
 none_respelt old new (own ∷ names) = refl
 
-none_respelling : (old new : List ℕ) (names : List (List ℕ)) → respelling old new None names ≡ []
-none_respelling old new [] = refl
-none_respelling old new (own ∷ names) = refl
+none_respelling : (path old new : List ℕ) (names : List (List ℕ)) → respelling path old new None names ≡ []
+none_respelling path old new [] = refl
+none_respelling path old new (own ∷ names) = refl
 
 pub rest_respelt : (old new own : List ℕ) (o : Option ℕ) (list now all names rest : List (List ℕ)) → o ≡ None → names ≡ own ∷ rest → now ≡ list ++ own ∷ [] → list ++ respelt old new o names ≡ all → now ++ respelt old new o rest ≡ all
 rest_respelt old new own o list now all names rest n e k h =
     (λ i. k i ++ respelt old new (n i) rest)
     ∙ (append_assoc list (own ∷ []) (respelt old new None rest) ∙ (ap (λ ys. list ++ own ∷ ys) (none_respelt old new rest) ∙ ((λ i. list ++ respelt old new (sym n i) (sym e i)) ∙ h)))
 
-pub rest_respelling : (old new own : List ℕ) (o : Option ℕ) (list all : List PlainEdit) (names rest : List (List ℕ)) → o ≡ None → names ≡ own ∷ rest → list ++ respelling old new o names ≡ all → list ++ respelling old new o rest ≡ all
-rest_respelling old new own o list all names rest n e h =
-    (λ i. list ++ respelling old new (n i) rest) ∙ (ap (λ ys. list ++ ys) (none_respelling old new rest) ∙ ((λ i. list ++ respelling old new (sym n i) (sym e i)) ∙ h))
+pub rest_respelling : (path old new own : List ℕ) (o : Option ℕ) (list all : List PlainEdit) (names rest : List (List ℕ)) → o ≡ None → names ≡ own ∷ rest → list ++ respelling path old new o names ≡ all → list ++ respelling path old new o rest ≡ all
+rest_respelling path old new own o list all names rest n e h =
+    (λ i. list ++ respelling path old new (n i) rest) ∙ (ap (λ ys. list ++ ys) (none_respelling path old new rest) ∙ ((λ i. list ++ respelling path old new (sym n i) (sym e i)) ∙ h))
 
 -- one edit more
 pub edits_more : (f : List ℕ → PlainEdit) (old now new : List PlainEdit) (done more : List (List ℕ)) (x : List ℕ) → now ≡ old ++ map f done → new ≡ now ++ f x ∷ [] → more ≡ done ++ x ∷ [] → new ≡ old ++ map f more
@@ -158,8 +149,3 @@ edits_more f old now new done more x h n m =
 
 pub there_still : (p : List ℕ → Bool) (xs more : List (List ℕ)) (x : List ℕ) (t : Bool) → more ≡ xs ++ x ∷ [] → t ≡ list_any p xs → t ≡ true → t ≡ list_any p more
 there_still p xs more x t m e h = h ∙ sym (ap (list_any p) m ∙ (any_on p xs x ∙ ap (λ b. b || p x) (sym e ∙ h)))
-
-pub begun : (text : List ℕ) (names : List (Vec ℕ)) (head : List ℕ) (fields : List FieldText) → names ≡ [] → head ≡ head_text (root_of (tree text)) → fields ≡ fields_of (fields_from false (cut head)) → texts_of names ++ map (λ f. f.name) fields ≡ root_names text
-begun text names head fields e h f =
-    ap (λ ns. texts_of ns ++ map (λ f. f.name) fields) e
-    ∙ ap (λ fs. map (λ f. f.name) fs) (f ∙ (ap (λ b. fields_of (fields_from false (cut b))) h ∙ root_fields text))

@@ -32,10 +32,11 @@ use Rattle.mk_edit.proofs.GroupFacts.{groups_read_back_lem}
 use Rattle.mk_decide.proofs.Late.{IsFair, fair, told}
 use Rattle.mk_decide.proofs.SectionSites.{head_cut, head_is_run, site}
 use Rattle.mk_mail.specs.Filtered.{FilteredStayApart, filtered, filtered_in, outcome, text_left}
-use Rattle.mk_mail.specs.Letters.{PlainLetters, PlainPattern, Work, add_if_letter, added, added_full, dropped, edits_of, first_letter, is_bare, is_dropped, last_of, letter, made_old, name_in, next_number, old_name, only_letter, prefixed_letter, removed_all, rename_letter, renamed_all, respelling, respelt_all, root_names, root_path, same_name, those, untouched, worked}
+use Rattle.mk_mail.specs.Letters.{PlainLetters, PlainPattern, Work, add_if_letter, added, added_full, dropped, edits_of, first_letter, is_bare, is_dropped, last_of, letter, made_old, name_in, next_number, old_name, only_letter, prefixed_letter, removed_all, rename_letter, renamed_all, respelling, respelt_all, names_at, root_path, same_name, those, untouched, worked}
 use Rattle.mk_mailbox.specs.Dates.{ends_with_date}
 use Rattle.mk_mail.proofs.FieldNames.{both_true}
-use Rattle.mk_mail.proofs.MailChains.{AreMessage, IsKept, IsWhole, begins_from, ends_empty, kept_apart}
+use Rattle.mk_mailbox.specs.Places.{begins_from, ends_empty}
+use Rattle.mk_mail.proofs.MailChains.{AreMessage, IsKept, IsWhole, kept_apart}
 
 -- ---- the edits of letters are edits of the root's fields
 
@@ -63,7 +64,7 @@ joined : (es fs : List PlainEdit) → AreRootEdits es → AreRootEdits fs → Ar
 joined [] fs h g = g
 joined (e ∷ es) fs h g = (h.0, joined es fs h.1 g)
 
-respelling_root : (old new : List ℕ) (o : Option ℕ) (names : List (List ℕ)) → AreRootEdits (respelling old new o names)
+respelling_root : (old new : List ℕ) (o : Option ℕ) (names : List (List ℕ)) → AreRootEdits (respelling root_path old new o names)
 respelling_root old new o [] = tt
 respelling_root old new None (own ∷ names) = tt
 respelling_root old new (Some k) (own ∷ names) =
@@ -80,34 +81,34 @@ either_root : (t : Bool) (v w : Work) → HasRootEdits v → HasRootEdits w → 
 either_root true v w h g = h
 either_root false v w h g = g
 
-dropped_root : (ps : List PlainPattern) (names : List (List ℕ)) → HasRootEdits (dropped ps names)
+dropped_root : (ps : List PlainPattern) (names : List (List ℕ)) → HasRootEdits (dropped root_path ps names)
 dropped_root ps names = mapped (λ own. RemoveField root_path own 1) (filter (is_dropped ps) names) (λ own. refl)
 
-rename_root : (p : List ℕ × List ℕ) (names : List (List ℕ)) → HasRootEdits (rename_letter p names)
+rename_root : (p : List ℕ × List ℕ) (names : List (List ℕ)) → HasRootEdits (rename_letter root_path p names)
 rename_root p names =
-    either_root (same_name p.0 p.1) (respelt_all p.0 p.1 names) (renamed_all p.0 p.1 names) (respelling_root p.0 p.1 (Some 1) names)
+    either_root (same_name p.0 p.1) (respelt_all root_path p.0 p.1 names) (renamed_all root_path p.0 p.1 names) (respelling_root p.0 p.1 (Some 1) names)
     (mapped (λ own. RenameField root_path p.0 1 p.1) (those p.0 names) (λ own. refl))
 
-full_root : (eol : Ending) (field : List ℕ) (names : List (List ℕ)) → HasRootEdits (added_full eol field names)
-full_root eol field names = either_root (is_bare field) (untouched names) (added eol field names) tt (refl, tt)
+full_root : (eol : Ending) (field : List ℕ) (names : List (List ℕ)) → HasRootEdits (added_full root_path eol field names)
+full_root eol field names = either_root (is_bare field) (untouched names) (added root_path eol field names) tt (refl, tt)
 
-add_if_root : (eol : Ending) (field : List ℕ) (names : List (List ℕ)) → HasRootEdits (add_if_letter eol field names)
-add_if_root eol field names = either_root (list_any (same_name (name_in field)) names) (untouched names) (added eol field names) tt (refl, tt)
+add_if_root : (eol : Ending) (field : List ℕ) (names : List (List ℕ)) → HasRootEdits (add_if_letter root_path eol field names)
+add_if_root eol field names = either_root (list_any (same_name (name_in field)) names) (untouched names) (added root_path eol field names) tt (refl, tt)
 
-prefixed_root : (eol : Ending) (field : List ℕ) (names : List (List ℕ)) → HasRootEdits (prefixed_letter eol field names)
+prefixed_root : (eol : Ending) (field : List ℕ) (names : List (List ℕ)) → HasRootEdits (prefixed_letter root_path eol field names)
 prefixed_root eol field names =
-    let old = made_old (name_in field) names in
-    joined old.edits (added_full eol field old.names).edits (mapped (λ own. RenameField root_path (name_in field) 1 (old_name own)) (those (name_in field) names) (λ own. refl)) (full_root eol field old.names)
+    let old = made_old root_path (name_in field) names in
+    joined old.edits (added_full root_path eol field old.names).edits (mapped (λ own. RenameField root_path (name_in field) 1 (old_name own)) (those (name_in field) names) (λ own. refl)) (full_root eol field old.names)
 
-only_root : (eol : Ending) (field : List ℕ) (names : List (List ℕ)) → HasRootEdits (only_letter eol field names)
+only_root : (eol : Ending) (field : List ℕ) (names : List (List ℕ)) → HasRootEdits (only_letter root_path eol field names)
 only_root eol field names =
-    let gone = removed_all (name_in field) names in
-    joined gone.edits (added_full eol field gone.names).edits (mapped (λ own. RemoveField root_path (name_in field) 1) (those (name_in field) names) (λ own. refl)) (full_root eol field gone.names)
+    let gone = removed_all root_path (name_in field) names in
+    joined gone.edits (added_full root_path eol field gone.names).edits (mapped (λ own. RemoveField root_path (name_in field) 1) (those (name_in field) names) (λ own. refl)) (full_root eol field gone.names)
 
-first_root : (name : List ℕ) (names : List (List ℕ)) → HasRootEdits (first_letter name names)
+first_root : (name : List ℕ) (names : List (List ℕ)) → HasRootEdits (first_letter root_path name names)
 first_root name names = mapped (λ own. RemoveField root_path name 2) (drop 1 (those name names)) (λ own. refl)
 
-last_root : (o : Option (List ℕ)) (names : List (List ℕ)) → AreRootEdits (last_of o names)
+last_root : (o : Option (List ℕ)) (names : List (List ℕ)) → AreRootEdits (last_of root_path o names)
 last_root None names = tt
 last_root (Some name) names = mapped (λ own. RemoveField root_path name 1) (drop 1 (those name names)) (λ own. refl)
 
@@ -115,24 +116,24 @@ letter_root : {X : Type 0} (f : X → List (List ℕ) → Work) (o : Option X) (
 letter_root f None w k h = h
 letter_root f (Some x) w k h = joined w.edits (f x w.names).edits h (k x w.names)
 
-worked_root : (eol : Ending) (l : PlainLetters) (names : List (List ℕ)) → HasRootEdits (worked eol l names)
+worked_root : (eol : Ending) (l : PlainLetters) (names : List (List ℕ)) → HasRootEdits (worked root_path eol l names)
 worked_root eol l names =
-    let renamed = letter rename_letter l.rename (dropped l.drops names) in
-    let with_if = letter (add_if_letter eol) l.add_if renamed in
-    let with_one = letter (added eol) l.add with_if in
-    let prefixed = letter (prefixed_letter eol) l.prefixed with_one in
-    let only = letter (only_letter eol) l.only prefixed in
-    letter_root first_letter l.first only (λ name ns. first_root name ns)
-    (letter_root (only_letter eol) l.only prefixed (λ field ns. only_root eol field ns)
-    (letter_root (prefixed_letter eol) l.prefixed with_one (λ field ns. prefixed_root eol field ns)
-    (letter_root (added eol) l.add with_if (λ field ns. (refl, tt))
-    (letter_root (add_if_letter eol) l.add_if renamed (λ field ns. add_if_root eol field ns)
-    (letter_root rename_letter l.rename (dropped l.drops names) (λ p ns. rename_root p ns) (dropped_root l.drops names))))))
+    let renamed = letter (rename_letter root_path) l.rename (dropped root_path l.drops names) in
+    let with_if = letter (add_if_letter root_path eol) l.add_if renamed in
+    let with_one = letter (added root_path eol) l.add with_if in
+    let prefixed = letter (prefixed_letter root_path eol) l.prefixed with_one in
+    let only = letter (only_letter root_path eol) l.only prefixed in
+    letter_root (first_letter root_path) l.first only (λ name ns. first_root name ns)
+    (letter_root (only_letter root_path eol) l.only prefixed (λ field ns. only_root eol field ns)
+    (letter_root (prefixed_letter root_path eol) l.prefixed with_one (λ field ns. prefixed_root eol field ns)
+    (letter_root (added root_path eol) l.add with_if (λ field ns. (refl, tt))
+    (letter_root (add_if_letter root_path eol) l.add_if renamed (λ field ns. add_if_root eol field ns)
+    (letter_root (rename_letter root_path) l.rename (dropped root_path l.drops names) (λ p ns. rename_root p ns) (dropped_root l.drops names))))))
 
 edits_root : (text : List ℕ) (l : PlainLetters) → AreRootEdits (edits_of text l)
 edits_root text l =
-    let w = worked (eol_of (cut text)) l (root_names text) in
-    joined w.edits (last_of l.last w.names) (worked_root (eol_of (cut text)) l (root_names text)) (last_root l.last w.names)
+    let w = worked root_path (eol_of (cut text)) l (names_at root_path text) in
+    joined w.edits (last_of root_path l.last w.names) (worked_root (eol_of (cut text)) l (names_at root_path text)) (last_root l.last w.names)
 
 -- ---- what such edits give has other fields, and all else as it was
 

@@ -5,9 +5,11 @@ pub mod FieldLines
 pub mod BuiltFields
 pub mod BuiltParts
 pub mod BuiltMessages
+pub mod BuiltForwards
 pub mod SaidNames
 pub mod BuiltNames
 pub mod FieldNames
 pub mod MailChains
 pub mod FilteredMail
 pub mod RoundsMade
+pub mod SectionsApart

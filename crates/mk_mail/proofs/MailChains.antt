@@ -10,6 +10,7 @@ use Rattle.mk_line.proofs.Cuts.{cut_text, lines_cut, text_append, text_cut}
 use Rattle.mk_head.specs.Splits.{has_line}
 use Rattle.mk_mail.specs.Filtered.{is_left}
 use Rattle.mk_mailbox.specs.Pieces.{is_first, is_mail_start, front, later, parted, mailbox_pieces}
+use Rattle.mk_mailbox.specs.Places.{begins_from, ends_empty}
 use Rattle.mk_mail.proofs.FieldNames.{both_true}
 use Rattle.mk_mailbox.proofs.PieceLaws.{lines_front}
 
@@ -17,16 +18,6 @@ use Rattle.mk_mailbox.proofs.PieceLaws.{lines_front}
 abbrev pub IsWhole : FromLines → Bool → List TextLine → Type 0
 IsWhole way e [] = Unit {0}
 IsWhole way e (l ∷ ls) = (is_first way e l.content ≡ false) × IsWhole way (is_nil l.content) ls
-
--- whether the last line is empty; `e` where there is none
-abbrev pub ends_empty : Bool → List TextLine → Bool
-ends_empty e [] = e
-ends_empty e (l ∷ ls) = ends_empty (is_nil l.content) ls
-
--- the first line is a From-line
-abbrev pub begins_from : FromLines → List TextLine → Bool
-begins_from way [] = false
-begins_from way (l ∷ ls) = is_mail_start way l.content
 
 -- lines of a message: some, none of which begins another
 abbrev pub AreMessage : FromLines → List TextLine → Type 0

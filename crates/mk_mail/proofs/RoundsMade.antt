@@ -1,17 +1,16 @@
 -- Rounds of letters: what they make, one after another, and the messages of a mailbox that they leave.
-use Rattle.std.proofs.Common.{◌≡◌, ◌++◌, ◌&&◌, if◌then◌else◌, ℕ, Bool, true, false, Result, Ok, Err, List, [], ◌∷◌, refl, ap, sym, ◌∙◌}
+use Rattle.std.proofs.Common.{◌≡◌, ◌++◌, if◌then◌else◌, ℕ, Bool, true, false, Ok, Err, List, [], ◌∷◌, refl, ap, ◌∙◌}
 use Rattle.mk_mailbox.specs.declared.from_lines.FromLines.{FromLines}
 use Rattle.mk_mailbox.specs.Pieces.{is_left_alone}
 use Rattle.mk_line.specs.Lines.{TextLine, cut, eol_of, is_lf}
-use Rattle.mk_tree.specs.Documents.{printed, tree}
 use Rattle.mk_edit.specs.Groups.{Together}
 use Rattle.mk_mail.specs.Filtered.{outcome, text_left}
-use Rattle.mk_mail.specs.Letters.{PlainLetters}
-use Rattle.mk_mail.specs.Rounds.{Made, OneRoundFilters, PlainRound, RoundsArePiped, RoundsStayApart, left_of, letters_for, made_of, made_text, round_made, round_of_letters, rounds_left, rounds_left_in, rounds_made}
+use Rattle.mk_mail.specs.Letters.{PlainLetters, root_path}
+use Rattle.mk_mail.specs.Rounds.{Made, OneRoundFilters, PlainRound, RoundsArePiped, RoundsStayApart, left_of, letters_for, made_of, made_text, round_made_at, rounds_left, rounds_left_in, rounds_made, rounds_made_at}
 use Rattle.mk_mail.proofs.FilteredMail.{filtered_kept}
 use Rattle.mk_mail.proofs.MailChains.{AreMessage, IsKept, IsWhole, kept_apart}
 
-one_text : (text : List ℕ) (r : Together) → left_of text (made_of (rounds_made []) (made_text r)) ≡ text_left text r
+one_text : (text : List ℕ) (r : Together) → left_of text (made_of (rounds_made_at root_path []) (made_text r)) ≡ text_left text r
 one_text text (Ok p) = refl
 one_text text (Err q) = refl
 
@@ -21,7 +20,7 @@ same_letters l false = refl
 
 pub one_round : OneRoundFilters
 one_round l text =
-    ap (λ k. left_of text (made_of (rounds_made []) (made_text (outcome k text)))) (same_letters l (is_lf (eol_of (cut text))))
+    ap (λ k. left_of text (made_of (rounds_made_at root_path []) (made_text (outcome k text)))) (same_letters l (is_lf (eol_of (cut text))))
     ∙ one_text text (outcome l text)
 
 piped_on : (rs more : List PlainRound) (m : Made) → ((text : List ℕ) → rounds_made (rs ++ more) text ≡ made_of (rounds_made more) (rounds_made rs text))
@@ -31,18 +30,18 @@ piped_on rs more (Err reason) h = refl
 
 pub piped : RoundsArePiped
 piped [] more text = refl
-piped (r ∷ rs) more text = piped_on rs more (round_made r text) (λ next. piped rs more next)
+piped (r ∷ rs) more text = piped_on rs more (round_made_at root_path r text) (λ next. piped rs more next)
 
 -- ---- what stays of a message
 
-unchanged : (way : FromLines) (ls : List TextLine) → IsWhole way false ls → IsKept way ls ls
+pub unchanged : (way : FromLines) (ls : List TextLine) → IsWhole way false ls → IsKept way ls ls
 unchanged way ls w = record { whole = w; ends = λ h. h; begins = λ h. h }
 
 kept_on : (way : FromLines) (a b c : List TextLine) → IsKept way a b → IsKept way b c → IsKept way a c
 kept_on way a b c k m = record { whole = m.whole; ends = λ h. m.ends (k.ends h); begins = λ h. m.begins (k.begins h) }
 
 -- a text that was made keeps what makes a message of its lines
-abbrev IsMadeKept : FromLines → List ℕ → Made → Type 0
+abbrev pub IsMadeKept : FromLines → List ℕ → Made → Type 0
 IsMadeKept way text (Ok made) = IsKept way (cut text) (cut made)
 IsMadeKept way text (Err reason) = Unit {0}
 
@@ -58,12 +57,12 @@ made_kept : (way : FromLines) (text : List ℕ) (f : List ℕ → Made) (m : Mad
 made_kept way text f (Ok made) k h = later_kept way text made (f made) k (h made k.whole)
 made_kept way text f (Err reason) k h = tt
 
-rounds_kept : (way : FromLines) (rs : List PlainRound) (text : List ℕ) → IsWhole way false (cut text) → IsMadeKept way text (rounds_made rs text)
+pub rounds_kept : (way : FromLines) (rs : List PlainRound) (text : List ℕ) → IsWhole way false (cut text) → IsMadeKept way text (rounds_made rs text)
 rounds_kept way [] text w = unchanged way (cut text) w
 rounds_kept way (r ∷ rs) text w =
-    made_kept way text (rounds_made rs) (round_made r text) (text_kept way text (outcome (letters_for r text) text) (filtered_kept way (letters_for r text) text w)) (λ made v. rounds_kept way rs made v)
+    made_kept way text (rounds_made rs) (round_made_at root_path r text) (text_kept way text (outcome (letters_for r text) text) (filtered_kept way (letters_for r text) text w)) (λ made v. rounds_kept way rs made v)
 
-left_kept : (way : FromLines) (text : List ℕ) (m : Made) → IsWhole way false (cut text) → IsMadeKept way text m → IsKept way (cut text) (cut (left_of text m))
+pub left_kept : (way : FromLines) (text : List ℕ) (m : Made) → IsWhole way false (cut text) → IsMadeKept way text m → IsKept way (cut text) (cut (left_of text m))
 left_kept way text (Ok made) w k = k
 left_kept way text (Err reason) w k = unchanged way (cut text) w
 

@@ -1,14 +1,15 @@
 -- A message that was built gives back what was attached (own).
-use Rattle.std.specs.Prelude.{◌≡◌, ◌≢◌, ◌<◌, ℕ, None, Some, List, [], ◌∷◌, length, map, nat_lt, slice_index, true}
+use Rattle.std.specs.Prelude.{◌≡◌, ◌≢◌, ◌<◌, ◌+◌, ℕ, Option, None, Some, List, [], ◌∷◌, length, map, nat_lt, slice_index, true}
 use Rattle.std.specs.List.{list_all}
 use Rattle.mk_line.specs.declared.cutting.Ending.{Ending}
 use Rattle.mk_line.specs.declared.cutting.Ending.TheVariants.{Missing}
 use Rattle.mk_head.specs.Fields.{counted}
-use Rattle.mk_tree.specs.declared.shapes.Kind.TheVariants.{Multi}
+use Rattle.mk_tree.specs.declared.shapes.Kind.TheVariants.{Message, Multi}
 use Rattle.mk_tree.specs.Documents.{Document, tree}
 use Rattle.mk_tree.specs.Forms.{kind_in}
-use Rattle.mk_tree.specs.Sections.{Placed, children, section_at}
+use Rattle.mk_tree.specs.Sections.{Placed, children, content_text, section_at}
 use Rattle.mk_build.specs.Building.{Attached, build_refusal, built, is_said, named_in_utf8}
+use Rattle.mk_build.specs.Forwards.{Forwarded, built_with, refusal_with}
 use Rattle.mk_build.specs.Multiparts.{Multipart, built_as, refusal_as}
 use Rattle.mk_view.specs.Extracts.{IsExtract}
 use Rattle.mk_view.specs.TextNames.{text_name}
@@ -43,6 +44,26 @@ plain subtype boundary = record { subtype = subtype; charset = None; boundary = 
 abbrev pub BuiltMultipartsGiveBack : Type 0
 BuiltMultipartsGiveBack = (eol : Ending) (fields : List (List ℕ)) (parts : List Attached) (subtype boundary : List ℕ) → eol ≢ Missing → HaveBytes parts
     → refusal_as fields parts (plain subtype boundary) ≡ None → GivesBack parts (tree (built_as eol fields parts (plain subtype boundary)))
+
+-- a section is a message of these bytes
+abbrev pub IsMessage : Option Placed → List ℕ → Type 0
+IsMessage None text = ⊥
+IsMessage (Some p) text = (kind_in p.entity ≡ Message) × (content_text p ≡ text)
+
+-- section 1 is a multipart with as many parts and messages: what is extracted at 1.k is the k-th text, and after the parts
+-- each message is a section of its own
+pub record GivesAllBack (parts : List Attached) (messages : List Forwarded) (t : Document) : Type 0 where
+  pub root : Placed
+  pub found : section_at (1 ∷ []) t ≡ Some root
+  pub multi : kind_in root.entity ≡ Multi
+  pub count : length (children root) ≡ length parts + length messages
+  pub texts : (k : ℕ) (a : Attached) → counted k parts ≡ Some a → IsExtract (section_at (1 ∷ k ∷ []) t) a.text
+  pub forwarded : (k : ℕ) (f : Forwarded) → counted k messages ≡ Some f → IsMessage (section_at (1 ∷ (length parts + k) ∷ []) t) f.text
+
+-- so does each message that is built with forwarded messages
+abbrev pub ForwardedMessagesGiveBack : Type 0
+ForwardedMessagesGiveBack = (eol : Ending) (fields : List (List ℕ)) (parts : List Attached) (messages : List Forwarded) (subtype boundary : List ℕ) → eol ≢ Missing → HaveBytes parts
+    → refusal_with fields parts messages (plain subtype boundary) ≡ None → GivesAllBack parts messages (tree (built_with eol fields parts messages (plain subtype boundary)))
 
 -- a file whose name is written as people write it has just that name in each message that is built in UTF-8
 abbrev pub BuiltNamesAreSaid : Type 0

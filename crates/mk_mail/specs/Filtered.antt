@@ -4,13 +4,17 @@ use Rattle.std.specs.List.{flat_map}
 use Rattle.mk_line.specs.Lines.{is_nil}
 use Rattle.mk_tree.specs.Documents.{printed, tree}
 use Rattle.mk_edit.specs.Groups.{Together, together}
-use Rattle.mk_mail.specs.Letters.{PlainLetters, edits_of}
+use Rattle.mk_mail.specs.Letters.{PlainLetters, edits_at, root_path}
 use Rattle.mk_mailbox.specs.declared.from_lines.FromLines.{FromLines}
 use Rattle.mk_mailbox.specs.Pieces.{is_left_alone, mailbox_pieces}
 
--- what the edits of letters give of a message, made one after another
+-- what the edits of letters at a path give of a message, made one after another
+abbrev pub outcome_at : List ℕ → PlainLetters → List ℕ → Together
+outcome_at path l text = together (edits_at path text l) (tree text)
+
+-- the same at the root
 abbrev pub outcome : PlainLetters → List ℕ → Together
-outcome l text = together (edits_of text l) (tree text)
+outcome l text = outcome_at root_path l text
 
 -- the text that edits give, or the text as it came where one of them is refused
 abbrev pub text_left : List ℕ → Together → List ℕ

@@ -1,14 +1,14 @@
--- Letters: a filter of the fields of a message, as a list of edits of its root (own, after formail).
+-- Letters: a filter of the fields of a section, as a list of edits (own, after formail).
 use Rattle.std.specs.Prelude.{◌+◌, ◌++◌, ◌==◌, ◌&&◌, ◌||◌, if◌then◌else◌, ℕ, Bool, true, false, not, Option, None, Some, List, [], ◌∷◌, codes, drop, filter, is_some, length, map, nat_lt, take, unwrap_or}
 use Rattle.std.specs.List.{list_all, list_any, prefix_len}
 use Rattle.std.specs.Str.{bytes_eq, str_to_ascii_lowercase}
 use Rattle.mk_line.specs.declared.cutting.Ending.{Ending}
 use Rattle.mk_line.specs.Ascii.{colon, is_blank, is_name_byte}
 use Rattle.mk_line.specs.Lines.{cut, ending_bytes, eol_of}
-use Rattle.mk_head.specs.Fields.{is_one_field}
+use Rattle.mk_head.specs.Fields.{FieldText, is_one_field}
 use Rattle.mk_line.specs.Parting.{behind}
 use Rattle.mk_tree.specs.Documents.{tree}
-use Rattle.mk_tree.specs.Sections.{root_of, section_fields}
+use Rattle.mk_tree.specs.Sections.{Placed, section_at, section_fields}
 use Rattle.mk_decide.specs.Edits.{PlainEdit, AddField, RemoveField, RenameField}
 use Rattle.mk_line.specs.Kinds.{is_name}
 use Rattle.mk_line.specs.Lines.{ends_open}
@@ -117,13 +117,19 @@ pub record Work : Type 0 where
 abbrev pub root_path : List ℕ
 root_path = 1 ∷ []
 
+-- a path is that of the root
+abbrev pub is_root : List ℕ → Bool
+is_root [] = false
+is_root (k ∷ []) = k == 1
+is_root (k ∷ n ∷ ks) = false
+
 -- each name that is one, made another
 abbrev pub replaced : List ℕ → (List ℕ → List ℕ) → List (List ℕ) → List (List ℕ)
 replaced name f names = map (λ own. if same_name name own then f own else own) names
 
 -- all fields of a name get another, which isn't the same
-abbrev pub renamed_all : List ℕ → List ℕ → List (List ℕ) → Work
-renamed_all old new names = record { names = replaced old (λ own. new) names; edits = map (λ own. RenameField root_path old 1 new) (those old names) }
+abbrev pub renamed_all : List ℕ → List ℕ → List ℕ → List (List ℕ) → Work
+renamed_all path old new names = record { names = replaced old (λ own. new) names; edits = map (λ own. RenameField path old 1 new) (those old names) }
 
 -- the greatest number that an edit can name a field by
 abbrev pub greatest_number : ℕ
@@ -140,35 +146,35 @@ respelt old new None (own ∷ names) = own ∷ names
 respelt old new (Some k) (own ∷ names) = if same_name old own then new ∷ respelt old new (next_number k) names else own ∷ respelt old new (Some k) names
 
 -- the edits for that
-abbrev pub respelling : List ℕ → List ℕ → Option ℕ → List (List ℕ) → List PlainEdit
-respelling old new number [] = []
-respelling old new None (own ∷ names) = []
-respelling old new (Some k) (own ∷ names) =
-    if same_name old own then RenameField root_path old k new ∷ respelling old new (next_number k) names else respelling old new (Some k) names
+abbrev pub respelling : List ℕ → List ℕ → List ℕ → Option ℕ → List (List ℕ) → List PlainEdit
+respelling path old new number [] = []
+respelling path old new None (own ∷ names) = []
+respelling path old new (Some k) (own ∷ names) =
+    if same_name old own then RenameField path old k new ∷ respelling path old new (next_number k) names else respelling path old new (Some k) names
 
 -- the names and the edits for that
-abbrev pub respelt_all : List ℕ → List ℕ → List (List ℕ) → Work
-respelt_all old new names = record { names = respelt old new (Some 1) names; edits = respelling old new (Some 1) names }
+abbrev pub respelt_all : List ℕ → List ℕ → List ℕ → List (List ℕ) → Work
+respelt_all path old new names = record { names = respelt old new (Some 1) names; edits = respelling path old new (Some 1) names }
 
 -- `--rename`
-abbrev pub rename_letter : List ℕ × List ℕ → List (List ℕ) → Work
-rename_letter p names = if same_name p.0 p.1 then respelt_all p.0 p.1 names else renamed_all p.0 p.1 names
+abbrev pub rename_letter : List ℕ → List ℕ × List ℕ → List (List ℕ) → Work
+rename_letter path p names = if same_name p.0 p.1 then respelt_all path p.0 p.1 names else renamed_all path p.0 p.1 names
 
 -- nothing is done
 abbrev pub untouched : List (List ℕ) → Work
 untouched names = record { names = names; edits = [] }
 
 -- a field more at the end, with an ending
-abbrev pub added : Ending → List ℕ → List (List ℕ) → Work
-added eol field names = record { names = names ++ name_in field ∷ []; edits = AddField root_path false (field ++ ending_bytes eol) ∷ [] }
+abbrev pub added : List ℕ → Ending → List ℕ → List (List ℕ) → Work
+added path eol field names = record { names = names ++ name_in field ∷ []; edits = AddField path false (field ++ ending_bytes eol) ∷ [] }
 
 -- `-a`
-abbrev pub add_if_letter : Ending → List ℕ → List (List ℕ) → Work
-add_if_letter eol field names = if list_any (same_name (name_in field)) names then untouched names else added eol field names
+abbrev pub add_if_letter : List ℕ → Ending → List ℕ → List (List ℕ) → Work
+add_if_letter path eol field names = if list_any (same_name (name_in field)) names then untouched names else added path eol field names
 
 -- a field more, if it isn't bare
-abbrev pub added_full : Ending → List ℕ → List (List ℕ) → Work
-added_full eol field names = if is_bare field then untouched names else added eol field names
+abbrev pub added_full : List ℕ → Ending → List ℕ → List (List ℕ) → Work
+added_full path eol field names = if is_bare field then untouched names else added path eol field names
 
 -- what is done after other work
 abbrev pub then_do : Work → (List (List ℕ) → Work) → Work
@@ -179,26 +185,26 @@ abbrev pub old_name : List ℕ → List ℕ
 old_name own = codes "Old-" ++ own
 
 -- all fields of a name get theirs after `Old-`
-abbrev pub made_old : List ℕ → List (List ℕ) → Work
-made_old name names = record { names = replaced name old_name names; edits = map (λ own. RenameField root_path name 1 (old_name own)) (those name names) }
+abbrev pub made_old : List ℕ → List ℕ → List (List ℕ) → Work
+made_old path name names = record { names = replaced name old_name names; edits = map (λ own. RenameField path name 1 (old_name own)) (those name names) }
 
 -- `-i`
-abbrev pub prefixed_letter : Ending → List ℕ → List (List ℕ) → Work
-prefixed_letter eol field names = then_do (made_old (name_in field) names) (added_full eol field)
+abbrev pub prefixed_letter : List ℕ → Ending → List ℕ → List (List ℕ) → Work
+prefixed_letter path eol field names = then_do (made_old path (name_in field) names) (added_full path eol field)
 
 -- all fields of a name go
-abbrev pub removed_all : List ℕ → List (List ℕ) → Work
-removed_all name names = record { names = others name names; edits = map (λ own. RemoveField root_path name 1) (those name names) }
+abbrev pub removed_all : List ℕ → List ℕ → List (List ℕ) → Work
+removed_all path name names = record { names = others name names; edits = map (λ own. RemoveField path name 1) (those name names) }
 
 -- `-I`
-abbrev pub only_letter : Ending → List ℕ → List (List ℕ) → Work
-only_letter eol field names = then_do (removed_all (name_in field) names) (added_full eol field)
+abbrev pub only_letter : List ℕ → Ending → List ℕ → List (List ℕ) → Work
+only_letter path eol field names = then_do (removed_all path (name_in field) names) (added_full path eol field)
 
 -- `--drop`, the first letter: all fields whose names patterns mean go, each as the first of its name
-abbrev pub dropped : List PlainPattern → List (List ℕ) → Work
-dropped ps names = record {
+abbrev pub dropped : List ℕ → List PlainPattern → List (List ℕ) → Work
+dropped path ps names = record {
   names = filter (λ own. not (is_dropped ps own)) names;
-  edits = map (λ own. RemoveField root_path own 1) (filter (is_dropped ps) names);
+  edits = map (λ own. RemoveField path own 1) (filter (is_dropped ps) names);
 }
 
 -- the names but for those that are one and aren't the first such
@@ -207,12 +213,12 @@ with_first name [] = []
 with_first name (own ∷ names) = own ∷ (if same_name name own then others name names else with_first name names)
 
 -- `-u`
-abbrev pub first_letter : List ℕ → List (List ℕ) → Work
-first_letter name names = record { names = with_first name names; edits = map (λ own. RemoveField root_path name 2) (drop 1 (those name names)) }
+abbrev pub first_letter : List ℕ → List ℕ → List (List ℕ) → Work
+first_letter path name names = record { names = with_first name names; edits = map (λ own. RemoveField path name 2) (drop 1 (those name names)) }
 
 -- `-U`, the last letter
-abbrev pub last_edits : List ℕ → List (List ℕ) → List PlainEdit
-last_edits name names = map (λ own. RemoveField root_path name 1) (drop 1 (those name names))
+abbrev pub last_edits : List ℕ → List ℕ → List (List ℕ) → List PlainEdit
+last_edits path name names = map (λ own. RemoveField path name 1) (drop 1 (those name names))
 
 -- a letter's work, where it is asked for
 abbrev pub letter : {X : Type 0} → (X → List (List ℕ) → Work) → Option X → Work → Work
@@ -220,28 +226,41 @@ letter f None w = w
 letter f (Some x) w = then_do w (f x)
 
 -- the edits of the last letter, where it is asked for
-abbrev pub last_of : Option (List ℕ) → List (List ℕ) → List PlainEdit
-last_of None names = []
-last_of (Some name) names = last_edits name names
+abbrev pub last_of : List ℕ → Option (List ℕ) → List (List ℕ) → List PlainEdit
+last_of path None names = []
+last_of path (Some name) names = last_edits path name names
 
 -- the work of all letters but the last, on fields of these names
-abbrev pub worked : Ending → PlainLetters → List (List ℕ) → Work
-worked eol l names =
-    letter first_letter l.first
-    (letter (only_letter eol) l.only
-    (letter (prefixed_letter eol) l.prefixed
-    (letter (added eol) l.add
-    (letter (add_if_letter eol) l.add_if
-    (letter rename_letter l.rename (dropped l.drops names))))))
+abbrev pub worked : List ℕ → Ending → PlainLetters → List (List ℕ) → Work
+worked path eol l names =
+    letter (first_letter path) l.first
+    (letter (only_letter path eol) l.only
+    (letter (prefixed_letter path eol) l.prefixed
+    (letter (added path eol) l.add
+    (letter (add_if_letter path eol) l.add_if
+    (letter (rename_letter path) l.rename (dropped path l.drops names))))))
 
 -- the edits of all letters, on fields of these names
-abbrev pub letter_edits : Ending → PlainLetters → List (List ℕ) → List PlainEdit
-letter_edits eol l names = (worked eol l names).edits ++ last_of l.last (worked eol l names).names
+abbrev pub letter_edits : List ℕ → Ending → PlainLetters → List (List ℕ) → List PlainEdit
+letter_edits path eol l names = (worked path eol l names).edits ++ last_of path l.last (worked path eol l names).names
 
--- the names of the root's fields
-abbrev pub root_names : List ℕ → List (List ℕ)
-root_names text = map (λ f. f.name) (section_fields (root_of (tree text)))
+-- the fields of a section, none where there is no section
+abbrev pub fields_in : Option Placed → List FieldText
+fields_in None = []
+fields_in (Some p) = section_fields p
 
--- the edits of letters on the document of a text, whose ending they give
+-- the fields of the section at a path
+abbrev pub fields_at : List ℕ → List ℕ → List FieldText
+fields_at path text = fields_in (section_at path (tree text))
+
+-- their names
+abbrev pub names_at : List ℕ → List ℕ → List (List ℕ)
+names_at path text = map (λ f. f.name) (fields_at path text)
+
+-- the edits of letters on the section at a path of the document of a text, whose ending they give
+abbrev pub edits_at : List ℕ → List ℕ → PlainLetters → List PlainEdit
+edits_at path text l = letter_edits path (eol_of (cut text)) l (names_at path text)
+
+-- the edits of letters on its root
 abbrev pub edits_of : List ℕ → PlainLetters → List PlainEdit
-edits_of text l = letter_edits (eol_of (cut text)) l (root_names text)
+edits_of text l = edits_at root_path text l

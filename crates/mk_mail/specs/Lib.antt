@@ -2,5 +2,6 @@ pub mod BuiltLaws
 pub mod Letters
 pub mod Filtered
 pub mod Rounds
+pub mod Apart
 pub mod LetterViews
 pub mod LetterWork

@@ -5,8 +5,8 @@ use Rattle.mk_line.specs.Lines.{cut, eol_of, is_lf}
 use Rattle.mk_tree.specs.Documents.{printed}
 use Rattle.mk_decide.specs.Edits.{Refusal}
 use Rattle.mk_edit.specs.Groups.{Together}
-use Rattle.mk_mail.specs.Filtered.{filtered, is_left, outcome}
-use Rattle.mk_mail.specs.Letters.{PlainLetters}
+use Rattle.mk_mail.specs.Filtered.{filtered, is_left, outcome_at}
+use Rattle.mk_mail.specs.Letters.{PlainLetters, root_path}
 use Rattle.mk_mailbox.specs.declared.from_lines.FromLines.{FromLines}
 use Rattle.mk_mailbox.specs.Pieces.{is_left_alone, mailbox_pieces}
 
@@ -32,19 +32,23 @@ abbrev pub made_text : Together → Made
 made_text (Ok p) = Ok (printed p.0)
 made_text (Err q) = Err q.1
 
--- what a round makes of a text
-abbrev pub round_made : PlainRound → List ℕ → Made
-round_made r text = made_text (outcome (letters_for r text) text)
+-- what a round at a path makes of a text
+abbrev pub round_made_at : List ℕ → PlainRound → List ℕ → Made
+round_made_at path r text = made_text (outcome_at path (letters_for r text) text)
 
 -- what is made of a text that was made
 abbrev pub made_of : (List ℕ → Made) → Made → Made
 made_of f (Ok text) = f text
 made_of f (Err reason) = Err reason
 
--- what rounds make of a text, each of what the one before it made, up to the first reason
+-- what rounds at a path make of a text, each of what the one before it made, up to the first reason
+abbrev pub rounds_made_at : List ℕ → List PlainRound → List ℕ → Made
+rounds_made_at path [] text = Ok text
+rounds_made_at path (r ∷ rs) text = made_of (rounds_made_at path rs) (round_made_at path r text)
+
+-- the same at the root
 abbrev pub rounds_made : List PlainRound → List ℕ → Made
-rounds_made [] text = Ok text
-rounds_made (r ∷ rs) text = made_of (rounds_made rs) (round_made r text)
+rounds_made rs text = rounds_made_at root_path rs text
 
 -- the text that was made, or the text as it came
 abbrev pub left_of : List ℕ → Made → List ℕ

@@ -1,11 +1,13 @@
-//! The fields of a message by their names, and the edits that letters make of them.
+//! The fields of a section by their names, and the edits that letters make of them.
 ghost use Rattle.std.specs.Prelude.{◌≡◌, ◌≤◌, ◌++◌, Some, false, drop, filter, length, map, not, IfOk, OnOk};
 ghost use Rattle.std.specs.List.{list_all, list_any, prefix_len};
-ghost use Rattle.mk_line.specs.Lines.{ending_bytes};
+ghost use Rattle.mk_line.specs.Lines.{cut, ending_bytes};
+ghost use Rattle.mk_head.specs.Fields.{fields_of};
+ghost use Rattle.mk_head.specs.Split.{fields_from};
 ghost use Rattle.mk_decide.specs.Edits.{AddField, RemoveField, RenameField};
 ghost use Rattle.mk_decide.specs.Views.{edit_of};
 ghost use Rattle.mk_mail.specs.LetterWork.{plain_edits, texts_of, work_of};
-ghost use Rattle.mk_mail.specs.Letters.{add_if_letter, added as added_field, added_full, dropped, first_letter, is_bare as bare, is_dropped as is_dropped_name, last_of, made_old, name_in, old_name, only_letter, others, prefixed_letter, removed_all, rename_letter, renamed_all as all_renamed, replaced, respelling, respelt, root_names, root_path, same_name, then_do, those, untouched, with_first};
+ghost use Rattle.mk_mail.specs.Letters.{add_if_letter, added as added_field, added_full, dropped, first_letter, is_bare as bare, is_dropped as is_dropped_name, last_of, made_old, name_in, old_name, only_letter, others, prefixed_letter, removed_all, rename_letter, renamed_all as all_renamed, replaced, respelling, respelt, names_at, same_name, then_do, those, untouched, with_first};
 ghost use Rattle.mk_mail.specs.LetterViews.{bytes_in, pattern_of};
 
 use crate::field_names::{is_bare, name_of};
@@ -19,7 +21,7 @@ use std::mem;
 
 const OLD: &[u8; 4] = b"Old-";
 
-/// The names that the fields of the root have, and the edits that led to them.
+/// The names that the fields of a section have, and the edits that led to them.
 #[derive(Drop)]
 pub(crate) struct Filter {
     names: Vec<Vec<u8>>,
@@ -27,94 +29,117 @@ pub(crate) struct Filter {
 }
 
 impl Filter {
-    /// The fields as they stand in a document.
-    pub(crate) fn new(alloc: Global, doc: &Doc) -> Result<Filter, AllocError>
-        ensures { IfOk result (λ f. work_of f ≡ untouched (root_names doc.now)) }
+    /// The fields as they stand in the section at a path, none where there is no such section.
+    pub(crate) fn new(alloc: Global, doc: &Doc, path: &[u32]) -> Result<Filter, AllocError>
+        ensures { IfOk result (λ f. work_of f ≡ untouched (names_at path.now doc.now)) }
     {
         Ok(Filter {
-            names: names_of(alloc, doc)?,
+            names: names_of(alloc, doc, path)?,
             edits: Vec::new(alloc),
         })
     }
 
     /// Removes the fields whose names patterns mean.
-    pub(crate) fn drop_fields(&mut self, drops: &[NamePattern]) -> Result<(), AllocError>
-        ensures { OnOk result (work_of self.new ≡ then_do (work_of self.old) (dropped (map pattern_of drops.now))) }
+    pub(crate) fn drop_fields(
+        &mut self,
+        path: &[u32],
+        drops: &[NamePattern],
+    ) -> Result<(), AllocError>
+        ensures { OnOk result (work_of self.new ≡ then_do (work_of self.old) (dropped path.now (map pattern_of drops.now))) }
     {
         let names = self.take_names();
-        self.names = remove_dropped(names, &mut self.edits, drops)?;
+        self.names = remove_dropped(path, names, &mut self.edits, drops)?;
         Ok(())
     }
 
     /// Gives the fields of a name another.
-    pub(crate) fn rename(&mut self, old: &[u8], new: &[u8]) -> Result<(), AllocError>
-        ensures { OnOk result (work_of self.new ≡ then_do (work_of self.old) (rename_letter (old.now, new.now))) }
+    pub(crate) fn rename(&mut self, path: &[u32], old: &[u8], new: &[u8]) -> Result<(), AllocError>
+        ensures { OnOk result (work_of self.new ≡ then_do (work_of self.old) (rename_letter path.now (old.now, new.now))) }
     {
         let names = self.take_names();
         self.names = if is_same(old, new) {
-            respell(names, &mut self.edits, old, new)?
+            respell(path, names, &mut self.edits, old, new)?
         } else {
-            rename_all(names, &mut self.edits, old, new)?
+            rename_all(path, names, &mut self.edits, old, new)?
         };
         Ok(())
     }
 
     /// Adds a field, unless one of its name is there.
-    pub(crate) fn add_if(&mut self, field: &[u8], eol: Ending) -> Result<(), AllocError>
-        ensures { OnOk result (work_of self.new ≡ then_do (work_of self.old) (add_if_letter eol field.now)) }
+    pub(crate) fn add_if(
+        &mut self,
+        path: &[u32],
+        field: &[u8],
+        eol: Ending,
+    ) -> Result<(), AllocError>
+        ensures { OnOk result (work_of self.new ≡ then_do (work_of self.old) (add_if_letter path.now eol field.now)) }
     {
         if has_name(&self.names, name_of(field)) {
             Ok(())
         } else {
-            self.add(field, eol)
+            self.add(path, field, eol)
         }
     }
 
     /// Adds a field after the others.
-    pub(crate) fn add(&mut self, field: &[u8], eol: Ending) -> Result<(), AllocError>
-        ensures { OnOk result (work_of self.new ≡ then_do (work_of self.old) (added_field eol field.now)) }
+    pub(crate) fn add(&mut self, path: &[u32], field: &[u8], eol: Ending) -> Result<(), AllocError>
+        ensures { OnOk result (work_of self.new ≡ then_do (work_of self.old) (added_field path.now eol field.now)) }
     {
         let alloc = *self.names.allocator();
-        self.edits.push(addition(alloc, field, eol)?)?;
+        self.edits.push(addition(alloc, path, field, eol)?)?;
         self.names.push(Vec::from_slice(alloc, name_of(field))?)?;
         Ok(())
     }
 
     /// Puts `Old-` before the names of the fields of this name, and adds the field.
-    pub(crate) fn prefix(&mut self, field: &[u8], eol: Ending) -> Result<(), AllocError>
-        ensures { OnOk result (work_of self.new ≡ then_do (work_of self.old) (prefixed_letter eol field.now)) }
+    pub(crate) fn prefix(
+        &mut self,
+        path: &[u32],
+        field: &[u8],
+        eol: Ending,
+    ) -> Result<(), AllocError>
+        ensures { OnOk result (work_of self.new ≡ then_do (work_of self.old) (prefixed_letter path.now eol field.now)) }
     {
         let names = self.take_names();
-        self.names = make_old(names, &mut self.edits, name_of(field))?;
-        self.add_full(field, eol)
+        self.names = make_old(path, names, &mut self.edits, name_of(field))?;
+        self.add_full(path, field, eol)
     }
 
     /// Removes the fields of this name, and adds the field.
-    pub(crate) fn replace(&mut self, field: &[u8], eol: Ending) -> Result<(), AllocError>
-        ensures { OnOk result (work_of self.new ≡ then_do (work_of self.old) (only_letter eol field.now)) }
+    pub(crate) fn replace(
+        &mut self,
+        path: &[u32],
+        field: &[u8],
+        eol: Ending,
+    ) -> Result<(), AllocError>
+        ensures { OnOk result (work_of self.new ≡ then_do (work_of self.old) (only_letter path.now eol field.now)) }
     {
         let names = self.take_names();
-        self.names = remove_all(names, &mut self.edits, name_of(field))?;
-        self.add_full(field, eol)
+        self.names = remove_all(path, names, &mut self.edits, name_of(field))?;
+        self.add_full(path, field, eol)
     }
 
     /// Removes the fields of a name but for the first.
-    pub(crate) fn keep_first(&mut self, name: &[u8]) -> Result<(), AllocError>
-        ensures { OnOk result (work_of self.new ≡ then_do (work_of self.old) (first_letter name.now)) }
+    pub(crate) fn keep_first(&mut self, path: &[u32], name: &[u8]) -> Result<(), AllocError>
+        ensures { OnOk result (work_of self.new ≡ then_do (work_of self.old) (first_letter path.now name.now)) }
     {
         let names = self.take_names();
-        self.names = remove_later(names, &mut self.edits, name, 2)?;
+        self.names = remove_later(path, names, &mut self.edits, name, 2)?;
         Ok(())
     }
 
     /// All edits, at last those that remove the fields of a name but for the last.
-    pub(crate) fn into_edits(mut self, last: &Option<Vec<u8>>) -> Result<Vec<Edit>, AllocError>
-        ensures { IfOk result (λ edits. plain_edits edits.items ≡ (work_of self).edits ++ last_of (bytes_in last.now) (work_of self).names) }
+    pub(crate) fn into_edits(
+        mut self,
+        path: &[u32],
+        last: &Option<Vec<u8>>,
+    ) -> Result<Vec<Edit>, AllocError>
+        ensures { IfOk result (λ edits. plain_edits edits.items ≡ (work_of self).edits ++ last_of path.now (bytes_in last.now) (work_of self).names) }
     {
         match last {
             Some(name) => {
                 let names = self.take_names();
-                remove_later(names, &mut self.edits, name, 1)?;
+                remove_later(path, names, &mut self.edits, name, 1)?;
                 Ok(self.edits)
             }
             None => Ok(self.edits),
@@ -122,13 +147,13 @@ impl Filter {
     }
 
     // Adds a field that isn't bare.
-    fn add_full(&mut self, field: &[u8], eol: Ending) -> Result<(), AllocError>
-        ensures { OnOk result (work_of self.new ≡ then_do (work_of self.old) (added_full eol field.now)) }
+    fn add_full(&mut self, path: &[u32], field: &[u8], eol: Ending) -> Result<(), AllocError>
+        ensures { OnOk result (work_of self.new ≡ then_do (work_of self.old) (added_full path.now eol field.now)) }
     {
         if is_bare(field) {
             Ok(())
         } else {
-            self.add(field, eol)
+            self.add(path, field, eol)
         }
     }
 
@@ -141,12 +166,22 @@ impl Filter {
     }
 }
 
-// The names of the fields of the root.
-fn names_of(alloc: Global, doc: &Doc) -> Result<Vec<Vec<u8>>, AllocError>
-    ensures { IfOk result (λ names. texts_of names.items ≡ root_names doc.now) }
+// The names of the fields of the section at a path.
+fn names_of(alloc: Global, doc: &Doc, path: &[u32]) -> Result<Vec<Vec<u8>>, AllocError>
+    ensures { IfOk result (λ names. texts_of names.items ≡ names_at path.now doc.now) }
+{
+    match doc.section(path) {
+        Some(section) => names_in(alloc, section.head()),
+        None => Ok(Vec::new(alloc)),
+    }
+}
+
+// The names of the fields of a head.
+fn names_in(alloc: Global, head: &[u8]) -> Result<Vec<Vec<u8>>, AllocError>
+    ensures { IfOk result (λ names. texts_of names.items ≡ map (λ f. f.name) (fields_of (fields_from false (cut head.now)))) }
 {
     let mut names = Vec::new(alloc);
-    for field in each_field(doc.root().head()) {
+    for field in each_field(head) {
         names.push(Vec::from_slice(alloc, field.name)?)?;
     }
     Ok(names)
@@ -154,18 +189,19 @@ fn names_of(alloc: Global, doc: &Doc) -> Result<Vec<Vec<u8>>, AllocError>
 
 // Removes the fields whose names patterns mean.
 fn remove_dropped(
+    path: &[u32],
     names: Vec<Vec<u8>>,
     edits: &mut Vec<Edit>,
     drops: &[NamePattern],
 ) -> Result<Vec<Vec<u8>>, AllocError>
     ensures names { IfOk result (λ r. texts_of r.items ≡ filter (λ own. not (is_dropped_name (map pattern_of drops.now) own)) (texts_of names.items)) }
-    ensures edits { OnOk result (plain_edits edits.new.items ≡ plain_edits edits.old.items ++ map (λ own. RemoveField root_path own 1) (filter (is_dropped_name (map pattern_of drops.now)) (texts_of names.items))) }
+    ensures edits { OnOk result (plain_edits edits.new.items ≡ plain_edits edits.old.items ++ map (λ own. RemoveField path.now own 1) (filter (is_dropped_name (map pattern_of drops.now)) (texts_of names.items))) }
 {
     let alloc = *names.allocator();
     let mut list = Vec::new(alloc);
     for own in names {
         if is_dropped(drops, &own) {
-            edits.push(removal(alloc, &own, 1)?)?;
+            edits.push(removal(alloc, path, &own, 1)?)?;
         } else {
             list.push(own)?;
         }
@@ -175,19 +211,20 @@ fn remove_dropped(
 
 // Gives the fields of a name another, which isn't the same.
 fn rename_all(
+    path: &[u32],
     names: Vec<Vec<u8>>,
     edits: &mut Vec<Edit>,
     old: &[u8],
     new: &[u8],
 ) -> Result<Vec<Vec<u8>>, AllocError>
     ensures names { IfOk result (λ r. texts_of r.items ≡ replaced old.now (λ own. new.now) (texts_of names.items)) }
-    ensures edits { OnOk result (plain_edits edits.new.items ≡ plain_edits edits.old.items ++ map (λ own. RenameField root_path old.now 1 new.now) (those old.now (texts_of names.items))) }
+    ensures edits { OnOk result (plain_edits edits.new.items ≡ plain_edits edits.old.items ++ map (λ own. RenameField path.now old.now 1 new.now) (those old.now (texts_of names.items))) }
 {
     let alloc = *names.allocator();
     let mut list = Vec::new(alloc);
     for own in names {
         if is_same(old, &own) {
-            edits.push(renaming(alloc, old, 1, new)?)?;
+            edits.push(renaming(alloc, path, old, 1, new)?)?;
             list.push(Vec::from_slice(alloc, new)?)?;
         } else {
             list.push(own)?;
@@ -198,13 +235,14 @@ fn rename_all(
 
 // Spells a name in another way, as far as numbers can name its fields.
 fn respell(
+    path: &[u32],
     names: Vec<Vec<u8>>,
     edits: &mut Vec<Edit>,
     old: &[u8],
     new: &[u8],
 ) -> Result<Vec<Vec<u8>>, AllocError>
     ensures names { IfOk result (λ r. texts_of r.items ≡ respelt old.now new.now (Some 1) (texts_of names.items)) }
-    ensures edits { OnOk result (plain_edits edits.new.items ≡ plain_edits edits.old.items ++ respelling old.now new.now (Some 1) (texts_of names.items)) }
+    ensures edits { OnOk result (plain_edits edits.new.items ≡ plain_edits edits.old.items ++ respelling path.now old.now new.now (Some 1) (texts_of names.items)) }
 {
     let alloc = *names.allocator();
     let mut list = Vec::new(alloc);
@@ -213,7 +251,7 @@ fn respell(
         match next {
             Some(k) => {
                 if is_same(old, &own) {
-                    edits.push(renaming(alloc, old, k, new)?)?;
+                    edits.push(renaming(alloc, path, old, k, new)?)?;
                     list.push(Vec::from_slice(alloc, new)?)?;
                     next = k.checked_add(1);
                 } else {
@@ -228,19 +266,20 @@ fn respell(
 
 // Puts `Old-` before the names of the fields of a name.
 fn make_old(
+    path: &[u32],
     names: Vec<Vec<u8>>,
     edits: &mut Vec<Edit>,
     name: &[u8],
 ) -> Result<Vec<Vec<u8>>, AllocError>
     ensures names { IfOk result (λ r. texts_of r.items ≡ replaced name.now old_name (texts_of names.items)) }
-    ensures edits { OnOk result (plain_edits edits.new.items ≡ plain_edits edits.old.items ++ map (λ own. RenameField root_path name.now 1 (old_name own)) (those name.now (texts_of names.items))) }
+    ensures edits { OnOk result (plain_edits edits.new.items ≡ plain_edits edits.old.items ++ map (λ own. RenameField path.now name.now 1 (old_name own)) (those name.now (texts_of names.items))) }
 {
     let alloc = *names.allocator();
     let mut list = Vec::new(alloc);
     for own in names {
         if is_same(name, &own) {
             let old = behind_old(alloc, &own)?;
-            edits.push(renaming(alloc, name, 1, &old)?)?;
+            edits.push(renaming(alloc, path, name, 1, &old)?)?;
             list.push(old)?;
         } else {
             list.push(own)?;
@@ -251,18 +290,19 @@ fn make_old(
 
 // Removes the fields of a name.
 fn remove_all(
+    path: &[u32],
     names: Vec<Vec<u8>>,
     edits: &mut Vec<Edit>,
     name: &[u8],
 ) -> Result<Vec<Vec<u8>>, AllocError>
     ensures names { IfOk result (λ r. texts_of r.items ≡ others name.now (texts_of names.items)) }
-    ensures edits { OnOk result (plain_edits edits.new.items ≡ plain_edits edits.old.items ++ map (λ own. RemoveField root_path name.now 1) (those name.now (texts_of names.items))) }
+    ensures edits { OnOk result (plain_edits edits.new.items ≡ plain_edits edits.old.items ++ map (λ own. RemoveField path.now name.now 1) (those name.now (texts_of names.items))) }
 {
     let alloc = *names.allocator();
     let mut list = Vec::new(alloc);
     for own in names {
         if is_same(name, &own) {
-            edits.push(removal(alloc, name, 1)?)?;
+            edits.push(removal(alloc, path, name, 1)?)?;
         } else {
             list.push(own)?;
         }
@@ -272,13 +312,14 @@ fn remove_all(
 
 // Removes the fields of a name but for one, each by the number `k`.
 fn remove_later(
+    path: &[u32],
     names: Vec<Vec<u8>>,
     edits: &mut Vec<Edit>,
     name: &[u8],
     k: u32,
 ) -> Result<Vec<Vec<u8>>, AllocError>
     ensures names { IfOk result (λ r. texts_of r.items ≡ with_first name.now (texts_of names.items)) }
-    ensures edits { OnOk result (plain_edits edits.new.items ≡ plain_edits edits.old.items ++ map (λ own. RemoveField root_path name.now k) (drop 1 (those name.now (texts_of names.items)))) }
+    ensures edits { OnOk result (plain_edits edits.new.items ≡ plain_edits edits.old.items ++ map (λ own. RemoveField path.now name.now k) (drop 1 (those name.now (texts_of names.items)))) }
 {
     let alloc = *names.allocator();
     let mut list = Vec::new(alloc);
@@ -286,7 +327,7 @@ fn remove_later(
     for own in names {
         let same = is_same(name, &own);
         if is_there & same {
-            edits.push(removal(alloc, name, k)?)?;
+            edits.push(removal(alloc, path, name, k)?)?;
         } else {
             is_there |= same;
             list.push(own)?;
@@ -295,21 +336,21 @@ fn remove_later(
     Ok(list)
 }
 
-fn removal(alloc: Global, name: &[u8], k: u32) -> Result<Edit, AllocError>
-    ensures { IfOk result (λ edit. edit_of edit ≡ RemoveField root_path name.now k) }
+fn removal(alloc: Global, path: &[u32], name: &[u8], k: u32) -> Result<Edit, AllocError>
+    ensures { IfOk result (λ edit. edit_of edit ≡ RemoveField path.now name.now k) }
 {
     Ok(Edit::RemoveField {
-        path: root(alloc)?,
+        path: Vec::from_slice(alloc, path)?,
         name: Vec::from_slice(alloc, name)?,
         k,
     })
 }
 
-fn renaming(alloc: Global, name: &[u8], k: u32, to: &[u8]) -> Result<Edit, AllocError>
-    ensures { IfOk result (λ edit. edit_of edit ≡ RenameField root_path name.now k to.now) }
+fn renaming(alloc: Global, path: &[u32], name: &[u8], k: u32, to: &[u8]) -> Result<Edit, AllocError>
+    ensures { IfOk result (λ edit. edit_of edit ≡ RenameField path.now name.now k to.now) }
 {
     Ok(Edit::RenameField {
-        path: root(alloc)?,
+        path: Vec::from_slice(alloc, path)?,
         name: Vec::from_slice(alloc, name)?,
         k,
         to: Vec::from_slice(alloc, to)?,
@@ -317,22 +358,16 @@ fn renaming(alloc: Global, name: &[u8], k: u32, to: &[u8]) -> Result<Edit, Alloc
 }
 
 // A field more at the end, with an ending.
-fn addition(alloc: Global, field: &[u8], eol: Ending) -> Result<Edit, AllocError>
-    ensures { IfOk result (λ edit. edit_of edit ≡ AddField root_path false (field.now ++ ending_bytes eol)) }
+fn addition(alloc: Global, path: &[u32], field: &[u8], eol: Ending) -> Result<Edit, AllocError>
+    ensures { IfOk result (λ edit. edit_of edit ≡ AddField path.now false (field.now ++ ending_bytes eol)) }
 {
     let mut text = Vec::from_slice(alloc, field)?;
     text.extend_from_slice(eol.bytes())?;
     Ok(Edit::AddField {
-        path: root(alloc)?,
+        path: Vec::from_slice(alloc, path)?,
         top: false,
         text,
     })
-}
-
-fn root(alloc: Global) -> Result<Vec<u32>, AllocError>
-    ensures { IfOk result (λ path. path.items ≡ root_path) }
-{
-    Vec::from_slice(alloc, &[1])
 }
 
 // A name after `Old-`.

@@ -1,6 +1,7 @@
 //! Laws of built messages, letters and mailboxes, over the definitions alone: each a function with an empty body whose
 //! clause is the law.
-ghost use Rattle.mk_mail.specs.BuiltLaws.{BuiltMessagesGiveBack, BuiltMultipartsGiveBack, BuiltNamesAreSaid};
+ghost use Rattle.mk_mail.specs.Apart.{SectionsStayApart};
+ghost use Rattle.mk_mail.specs.BuiltLaws.{BuiltMessagesGiveBack, BuiltMultipartsGiveBack, BuiltNamesAreSaid, ForwardedMessagesGiveBack};
 ghost use Rattle.mk_mail.specs.Filtered.{FilteredStayApart};
 ghost use Rattle.mk_mail.specs.Rounds.{OneRoundFilters, RoundsArePiped, RoundsStayApart};
 
@@ -18,6 +19,12 @@ pub fn built_messages_give_back()
 /// So it is of a message that is built as a multipart of any subtype, a digest too, whose texts name no charset.
 pub fn built_multiparts_give_back()
     ensures { BuiltMultipartsGiveBack }
+{}
+
+/// So it is of a message that is built with forwarded messages, too: each of these is a section of its own after the parts, and
+/// its content is the message without a From-line at its start, byte for byte.
+pub fn forwarded_messages_give_back()
+    ensures { ForwardedMessagesGiveBack }
 {}
 
 /// The part of a file whose name is written as people write it has just that name, in each message that is built in UTF-8.
@@ -46,4 +53,9 @@ pub fn rounds_are_piped()
 /// The messages of a mailbox stay apart after rounds of letters, as after letters.
 pub fn rounds_stay_apart()
     ensures { RoundsStayApart }
+{}
+
+/// So they stay apart after rounds of letters at any path.
+pub fn sections_stay_apart()
+    ensures { SectionsStayApart }
 {}

@@ -5,7 +5,7 @@ ghost use Rattle.mk_line.specs.Kinds.{is_name as is_one_name};
 ghost use Rattle.mk_decide.specs.Views.{edit_of};
 ghost use Rattle.mk_mail.specs.LetterViews.{bytes_in, letters_of};
 ghost use Rattle.mk_mail.specs.LetterWork.{work_of};
-ghost use Rattle.mk_mail.specs.Letters.{add_if_letter, added, are_allowed, are_names, edits_of, edits_some as some_edits, first_letter, have_values as values_are_had, is_full_field as full_field, is_given_field as given_field, letter, only_letter, passes, prefixed_letter, rename_letter, stand_together as stand_so};
+ghost use Rattle.mk_mail.specs.Letters.{add_if_letter, added, are_allowed, are_names, edits_at, edits_of, edits_some as some_edits, first_letter, have_values as values_are_had, is_full_field as full_field, is_given_field as given_field, letter, only_letter, passes, prefixed_letter, rename_letter, stand_together as stand_so};
 
 use crate::field_names::is_bare;
 use crate::filtering::Filter;
@@ -15,6 +15,9 @@ use mk_head::one_field;
 use mk_line::{Ending, ends_open, eol_of, is_name};
 use mk_tree::Doc;
 use std::alloc::{AllocError, Global};
+
+/// The path of the root.
+const ROOT: [u32; 1] = [1];
 
 /// What a filter of fields is asked for, each letter at most once but `--drop`. A name stands without its colon, a field without the
 /// ending of its last line. They work in this order, each on the fields that those before it left.
@@ -94,69 +97,107 @@ pub fn field_edits(alloc: Global, doc: &Doc, letters: &Letters) -> Result<Vec<Ed
     requires { are_allowed (letters_of letters.now) ≡ true }
     ensures { IfOk result (λ edits. map edit_of edits.items ≡ edits_of doc.now (letters_of letters.now)) }
 {
+    field_edits_at(alloc, doc, &ROOT, letters)
+}
+
+/// The same at the section of a path. Where there is no such section, letters find no field there; an edit that adds one is
+/// refused.
+pub fn field_edits_at(
+    alloc: Global,
+    doc: &Doc,
+    path: &[u32],
+    letters: &Letters,
+) -> Result<Vec<Edit>, AllocError>
+    requires { are_allowed (letters_of letters.now) ≡ true }
+    ensures { IfOk result (λ edits. map edit_of edits.items ≡ edits_at path.now doc.now (letters_of letters.now)) }
+{
     let eol = eol_of(doc.text());
-    let mut filter = Filter::new(alloc, doc)?;
-    filter.drop_fields(&letters.drops)?;
-    rename(&mut filter, &letters.rename)?;
-    add_if(&mut filter, &letters.add_if, eol)?;
-    add(&mut filter, &letters.add, eol)?;
-    prefix(&mut filter, &letters.prefixed, eol)?;
-    replace(&mut filter, &letters.only, eol)?;
-    keep_first(&mut filter, &letters.first)?;
-    filter.into_edits(&letters.last)
+    let mut filter = Filter::new(alloc, doc, path)?;
+    filter.drop_fields(path, &letters.drops)?;
+    rename(&mut filter, path, &letters.rename)?;
+    add_if(&mut filter, path, &letters.add_if, eol)?;
+    add(&mut filter, path, &letters.add, eol)?;
+    prefix(&mut filter, path, &letters.prefixed, eol)?;
+    replace(&mut filter, path, &letters.only, eol)?;
+    keep_first(&mut filter, path, &letters.first)?;
+    filter.into_edits(path, &letters.last)
 }
 
 // The work of `--rename`, where it is asked for; and so for each letter.
-fn rename(filter: &mut Filter, names: &Option<(Vec<u8>, Vec<u8>)>) -> Result<(), AllocError>
-    ensures { OnOk result (work_of filter.new ≡ letter rename_letter (option_map (λ p. (p.0.items, p.1.items)) names.now) (work_of filter.old)) }
+fn rename(
+    filter: &mut Filter,
+    path: &[u32],
+    names: &Option<(Vec<u8>, Vec<u8>)>,
+) -> Result<(), AllocError>
+    ensures { OnOk result (work_of filter.new ≡ letter (rename_letter path.now) (option_map (λ p. (p.0.items, p.1.items)) names.now) (work_of filter.old)) }
 {
     match names {
-        Some((old, new)) => filter.rename(old, new),
+        Some((old, new)) => filter.rename(path, old, new),
         None => Ok(()),
     }
 }
 
-fn add_if(filter: &mut Filter, field: &Option<Vec<u8>>, eol: Ending) -> Result<(), AllocError>
-    ensures { OnOk result (work_of filter.new ≡ letter (add_if_letter eol) (bytes_in field.now) (work_of filter.old)) }
+fn add_if(
+    filter: &mut Filter,
+    path: &[u32],
+    field: &Option<Vec<u8>>,
+    eol: Ending,
+) -> Result<(), AllocError>
+    ensures { OnOk result (work_of filter.new ≡ letter (add_if_letter path.now eol) (bytes_in field.now) (work_of filter.old)) }
 {
     match field {
-        Some(field) => filter.add_if(field, eol),
+        Some(field) => filter.add_if(path, field, eol),
         None => Ok(()),
     }
 }
 
-fn add(filter: &mut Filter, field: &Option<Vec<u8>>, eol: Ending) -> Result<(), AllocError>
-    ensures { OnOk result (work_of filter.new ≡ letter (added eol) (bytes_in field.now) (work_of filter.old)) }
+fn add(
+    filter: &mut Filter,
+    path: &[u32],
+    field: &Option<Vec<u8>>,
+    eol: Ending,
+) -> Result<(), AllocError>
+    ensures { OnOk result (work_of filter.new ≡ letter (added path.now eol) (bytes_in field.now) (work_of filter.old)) }
 {
     match field {
-        Some(field) => filter.add(field, eol),
+        Some(field) => filter.add(path, field, eol),
         None => Ok(()),
     }
 }
 
-fn prefix(filter: &mut Filter, field: &Option<Vec<u8>>, eol: Ending) -> Result<(), AllocError>
-    ensures { OnOk result (work_of filter.new ≡ letter (prefixed_letter eol) (bytes_in field.now) (work_of filter.old)) }
+fn prefix(
+    filter: &mut Filter,
+    path: &[u32],
+    field: &Option<Vec<u8>>,
+    eol: Ending,
+) -> Result<(), AllocError>
+    ensures { OnOk result (work_of filter.new ≡ letter (prefixed_letter path.now eol) (bytes_in field.now) (work_of filter.old)) }
 {
     match field {
-        Some(field) => filter.prefix(field, eol),
+        Some(field) => filter.prefix(path, field, eol),
         None => Ok(()),
     }
 }
 
-fn replace(filter: &mut Filter, field: &Option<Vec<u8>>, eol: Ending) -> Result<(), AllocError>
-    ensures { OnOk result (work_of filter.new ≡ letter (only_letter eol) (bytes_in field.now) (work_of filter.old)) }
+fn replace(
+    filter: &mut Filter,
+    path: &[u32],
+    field: &Option<Vec<u8>>,
+    eol: Ending,
+) -> Result<(), AllocError>
+    ensures { OnOk result (work_of filter.new ≡ letter (only_letter path.now eol) (bytes_in field.now) (work_of filter.old)) }
 {
     match field {
-        Some(field) => filter.replace(field, eol),
+        Some(field) => filter.replace(path, field, eol),
         None => Ok(()),
     }
 }
 
-fn keep_first(filter: &mut Filter, name: &Option<Vec<u8>>) -> Result<(), AllocError>
-    ensures { OnOk result (work_of filter.new ≡ letter first_letter (bytes_in name.now) (work_of filter.old)) }
+fn keep_first(filter: &mut Filter, path: &[u32], name: &Option<Vec<u8>>) -> Result<(), AllocError>
+    ensures { OnOk result (work_of filter.new ≡ letter (first_letter path.now) (bytes_in name.now) (work_of filter.old)) }
 {
     match name {
-        Some(name) => filter.keep_first(name),
+        Some(name) => filter.keep_first(path, name),
         None => Ok(()),
     }
 }

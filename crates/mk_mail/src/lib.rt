@@ -9,9 +9,9 @@ pub mod laws;
 mod letters;
 mod patterns;
 
-pub use letters::{Letters, field_edits};
+pub use letters::{Letters, field_edits, field_edits_at};
 pub use mk_build::{Attach, AttachError, BuildError, attach, build, build_in_utf8};
-pub use mk_mailbox::{Fault, FromLines, MailFault, Mailbox, Sink, Source};
+pub use mk_mailbox::{Fault, FromLines, MailFault, Mailbox, Place, Sink, Source};
 pub use mk_view::{
     ExtractError, Leaf, NameForm, content, extract, leaves, leaves_in, list, names, numbered,
     push_path, push_type,

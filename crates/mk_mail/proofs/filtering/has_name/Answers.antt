@@ -2,7 +2,7 @@ use Rattle.std.proofs.Common.{ap, sym, ◌∙◌, ◌+◌, drop, arith}
 use Rattle.mk_mail.specs.Letters.{same_name}
 use Rattle.mk_mail.specs.LetterWork.{texts_of}
 use Rattle.mk_build.proofs.Failing.{from_index}
-use Rattle.mk_mail.proofs.FieldNames.{any_hit, any_miss}
+use Rattle.mk_build.proofs.Failing.{any_hit, any_miss}
 use Rattle.mk_mail.proofs.filtering.has_name.Goals as goal
 
 pub returns-then-is_same : goal.returns-then-is_same

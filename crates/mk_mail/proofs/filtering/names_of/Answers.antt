@@ -1,8 +1,8 @@
-use Rattle.std.proofs.Common.{◌∙◌, ap}
-use Rattle.mk_tree.specs.Sections.{head_text}
-use Rattle.mk_mail.proofs.FieldNames.{begun}
+use Rattle.std.proofs.Common.{◌≡◌, IfOk, subst}
+use Rattle.mk_mail.specs.LetterWork.{texts_of}
+use Rattle.mk_mail.proofs.FieldNames.{names_found}
 use Rattle.mk_mail.proofs.filtering.names_of.Goals as goal
 
-pub loop-field-init : goal.loop-field-init
-loop-field-init c =
-    begun c.args.doc.now c.new-names.result.items c.head.result.now c.into_iter-field-iterator.result c.new-names.ensures.items (c.head.ensures ∙ ap (λ p. head_text p) c.root.ensures) (c.into_iter-field-iterator.ensures.into_iter_gives ∙ c.each_field-field-items.ensures.fields)
+pub returns-in-Some : goal.returns-in-Some
+returns-in-Some c =
+    subst (λ ns. IfOk c.names_in.result (λ names. texts_of names.items ≡ ns)) (names_found c.args.path.now c.args.doc.now c.head.result.now c.in-Some.section c.in-Some.ensures c.head.ensures) c.names_in.ensures

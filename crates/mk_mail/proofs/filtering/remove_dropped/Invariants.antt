@@ -1,6 +1,6 @@
 use Rattle.std.proofs.Common.{◌≡◌, ◌++◌, filter, map, not}
 use Rattle.mk_decide.specs.Edits.{RemoveField}
-use Rattle.mk_mail.specs.Letters.{is_dropped, root_path}
+use Rattle.mk_mail.specs.Letters.{is_dropped}
 use Rattle.mk_mail.specs.LetterViews.{pattern_of}
 use Rattle.mk_mail.specs.LetterWork.{plain_edits, texts_of}
 use Rattle.mk_mail.proofs.filtering.remove_dropped.Given as goal
@@ -8,5 +8,5 @@ use Rattle.mk_mail.proofs.filtering.remove_dropped.Given as goal
 abbrev pub invariant-loop-own : goal.invariant-loop-own
 invariant-loop-own l = record {
   names : texts_of l.list.items ≡ filter (λ own. not (is_dropped (map pattern_of l.drops) own)) (texts_of l.yielded);
-  edits : plain_edits l.edits.items ≡ plain_edits l.fn.edits.items ++ map (λ own. RemoveField root_path own 1) (filter (is_dropped (map pattern_of l.drops)) (texts_of l.yielded));
+  edits : plain_edits l.edits.items ≡ plain_edits l.fn.edits.items ++ map (λ own. RemoveField l.path own 1) (filter (is_dropped (map pattern_of l.drops)) (texts_of l.yielded));
 }

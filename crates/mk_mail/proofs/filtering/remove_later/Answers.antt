@@ -2,7 +2,7 @@ use Rattle.std.proofs.Common.{◌≡◌, ◌∙◌, ◌∷◌, ◌++◌, ◌&&�
 use Rattle.std.proofs.lemmas.List.{map-append}
 use Rattle.std.specs.List.{list_any}
 use Rattle.mk_decide.specs.Edits.{RemoveField}
-use Rattle.mk_mail.specs.Letters.{root_path, same_name, those, with_first}
+use Rattle.mk_mail.specs.Letters.{same_name, those, with_first}
 use Rattle.mk_mail.specs.LetterWork.{plain_edits, texts_of}
 use Rattle.mk_mail.proofs.FieldNames.{any_on, both_true, edits_more, first_gone, first_kept, later_gone, later_kept, there_still}
 use Rattle.mk_mail.proofs.filtering.remove_later.Goals as goal
@@ -18,7 +18,7 @@ loop-own-preserved-then-is_there-same c =
     record {
       there = there_still (same_name name) xs _ own l.is_there more l.invariant.there (both_true l.is_there (same_name name own) h).0;
       names = l.invariant.names ∙ sym (ap (with_first name) more ∙ first_gone name xs own l.is_there l.invariant.there h);
-      edits = edits_more (λ own. RemoveField root_path name c.args.k) _ (plain_edits l.edits.items) (plain_edits c.push.new.self.items) (drop 1 (those name xs)) _ own l.invariant.edits
+      edits = edits_more (λ own. RemoveField c.args.path.now name c.args.k) _ (plain_edits l.edits.items) (plain_edits c.push.new.self.items) (drop 1 (those name xs)) _ own l.invariant.edits
           (ap plain_edits c.in_ok-push.ensures.items ∙ (map-append _ l.edits.items _ ∙ ap (λ e. plain_edits l.edits.items ++ e ∷ []) c.in_ok-removal.ensures))
           (ap (λ ns. drop 1 (those name ns)) more ∙ later_gone name xs own l.is_there l.invariant.there h);
     }
@@ -35,5 +35,5 @@ loop-own-preserved c =
     record {
       there = (λ i. l.invariant.there i || same i) ∙ sym (ap (list_any (same_name name)) more ∙ any_on (same_name name) xs own);
       names = ap texts_of c.in_ok-push-2.ensures.items ∙ (map-append (λ v. v.items) l.list.items (c.in-Some.own ∷ []) ∙ (ap (λ ns. ns ++ own ∷ []) l.invariant.names ∙ sym (ap (with_first name) more ∙ first_kept name xs own l.is_there l.invariant.there h)));
-      edits = l.invariant.edits ∙ ap (λ ns. plain_edits c.args.edits.now.items ++ map (λ own. RemoveField root_path name c.args.k) ns) (sym (ap (λ ns. drop 1 (those name ns)) more ∙ later_kept name xs own l.is_there l.invariant.there h));
+      edits = l.invariant.edits ∙ ap (λ ns. plain_edits c.args.edits.now.items ++ map (λ own. RemoveField c.args.path.now name c.args.k) ns) (sym (ap (λ ns. drop 1 (those name ns)) more ∙ later_kept name xs own l.is_there l.invariant.there h));
     }

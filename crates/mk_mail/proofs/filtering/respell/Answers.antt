@@ -15,5 +15,5 @@ loop-own-preserved c =
     record {
       names = rest_respelt old new own l.next (texts_of l.list.items) (texts_of c.push-in-None-next.new.self.items) _ (texts_of (into_iter_items l.own-iterator)) rest c.in-None-next.is
           (ap texts_of c.in-Some.ensures.steps.0) (ap texts_of c.in_ok-push-in-None-next.ensures.items ∙ map-append (λ v. v.items) l.list.items (c.in-Some.own ∷ [])) l.invariant.names;
-      edits = rest_respelling old new own l.next (plain_edits l.edits.items) _ (texts_of (into_iter_items l.own-iterator)) rest c.in-None-next.is (ap texts_of c.in-Some.ensures.steps.0) l.invariant.edits;
+      edits = rest_respelling c.args.path.now old new own l.next (plain_edits l.edits.items) _ (texts_of (into_iter_items l.own-iterator)) rest c.in-None-next.is (ap texts_of c.in-Some.ensures.steps.0) l.invariant.edits;
     }

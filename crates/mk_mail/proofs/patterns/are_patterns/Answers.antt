@@ -2,7 +2,7 @@ use Rattle.std.proofs.Common.{rules, ◌≡◌, true, false, ◌+◌, drop, map,
 use Rattle.mk_build.proofs.Failing.{from_index}
 use Rattle.mk_mail.specs.LetterViews.{pattern_of}
 use Rattle.mk_mail.specs.Letters.{is_pattern}
-use Rattle.mk_mail.proofs.FieldNames.{all_hit, all_miss}
+use Rattle.mk_build.proofs.Failing.{all_hit, all_miss}
 use Rattle.mk_mail.proofs.patterns.are_patterns.Goals as goal
 
 pub returns-then-not-ok : goal.returns-then-not-ok

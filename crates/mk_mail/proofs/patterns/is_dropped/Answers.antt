@@ -2,7 +2,7 @@ use Rattle.std.proofs.Common.{sym, ◌∙◌, ◌+◌, drop, map, arith}
 use Rattle.mk_build.proofs.Failing.{from_index}
 use Rattle.mk_mail.specs.LetterViews.{pattern_of}
 use Rattle.mk_mail.specs.Letters.{PlainPattern, is_meant}
-use Rattle.mk_mail.proofs.FieldNames.{any_hit, any_miss}
+use Rattle.mk_build.proofs.Failing.{any_hit, any_miss}
 use Rattle.mk_mail.proofs.patterns.is_dropped.Goals as goal
 
 pub returns-then-means : goal.returns-then-means

@@ -1,0 +1,67 @@
+-- Rounds at any path: what they leave of the messages of a mailbox takes the places of these messages.
+use Rattle.std.proofs.Common.{◌≡◌, ◌&&◌, ◌||◌, if◌then◌else◌, ℕ, Bool, true, false, not, Ok, Err, List, [], ◌∷◌, ap, sym, ◌∙◌, subst, inl, inr, eqb-true}
+use Rattle.std.proofs.lemmas.Bool.{cases_Bool}
+use Rattle.mk_mailbox.specs.declared.from_lines.FromLines.{FromLines}
+use Rattle.mk_mailbox.specs.Pieces.{is_first, is_left_alone}
+use Rattle.mk_mailbox.specs.Places.{begins_from, ends_empty, is_uncut, takes_place}
+use Rattle.mk_mailbox.proofs.PlaceLemmas.{are_whole, uncut}
+use Rattle.mk_line.specs.Lines.{TextLine, cut, is_nil}
+use Rattle.mk_mail.specs.Apart.{SectionsStayApart, mail_left, mail_made, placed_made, section_made}
+use Rattle.mk_mail.specs.Letters.{is_root, root_path}
+use Rattle.mk_mail.specs.Rounds.{Made, PlainRound, left_of}
+use Rattle.mk_mail.proofs.FieldNames.{both_true}
+use Rattle.mk_mail.proofs.MailChains.{AreMessage, IsKept, IsWhole, kept_apart}
+use Rattle.mk_mail.proofs.RoundsMade.{IsMadeKept, left_kept, rounds_kept, unchanged}
+
+whole_by : (way : FromLines) (e : Bool) (ls : List TextLine) → are_whole way e ls ≡ true → IsWhole way e ls
+whole_by way e [] h = tt
+whole_by way e (l ∷ ls) h =
+    elim (cases_Bool (is_first way e l.content)) [
+      | inl t ↦ let no : false ≡ true = (rw t at h) in absurd (cc)
+      | inr n ↦ (n, whole_by way (is_nil l.content) ls (rw n at h))
+    ]
+
+by_other : (a b : Bool) → (not a || b) ≡ true → a ≡ true → b ≡ true
+by_other true b h t = h
+by_other false b h t = cc
+
+-- a text that takes the place of another
+placed : (way : FromLines) (old new : List ℕ) → takes_place way old new ≡ true → IsKept way (cut old) (cut new)
+placed way old new h =
+    let begins = (not (begins_from way (cut old)) || begins_from way (cut new)) in
+    let ends = (not (ends_empty false (cut old)) || ends_empty false (cut new)) in
+    let parts = both_true (is_uncut way new) (begins && ends) h in
+    let both = both_true begins ends parts.1 in
+    record {
+      whole = whole_by way false (cut new) (sym (uncut way new) ∙ parts.0);
+      ends = by_other (ends_empty false (cut old)) (ends_empty false (cut new)) both.1;
+      begins = by_other (begins_from way (cut old)) (begins_from way (cut new)) both.0;
+    }
+
+placed_kept : (way : FromLines) (text : List ℕ) (m : Made) → IsMadeKept way text (placed_made way text m)
+placed_kept way text (Ok made) =
+    elim (cases_Bool (takes_place way text made)) [
+      | inl t ↦ rw t (placed way text made t)
+      | inr n ↦ rw n tt
+    ]
+placed_kept way text (Err reason) = tt
+
+root_is : (path : List ℕ) → is_root path ≡ true → path ≡ root_path
+root_is [] h = cc
+root_is (k ∷ []) h = ap (λ n. n ∷ []) (eqb-true k 1 h)
+root_is (k ∷ n ∷ ks) h = cc
+
+apart_kept : (way : FromLines) (path : List ℕ) (rs : List PlainRound) (text : List ℕ) → IsWhole way false (cut text) → IsMadeKept way text (mail_made way path rs text)
+apart_kept way path rs text w =
+    elim (cases_Bool (is_root path)) [
+      | inl t ↦ rw t (subst (λ q. IsMadeKept way text (section_made q rs text)) (sym (root_is path t)) (rounds_kept way rs text w))
+      | inr n ↦ rw n (placed_kept way text (section_made path rs text))
+    ]
+
+message_kept : (way : FromLines) (path : List ℕ) (rs : List PlainRound) (text : List ℕ) (alone : Bool) → AreMessage way (cut text)
+    → IsKept way (cut text) (cut (if alone then text else left_of text (mail_made way path rs text)))
+message_kept way path rs text true m = unchanged way (cut text) m.1
+message_kept way path rs text false m = left_kept way text (mail_made way path rs text) m.1 (apart_kept way path rs text m.1)
+
+pub sections_apart : SectionsStayApart
+sections_apart way path rs text = kept_apart way (mail_left way path rs) (λ message m. message_kept way path rs message (is_left_alone way message) m) text

@@ -1,0 +1,43 @@
+-- Rounds of letters at any section of a message, alone and in a mailbox (own).
+use Rattle.std.specs.Prelude.{◌≡◌, if◌then◌else◌, ℕ, Bool, Ok, Err, List, filter, is_some, map}
+use Rattle.std.specs.List.{flat_map}
+use Rattle.mk_tree.specs.Documents.{tree}
+use Rattle.mk_tree.specs.Sections.{section_at}
+use Rattle.mk_decide.specs.Edits.{NoSuchSection, Recut}
+use Rattle.mk_mailbox.specs.declared.from_lines.FromLines.{FromLines}
+use Rattle.mk_mailbox.specs.Pieces.{is_left_alone, mailbox_pieces}
+use Rattle.mk_mailbox.specs.Places.{takes_place}
+use Rattle.mk_mail.specs.Filtered.{is_left}
+use Rattle.mk_mail.specs.Letters.{is_root}
+use Rattle.mk_mail.specs.Rounds.{Made, PlainRound, left_of, rounds_made_at}
+
+-- a message has a section at a path
+abbrev pub has_section : List ℕ → List ℕ → Bool
+has_section path text = is_some (section_at path (tree text))
+
+-- what rounds make of a section of a message: where there is none, they are refused
+abbrev pub section_made : List ℕ → List PlainRound → List ℕ → Made
+section_made path rs text = if has_section path text then rounds_made_at path rs text else Err NoSuchSection
+
+-- a text that was made takes the place of a message in a mailbox, or it is refused
+abbrev pub placed_made : FromLines → List ℕ → Made → Made
+placed_made way text (Ok made) = if takes_place way text made then Ok made else Err Recut
+placed_made way text (Err reason) = Err reason
+
+-- at the root each text that is made does
+abbrev pub apart_made : FromLines → List ℕ → List ℕ → Made → Made
+apart_made way path text m = if is_root path then m else placed_made way text m
+
+-- what rounds make of a section of a message of a mailbox that is cut at these From-lines
+abbrev pub mail_made : FromLines → List ℕ → List PlainRound → List ℕ → Made
+mail_made way path rs text = apart_made way path text (section_made path rs text)
+
+-- what they leave of it
+abbrev pub mail_left : FromLines → List ℕ → List PlainRound → List ℕ → List ℕ
+mail_left way path rs text = if is_left_alone way text then text else left_of text (mail_made way path rs text)
+
+-- what rounds at any path leave of the messages of a mailbox is cut into just these messages again, but for one of which no byte
+-- is left
+abbrev pub SectionsStayApart : Type 0
+SectionsStayApart = (way : FromLines) (path : List ℕ) (rs : List PlainRound) (text : List ℕ) →
+    mailbox_pieces way (flat_map (mail_left way path rs) (mailbox_pieces way text)) ≡ filter is_left (map (mail_left way path rs) (mailbox_pieces way text))
