@@ -1,4 +1,6 @@
 pub mod OwnBoundaries
+pub mod FreeBoundaries
+pub mod FreeLines
 pub mod PackLemmas
 pub mod ShownLemmas
 pub mod UnpackLemmas

@@ -15,27 +15,27 @@ abbrev pub AreHex : List ℕ → Type 0
 AreHex [] = Unit {0}
 AreHex (c ∷ cs) = (is_hex c ≡ true) × AreHex cs
 
-taken : (k n : ℕ) (cs : List ℕ) → AllGood (λ c. is_hex c ≡ true) n cs → AreHex (take k cs)
+pub taken : (k n : ℕ) (cs : List ℕ) → AllGood (λ c. is_hex c ≡ true) n cs → AreHex (take k cs)
 taken zero n cs g = tt
 taken (suc k) n [] g = tt
 taken (suc k) zero (c ∷ cs) g = absurd g
 taken (suc k) (suc n) (c ∷ cs) g = (g.0, taken k n cs g.1)
 
-stands : (c : ℕ) → is_hex c ≡ true → is_boundary_byte c ≡ true
+pub stands : (c : ℕ) → is_hex c ≡ true → is_boundary_byte c ≡ true
 stands c h = grind (arith, h)
 
 all_stand : (cs : List ℕ) → AreHex cs → list_all is_boundary_byte cs ≡ true
 all_stand [] h = refl
 all_stand (c ∷ cs) h = rw (stands c h.0, all_stand cs h.1) refl
 
-no_space : (c : ℕ) → is_hex c ≡ true → (c == space) ≡ false
+pub no_space : (c : ℕ) → is_hex c ≡ true → (c == space) ≡ false
 no_space c h = grind (arith, h)
 
 ends_well : (c : ℕ) (cs : List ℕ) → (c == space) ≡ false → AreHex cs → ends_in_space (c ∷ cs) ≡ false
 ends_well c [] n h = n
 ends_well c (d ∷ cs) n h = ends_well d cs (no_space d h.0) h.1
 
-few : (k : ℕ) (cs : List ℕ) → length (take k cs) ≤ k
+pub few : (k : ℕ) (cs : List ℕ) → length (take k cs) ≤ k
 few zero cs = omega arith
 few (suc k) [] = omega arith
 few (suc k) (c ∷ cs) = omega (arith, few k cs)

@@ -1,5 +1,5 @@
 -- The last piece of a text, and the body after a head.
-use Rattle.std.proofs.Common.{◌≡◌, ◌≢◌, ◌++◌, ℕ, suc, Bool, true, false, Option, None, Some, List, [], ◌∷◌, ◌<◌, length, length-append, length-drop, drop, nat_lt, arith, sym, ap, ◌∙◌, refl, inl, inr}
+use Rattle.std.proofs.Common.{◌≡◌, ◌≢◌, ◌++◌, ℕ, suc, Bool, true, false, Option, None, Some, List, [], ◌∷◌, ◌<◌, length, length-append, length-drop, drop, map, nat_lt, arith, sym, ap, ◌∙◌, refl, inl, inr}
 use Rattle.std.proofs.lemmas.Bool.{cases_Bool, le-ltb, lt-ltb}
 use Rattle.std.specs.Option.{option_map, unwrap_or}
 use Rattle.mk_line.specs.declared.cutting.Ending.{Ending}
@@ -13,7 +13,12 @@ use Rattle.mk_script.specs.Paths.{parted, pieces_of}
 use Rattle.mk_show.specs.Parts.{last_of}
 use Rattle.mk_build.specs.declared.building.BuildError.TheVariants as refused
 use Rattle.mk_build.specs.Building.{Attached, build_refusal, built, first_failing, is_free_field}
-use Rattle.mk_show.specs.Packing.{fields_given, fields_in_front, has_body, packed, told}
+use Rattle.mk_build.specs.declared.attachment.Attach.{Attach}
+use Rattle.mk_build.specs.BuildViews.{attached_of}
+use Rattle.mk_build.specs.Multiparts.{built_as, refusal_as}
+use Rattle.mk_build.proofs.Envelopes.{none_held}
+use Rattle.mk_show.specs.Packing.{Manner, boundary_for, boundary_with, fields_given, fields_in_front, has_body, multipart_with, packed, packed_as, packed_in, part_in, told}
+use Rattle.mk_show.proofs.FreeBoundaries.{free_own}
 use Rattle.mk_transfer.specs.Said.{shown}
 use Rattle.mk_script.proofs.PathLemmas.{pieces_of-parted, pieces_of-whole}
 use Rattle.mk_script.proofs.PieceLemmas.{HasFirst, pieces_of-some}
@@ -71,3 +76,17 @@ failing_behind test (x ∷ xs) y h = elim (cases_Bool (test x)) [
 pub body_refused : (text : List ℕ) (parts : List Attached) (boundary : List ℕ) → has_body (cut text) ≡ true
     → build_refusal (fields_given (cut text)) parts boundary ≡ Some (refused.BadField (unwrap_or (first_failing is_free_field (fields_in_front (cut text))) (length (fields_in_front (cut text)))))
 body_refused text parts boundary has = rw (has, failing_behind is_free_field (fields_in_front (cut text)) [] refl) refl
+
+-- without messages the boundary and the message are those of the fields and the parts
+same_boundary : (given : Option (List ℕ)) (fields : List (List ℕ)) (parts : List Attached) → boundary_with given fields parts [] ≡ boundary_for given fields parts
+same_boundary None fields parts = free_own fields parts
+same_boundary (Some boundary) fields parts = refl
+
+pub packed_alone : (m : Manner) (parts : List Attach) (text : List ℕ)
+    → packed_in m parts [] text ≡ packed_as (multipart_with m (boundary_for m.boundary (fields_given (cut text)) (map attached_of parts))) (map (part_in m.form) parts) text
+packed_alone m parts text =
+    let fields = fields_given (cut text) in
+    let listed = map (part_in m.form) parts in
+    let boundary = boundary_with m.boundary fields (map attached_of parts) [] in
+    ap (told (built_as (eol_of (cut text)) fields listed (multipart_with m boundary))) (none_held boundary (refusal_as fields listed (multipart_with m boundary)))
+    ∙ ap (λ b. packed_as (multipart_with m b) listed text) (same_boundary m.boundary fields (map attached_of parts))

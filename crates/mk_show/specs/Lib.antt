@@ -5,6 +5,7 @@ pub mod Unpacking
 pub mod Chosen
 pub mod UnpackClauses
 pub mod OwnBoundary
+pub mod FreeBoundary
 pub mod Packing
 pub mod Parts
 pub mod Alone

@@ -11,8 +11,10 @@ use Rattle.mk_build.specs.declared.building.BuildError.{BuildError}
 use Rattle.mk_build.specs.declared.building.BuildError.TheVariants as refused
 use Rattle.mk_build.specs.BuildViews.{attached_of, named_of}
 use Rattle.mk_build.specs.Building.{Attached, build_refusal, built, first_failing, is_free_field}
+use Rattle.mk_build.specs.Forwards.{Forwarded, built_with, refusal_with}
 use Rattle.mk_build.specs.Multiparts.{Multipart, built_as, refusal_as}
 use Rattle.mk_show.specs.declared.packing.PackOptions.{PackOptions}
+use Rattle.mk_show.specs.FreeBoundary.{free_boundary}
 use Rattle.mk_show.specs.OwnBoundary.{own_boundary}
 use Rattle.mk_transfer.specs.Said.{Run, shown}
 use Rattle.mk_view.specs.declared.text_names.NameForm.{NameForm}
@@ -38,9 +40,10 @@ build_name (refused.BadName index) = codes "BadName"
 build_name refused.BadSubtype = codes "BadSubtype"
 build_name refused.BadCharset = codes "BadCharset"
 build_name refused.BadBoundary = codes "BadBoundary"
+build_name (refused.HoldsBoundary index) = codes "HoldsBoundary"
 build_name refused.Memory = codes "Memory"
 
--- the index that a reason names, of a field or of a part
+-- the index that a reason names, of a field, a part or a message
 abbrev pub index_of : BuildError → Option ℕ
 index_of (refused.BadField index) = Some index
 index_of (refused.BadType index) = Some index
@@ -48,6 +51,7 @@ index_of (refused.BadName index) = Some index
 index_of refused.BadSubtype = None
 index_of refused.BadCharset = None
 index_of refused.BadBoundary = None
+index_of (refused.HoldsBoundary index) = Some index
 index_of refused.Memory = None
 
 -- an index after a name, where there is one
@@ -108,6 +112,26 @@ packed_as m parts text =
 -- the message of the fields that a text gives and of these parts, packed in a manner
 abbrev pub IsPackedAs : Manner → List Attach → List ℕ → Run → Type 0
 IsPackedAs m parts text run = run ≡ packed_as (multipart_with m (boundary_for m.boundary (fields_given (cut text)) (map attached_of parts))) (map (part_in m.form) parts) text
+
+-- the boundary that is given, or else one that is made of the fields, the parts and the messages
+abbrev pub boundary_with : Option (List ℕ) → List (List ℕ) → List Attached → List Forwarded → List ℕ
+boundary_with None fields parts messages = free_boundary fields parts messages
+boundary_with (Some boundary) fields parts messages = boundary
+
+-- the message of the fields that a text gives, of these parts and of messages, with the line ending of the text
+abbrev pub packed_with : Multipart → List Attached → List Forwarded → List ℕ → Run
+packed_with m parts messages text =
+    let fields = fields_given (cut text) in
+    told (built_with (eol_of (cut text)) fields parts messages m) (refusal_with fields parts messages m)
+
+-- the message of the fields that a text gives, of these parts and of messages, packed in a manner
+abbrev pub packed_in : Manner → List Attach → List Forwarded → List ℕ → Run
+packed_in m parts messages text =
+    packed_with (multipart_with m (boundary_with m.boundary (fields_given (cut text)) (map attached_of parts) messages)) (map (part_in m.form) parts) messages text
+
+-- the same as a fact
+abbrev pub IsPackedWith : Manner → List Attach → List Forwarded → List ℕ → Run → Type 0
+IsPackedWith m parts messages text run = run ≡ packed_in m parts messages text
 
 -- a text with a body is never packed: the reason names its first field that can't stand at the start, or their number where all can
 abbrev pub BodiesAreRefused : Type 0

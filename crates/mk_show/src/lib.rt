@@ -16,8 +16,10 @@ mod unpacking;
 
 pub use alone::{try_part, try_part_with};
 pub use folder::Folder;
-pub use mk_build::MIXED;
-pub use packing::{PackOptions, run_pack, try_pack, try_pack_in, try_pack_with};
+pub use mk_build::{Forward, MIXED};
+pub use packing::{
+    PackOptions, run_pack, try_pack, try_pack_in, try_pack_with, try_pack_with_messages,
+};
 pub use parts::Spec;
 pub use portions::Portion;
 pub use showing::{read_doc, run_extract, run_sections, try_extract, try_extract_as, try_sections};

@@ -2,17 +2,18 @@
 
 ghost use Rattle.std.specs.Prelude.{◌≡◌, ◌≢◌, ◌⊎◌, None, true, map, IfOk, IfErr, OnOk};
 ghost use Rattle.mk_build.specs.BuildViews.{attached_of};
-ghost use Rattle.mk_build.specs.MultipartViews.{IsRefusedAs};
-ghost use Rattle.mk_build.specs.Multiparts.{built_as, multipart_of, refusal_as};
+ghost use Rattle.mk_build.specs.ForwardViews.{forwarded_of, IsRefusedWith};
+ghost use Rattle.mk_build.specs.Forwards.{built_with, refusal_with};
+ghost use Rattle.mk_build.specs.Multiparts.{multipart_of};
 ghost use Rattle.mk_transfer.specs.RunClauses.{held, counts, reason, IsBlamed, SameFailures, ReadFailed, WriteFailed, ends_itself};
 ghost use Rattle.mk_show.specs.Shown.{LeavesShown, LeavesShownSoFar, run_of_answer};
 ghost use Rattle.mk_line.specs.Lines.{cut as lines_of};
-ghost use Rattle.mk_show.specs.Packing.{IsPacked, IsPackedAs, manner_of, multipart_with, part_in, build_name, told, fields_given, fields_in_front as fields_of_front, has_body as has_a_body, index_of as index_named, pack_line};
+ghost use Rattle.mk_show.specs.Packing.{IsPacked, IsPackedAs, IsPackedWith, manner_of, multipart_with, part_in, build_name, told, fields_given, fields_in_front as fields_of_front, has_body as has_a_body, index_of as index_named, pack_line};
 
 use crate::answers::Answer;
-use crate::boundaries::own_boundary;
+use crate::boundaries::free_boundary;
 use crate::showing::print;
-use mk_build::{Attach, BuildError, MIXED, Multipart, build_as, build_as_in_utf8};
+use mk_build::{Attach, BuildError, Forward, MIXED, Multipart, build_with, build_with_in_utf8};
 use mk_head::{each_field, header};
 use mk_line::{Ending, eol_of};
 use mk_mailbox::{Sink, Source};
@@ -134,11 +135,35 @@ pub fn try_pack_with<S: Source, O: Sink, E: Sink>(
         (counts (S.failures input.old) (S.read_count input.old) (O.failures out.old) (E.failures err.old))
         (counts (S.failures input.new) (S.read_count input.new) (O.failures out.new) (E.failures err.new))) }
 {
+    try_pack_with_messages(alloc, input, out, err, options, parts, &[])
+}
+
+/// Does the same, with messages that are forwarded after the parts.
+pub fn try_pack_with_messages<S: Source, O: Sink, E: Sink>(
+    alloc: Global,
+    input: &mut S,
+    out: &mut O,
+    err: &mut E,
+    options: PackOptions<'_>,
+    parts: &[Attach],
+    messages: &[Forward],
+) -> Result<Status, Cause>
+    ensures leaves { LeavesShownSoFar (IsPackedWith (manner_of options.entry) parts.now (map forwarded_of messages.now)) result
+        (held (S.remaining input.old) (O.contents out.old) (E.contents err.old))
+        (held (S.remaining input.new) (O.contents out.new) (E.contents err.new)) }
+    ensures ended { IfOk result (λ status. ends_itself status ≡ true) }
+    ensures blamed { IfErr result (λ cause. IsBlamed cause
+        (counts (S.failures input.old) (S.read_count input.old) (O.failures out.old) (E.failures err.old))
+        (counts (S.failures input.new) (S.read_count input.new) (O.failures out.new) (E.failures err.new))) }
+    ensures clean { OnOk result (SameFailures
+        (counts (S.failures input.old) (S.read_count input.old) (O.failures out.old) (E.failures err.old))
+        (counts (S.failures input.new) (S.read_count input.new) (O.failures out.new) (E.failures err.new))) }
+{
     let text = match read_all(alloc, input) {
         Ok(text) => text,
         Err(stop) => return Err(reading(stop)),
     };
-    match message(alloc, &text, options, parts) {
+    match message(alloc, &text, options, parts, messages) {
         Ok(answer) => print(out, err, &answer),
         Err(_) => Err(Cause::Memory),
     }
@@ -150,20 +175,21 @@ fn message(
     text: &[u8],
     options: PackOptions<'_>,
     parts: &[Attach],
+    messages: &[Forward],
 ) -> Result<Answer, AllocError>
-    ensures { IfOk result (λ a. IsPackedAs (manner_of options.entry) parts.now text.now (run_of_answer a)) }
+    ensures { IfOk result (λ a. IsPackedWith (manner_of options.entry) parts.now (map forwarded_of messages.now) text.now (run_of_answer a)) }
 {
     let fields = fields(alloc, text)?;
     let (form, eol) = (options.form, eol_of(text));
     match options.boundary {
         Some(boundary) => {
             let multipart = multipart(options, boundary);
-            answer(alloc, form, &fields, parts, &multipart, eol)
+            answer(alloc, form, &fields, parts, messages, &multipart, eol)
         }
         None => {
-            let boundary = own_boundary(alloc, &fields, parts)?;
+            let boundary = free_boundary(alloc, &fields, parts, messages)?;
             let multipart = multipart(options, &boundary);
-            answer(alloc, form, &fields, parts, &multipart, eol)
+            answer(alloc, form, &fields, parts, messages, &multipart, eol)
         }
     }
 }
@@ -179,19 +205,20 @@ fn multipart<'a>(options: PackOptions<'a>, boundary: &'a [u8]) -> Multipart<'a>
     }
 }
 
-// The message of these fields and parts, or the reason against it.
+// The message of these fields, parts and messages, or the reason against it.
 fn answer(
     alloc: Global,
     form: NameForm,
     fields: &[Vec<u8>],
     parts: &[Attach],
+    messages: &[Forward],
     multipart: &Multipart<'_>,
     eol: Ending,
 ) -> Result<Answer, AllocError>
     requires { eol ≢ Ending.Missing }
-    ensures { IfOk result (λ a. run_of_answer a ≡ told (built_as eol (map (λ f. f.items) fields.now) (map (part_in form) parts.now) (multipart_of multipart.now)) (refusal_as (map (λ f. f.items) fields.now) (map (part_in form) parts.now) (multipart_of multipart.now))) }
+    ensures { IfOk result (λ a. run_of_answer a ≡ told (built_with eol (map (λ f. f.items) fields.now) (map (part_in form) parts.now) (map forwarded_of messages.now) (multipart_of multipart.now)) (refusal_with (map (λ f. f.items) fields.now) (map (part_in form) parts.now) (map forwarded_of messages.now) (multipart_of multipart.now))) }
 {
-    match build_in(alloc, form, fields, parts, multipart, eol) {
+    match build_in(alloc, form, fields, parts, messages, multipart, eol) {
         Ok(output) => Ok(Answer {
             output,
             errors: Vec::new(alloc),
@@ -204,22 +231,23 @@ fn answer(
     }
 }
 
-// The message of these fields and parts, with names in a form.
+// The same message, with names in a form.
 fn build_in(
     alloc: Global,
     form: NameForm,
     fields: &[Vec<u8>],
     parts: &[Attach],
+    messages: &[Forward],
     multipart: &Multipart<'_>,
     eol: Ending,
 ) -> Result<Vec<u8>, BuildError>
     requires { eol ≢ Ending.Missing }
-    ensures text { IfOk result (λ text. (refusal_as (map (λ f. f.items) fields.now) (map (part_in form) parts.now) (multipart_of multipart.now) ≡ None) × (text.items ≡ built_as eol (map (λ f. f.items) fields.now) (map (part_in form) parts.now) (multipart_of multipart.now))) }
-    ensures refused { IfErr result (λ error. IsRefusedAs (map (λ f. f.items) fields.now) (map (part_in form) parts.now) (multipart_of multipart.now) error) }
+    ensures text { IfOk result (λ text. (refusal_with (map (λ f. f.items) fields.now) (map (part_in form) parts.now) (map forwarded_of messages.now) (multipart_of multipart.now) ≡ None) × (text.items ≡ built_with eol (map (λ f. f.items) fields.now) (map (part_in form) parts.now) (map forwarded_of messages.now) (multipart_of multipart.now))) }
+    ensures refused { IfErr result (λ error. IsRefusedWith (map (λ f. f.items) fields.now) (map (part_in form) parts.now) (map forwarded_of messages.now) (multipart_of multipart.now) error) }
 {
     match form {
-        NameForm::Plain => build_as(alloc, fields, parts, multipart, eol),
-        NameForm::Utf8 => build_as_in_utf8(alloc, fields, parts, multipart, eol),
+        NameForm::Plain => build_with(alloc, fields, parts, messages, multipart, eol),
+        NameForm::Utf8 => build_with_in_utf8(alloc, fields, parts, messages, multipart, eol),
     }
 }
 
@@ -274,18 +302,20 @@ fn name(reason: BuildError) -> &'static str
         BuildError::BadSubtype => "BadSubtype",
         BuildError::BadCharset => "BadCharset",
         BuildError::BadBoundary => "BadBoundary",
+        BuildError::HoldsBoundary { .. } => "HoldsBoundary",
         BuildError::Memory => "Memory",
     }
 }
 
-// The number of the field or the part that a reason names, from 0.
+// The number of the field, the part or the message that a reason names, from 0.
 fn index(reason: BuildError) -> Option<usize>
     ensures { result ≡ index_named reason }
 {
     match reason {
         BuildError::BadField { index }
         | BuildError::BadType { index }
-        | BuildError::BadName { index } => Some(index),
+        | BuildError::BadName { index }
+        | BuildError::HoldsBoundary { index } => Some(index),
         BuildError::BadSubtype
         | BuildError::BadCharset
         | BuildError::BadBoundary

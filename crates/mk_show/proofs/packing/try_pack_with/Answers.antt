@@ -1,31 +1,14 @@
-use Rattle.std.proofs.Common.{refl, subst}
-use Rattle.mk_show.specs.Packing.{IsPackedAs, manner_of}
-use Rattle.mk_show.specs.Shown.{run_of_answer}
-use Rattle.mk_transfer.specs.RunClauses.{counts}
-use Rattle.mk_transfer.proofs.Blames.{reading_blamed, writing_blamed}
-use Rattle.mk_show.proofs.ShownLemmas.{ShowsSoFar-written}
+use Rattle.std.proofs.Common.{List, ℕ, ◌≡◌, subst}
+use Rattle.mk_transfer.specs.RunClauses.{held}
+use Rattle.mk_transfer.specs.Said.{Run}
+use Rattle.mk_show.specs.Packing.{manner_of}
+use Rattle.mk_show.specs.Shown.{LeavesShownSoFar}
+use Rattle.mk_show.proofs.PackLemmas.{packed_alone}
 use Rattle.mk_show.proofs.packing.try_pack_with.Goals as goal
 
-pub returns-in-Ok-message-clause-leaves : goal.returns-in-Ok-message-clause-leaves
-returns-in-Ok-message-clause-leaves g c =
-    let packed = IsPackedAs (manner_of c.args.options) c.args.parts.now in
-    let run = run_of_answer c.in-Ok-message.answer in
-    let is = subst (λ text. packed text run) c.deref.ensures.value c.in-Ok-message.ensures in (
-      c.in-Ok.text.items,
-      c.in-Ok.ensures.all,
-      ShowsSoFar-written (packed c.in-Ok.text.items) run c.print.result _ _ _ _ _ _ is c.in-Ok.ensures.ended c.print.ensures.written c.print.ensures.only,
-    )
-
-pub returns-in-Err-clause-blamed : goal.returns-in-Err-clause-blamed
-returns-in-Err-clause-blamed g c =
-    reading_blamed c.in-Err.stop c.reading.result
-    (counts (g.S.Source.failures c.args.input.now) (g.S.Source.read_count c.args.input.now) (g.O.Sink.failures c.args.out.now) (g.E.Sink.failures c.args.err.now))
-    (counts (g.S.Source.failures c.read_all.new.input) (g.S.Source.read_count c.read_all.new.input) (g.O.Sink.failures c.args.out.now) (g.E.Sink.failures c.args.err.now))
-    c.reading.ensures c.in-Err.ensures.fault c.in-Err.ensures.memory refl refl
-
-pub returns-in-Ok-message-clause-blamed : goal.returns-in-Ok-message-clause-blamed
-returns-in-Ok-message-clause-blamed g c =
-    writing_blamed c.print.result
-    (counts (g.S.Source.failures c.args.input.now) (g.S.Source.read_count c.args.input.now) (g.O.Sink.failures c.args.out.now) (g.E.Sink.failures c.args.err.now))
-    (counts (g.S.Source.failures c.read_all.new.input) (g.S.Source.read_count c.read_all.new.input) (g.O.Sink.failures c.print.new.out) (g.E.Sink.failures c.print.new.err))
-    c.print.ensures.only c.print.ensures.failed c.in-Ok.ensures.well
+pub returns-clause-leaves : goal.returns-clause-leaves
+returns-clause-leaves g c =
+    subst (λ (packed : List ℕ → Run). LeavesShownSoFar (λ text run. run ≡ packed text) c.try_pack_with_messages.result
+    (held (g.S.Source.remaining c.args.input.now) (g.O.Sink.contents c.args.out.now) (g.E.Sink.contents c.args.err.now))
+    (held (g.S.Source.remaining c.try_pack_with_messages.new.input) (g.O.Sink.contents c.try_pack_with_messages.new.out) (g.E.Sink.contents c.try_pack_with_messages.new.err)))
+    (λ i text. packed_alone (manner_of c.args.options) c.args.parts.now text i) c.try_pack_with_messages.ensures.leaves

@@ -1,0 +1,64 @@
+-- The boundary that is made of what is packed where messages are forwarded: it begins no line of theirs (own).
+use Rattle.std.specs.Prelude.{◌≡◌, ◌++◌, ◌==◌, ◌+◌, ◌<◌, if◌then◌else◌, ℕ, zero, suc, Bool, true, List, [], ◌∷◌, codes, decimal, length, take}
+use Rattle.std.specs.List.{flat_map, list_all}
+use Rattle.mk_line.specs.Ascii.{underscore}
+use Rattle.mk_line.specs.Lines.{cut}
+use Rattle.mk_head.specs.Boundaries.{is_boundary}
+use Rattle.mk_splice.specs.Journals.{digest_of}
+use Rattle.mk_build.specs.Building.{Attached}
+use Rattle.mk_build.specs.Forwards.{Forwarded, is_clear}
+use Rattle.mk_show.specs.OwnBoundary.{digits_kept, measured, measured_part, own_boundary}
+
+-- a forwarded message: its media type, which no part can have, and its bytes
+abbrev pub measured_message : Forwarded → List ℕ
+measured_message f = measured (codes "message/rfc822") ++ measured f.text
+
+-- all that is packed: the fields as they are given, then the parts, then the messages
+abbrev pub all_packed_with : List (List ℕ) → List Attached → List Forwarded → List ℕ
+all_packed_with fields parts messages = flat_map measured fields ++ (flat_map measured_part parts ++ flat_map measured_message messages)
+
+-- the first boundary that is tried: `=_`, and the first digits of the SHA-256
+abbrev pub first_boundary : List (List ℕ) → List Attached → List Forwarded → List ℕ
+first_boundary fields parts messages = codes "=_" ++ take digits_kept (digest_of (all_packed_with fields parts messages))
+
+-- the mark of a later one: its number between underscores, so that no line begins with two of them
+abbrev pub number_mark : ℕ → List ℕ
+number_mark n = if n == 0 then [] else underscore ∷ (decimal n ++ underscore ∷ [])
+
+-- the boundary of a number after the first one
+abbrev pub numbered : List ℕ → ℕ → List ℕ
+numbered first n = first ++ number_mark n
+
+-- no line of a message begins with two hyphens and the boundary
+abbrev pub are_clear : List ℕ → List Forwarded → Bool
+are_clear boundary messages = list_all (λ f. is_clear boundary f.text) messages
+
+-- the first that is free from a number on, or where none of so many is, the one after them
+abbrev pub free_from : List ℕ → List Forwarded → ℕ → ℕ → List ℕ
+free_from first messages zero n = numbered first n
+free_from first messages (suc more) n = if are_clear (numbered first n) messages then numbered first n else free_from first messages more (suc n)
+
+-- the greatest number that is tried
+unfoldable pub last_number : ℕ
+last_number = 18446744073709551615
+
+-- the first that is free
+unfoldable pub free_boundary : List (List ℕ) → List Attached → List Forwarded → List ℕ
+free_boundary fields parts messages = free_from (first_boundary fields parts messages) messages last_number 0
+
+-- how many lines messages have
+abbrev pub line_count : List Forwarded → ℕ
+line_count [] = 0
+line_count (f ∷ messages) = length (cut f.text) + line_count messages
+
+-- where no message is forwarded, it is the boundary of the fields and the parts
+abbrev pub FreeBoundariesAreOwn : Type 0
+FreeBoundariesAreOwn = (fields : List (List ℕ)) (parts : List Attached) → free_boundary fields parts [] ≡ own_boundary fields parts
+
+-- it is always one that may be made
+abbrev pub FreeBoundariesAreBoundaries : Type 0
+FreeBoundariesAreBoundaries = (fields : List (List ℕ)) (parts : List Attached) (messages : List Forwarded) → is_boundary (free_boundary fields parts messages) ≡ true
+
+-- it begins no line of any message that fits into memory
+abbrev pub FreeBoundariesAreFree : Type 0
+FreeBoundariesAreFree = (fields : List (List ℕ)) (parts : List Attached) (messages : List Forwarded) → line_count messages < last_number → are_clear (free_boundary fields parts messages) messages ≡ true
