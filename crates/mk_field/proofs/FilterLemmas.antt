@@ -7,18 +7,16 @@ use Rattle.std.proofs.lemmas.Bool.{and_parts}
 use Rattle.mk_line.specs.Lines.{cut, eol_of, is_lf, is_nil}
 use Rattle.mk_decide.specs.declared.errors.EditError.{EditError}
 use Rattle.mk_decide.specs.Answers.{is_unnamed, refusal_of}
-use Rattle.mk_decide.specs.Edits.{Refusal}
+use Rattle.mk_decide.specs.Edits.{NoSuchSection, Refusal}
 use Rattle.mk_head.specs.Fields.{FieldText, fields_of, is_named}
 use Rattle.mk_head.specs.Split.{fields_from}
-use Rattle.mk_tree.specs.Documents.{tree}
-use Rattle.mk_tree.specs.Sections.{head_text, root_of, section_fields}
 use Rattle.mk_mailbox.specs.Devices.{AppendsFront, IsFull, IsLong, Rose}
 use Rattle.mk_mailbox.specs.Held.{Held as Kept}
-use Rattle.mk_mail.specs.Letters.{are_allowed}
-use Rattle.mk_mail.specs.Rounds.{Made, PlainRound, letters_for, rounds_made}
+use Rattle.mk_mail.specs.Letters.{are_allowed, fields_at}
+use Rattle.mk_mail.specs.Apart.{has_section}
+use Rattle.mk_mail.specs.Rounds.{Made, PlainRound, letters_for}
 use Rattle.mk_mailbox.specs.Mailboxes.{FitsReads, IsKnownWhole, IsNextPiece, IsOver, chunk_bytes}
 use Rattle.mk_mailbox.specs.Pieces.{is_left_alone, mailbox_pieces}
-use Rattle.mk_mail.proofs.FieldNames.{root_fields}
 use Rattle.mk_transfer.specs.declared.status.Status.{Status}
 use Rattle.mk_transfer.specs.declared.status.Status.TheVariants.{Well, Refused, Usage, Fault, Memory as NoRoom}
 use Rattle.mk_transfer.specs.declared.status.Cause.{Cause}
@@ -26,10 +24,9 @@ use Rattle.mk_transfer.specs.declared.status.Cause.TheVariants.{Read, Write, Mem
 use Rattle.mk_transfer.specs.declared.transfer.Stop.{Stop}
 use Rattle.mk_transfer.specs.declared.transfer.Stop.TheVariants.{Fault as Stopped, Memory as Wanting}
 use Rattle.mk_field.specs.FilterClauses.{EndsFiltered, Filters, GivesKnown, IsBroken, IsEdited, IsFiltered, IsReason, SaysAll, SaysSome}
-use Rattle.mk_field.specs.declared.filters.ValueForm.{ValueForm}
 use Rattle.mk_field.specs.FilterViews.{is_round}
-use Rattle.mk_report.specs.Reports.{message_line}
-use Rattle.mk_field.specs.Filtering.{PlainFilter, given_of, report_of, said_alone, said_by, said_from, said_of, said_of_edits, said_or}
+use Rattle.mk_report.specs.Reports.{message_line_at}
+use Rattle.mk_field.specs.Filtering.{PlainFilter, filter_made, given_of, given_said, missing_report, report_of, said_alone, said_by, said_from, said_of, said_of_made, said_or}
 use Rattle.mk_transfer.specs.RunClauses.{Counts, Held, IsBlamed, IsSent, IsStopped, Reason, WriteFailed, cause_of_writing, held, status_of}
 use Rattle.mk_transfer.specs.Said.{Run, shown, Said, said_behind, silence}
 use Rattle.mk_transfer.proofs.GivenUp.{not_reading}
@@ -43,19 +40,19 @@ behind_behind a b c = λ i. record { output = append_assoc a.output b.output c.o
 behind_none : (a : Said) → said_behind a silence ≡ a
 behind_none a = λ i. record { output = append-nil a.output i; errors = append-nil a.errors i }
 
-said_append : (f : PlainFilter) (number : ℕ) (ms ns : List (List ℕ)) → said_from f number (ms ++ ns) ≡ said_behind (said_from f number ms) (said_from f (number + length ms) ns)
-said_append f number [] ns = ap (λ k. said_from f k ns) (omega arith)
+said_append : (f : PlainFilter) (number : ℕ) (ms ns : List (List ℕ)) → said_from true f number (ms ++ ns) ≡ said_behind (said_from true f number ms) (said_from true f (number + length ms) ns)
+said_append f number [] ns = ap (λ k. said_from true f k ns) (omega arith)
 said_append f number (m ∷ ms) ns =
-    ap (said_behind (said_of f number m)) (said_append f (suc number) ms ns ∙ ap (λ k. said_behind (said_from f (suc number) ms) (said_from f k ns)) (omega arith))
-    ∙ sym (behind_behind (said_of f number m) (said_from f (suc number) ms) (said_from f (number + length (m ∷ ms)) ns))
+    ap (said_behind (said_of true f number m)) (said_append f (suc number) ms ns ∙ ap (λ k. said_behind (said_from true f (suc number) ms) (said_from true f k ns)) (omega arith))
+    ∙ sym (behind_behind (said_of true f number m) (said_from true f (suc number) ms) (said_from true f (number + length (m ∷ ms)) ns))
 
-pub said_one : (f : PlainFilter) (number : ℕ) (m : List ℕ) → said_from f number (m ∷ []) ≡ said_of f number m
-said_one f number m = behind_none (said_of f number m)
+pub said_one : (each : Bool) (f : PlainFilter) (number : ℕ) (m : List ℕ) → said_from each f number (m ∷ []) ≡ said_of each f number m
+said_one each f number m = behind_none (said_of each f number m)
 
 -- one message more
-said_more : (f : PlainFilter) (turn : ℕ) (done : List (List ℕ)) (m : List ℕ) → turn ≡ length done → said_from f 1 (done ++ m ∷ []) ≡ said_behind (said_from f 1 done) (said_of f (turn + 1) m)
+said_more : (f : PlainFilter) (turn : ℕ) (done : List (List ℕ)) (m : List ℕ) → turn ≡ length done → said_from true f 1 (done ++ m ∷ []) ≡ said_behind (said_from true f 1 done) (said_of true f (turn + 1) m)
 said_more f turn done m t =
-    said_append f 1 done (m ∷ []) ∙ ap (said_behind (said_from f 1 done)) (said_one f (1 + length done) m ∙ ap (λ k. said_of f k m) (omega (arith, t)))
+    said_append f 1 done (m ∷ []) ∙ ap (said_behind (said_from true f 1 done)) (said_one true f (1 + length done) m ∙ ap (λ k. said_of true f k m) (omega (arith, t)))
 
 says_on : (a b : Said) (r s : Bool) (out out_mid out_after err err_mid err_after : Option (List ℕ)) → SaysAll a r out out_mid err err_mid → SaysAll b s out_mid out_after err_mid err_after
     → SaysAll (said_behind a b) (r || s) out out_after err err_after
@@ -80,7 +77,7 @@ none_said out err = record { output = AppendsFront-none out []; errors = Appends
 -- messages that went out: all that was read is these and what is kept, whatever is read later
 pub record AreOut (f : PlainFilter) (turn : ℕ) (refused : Bool) (text : List ℕ) (done : List (List ℕ)) (now : Kept) (out out_after err err_after : Option (List ℕ)) : Type 0 where
   pub pieces : (more : List ℕ) → (now.ended ≡ true → more ≡ []) → mailbox_pieces f.from_lines (text ++ more) ≡ done ++ mailbox_pieces f.from_lines (now.kept ++ more)
-  pub says : SaysAll (said_from f 1 done) refused out out_after err err_after
+  pub says : SaysAll (said_from true f 1 done) refused out out_after err err_after
   pub count : turn ≡ length done
   pub same : now.from_lines ≡ f.from_lines
 
@@ -116,13 +113,13 @@ next_on f m read old now more w p e = subst (λ way. mailbox_pieces way ((old.ke
 -- a message more went out
 pub one_out : (f : PlainFilter) (turn : ℕ) (refused told : Bool) (text read m : List ℕ) (done : List (List ℕ)) (old now : Kept) (out out_mid out_after err err_mid err_after : Option (List ℕ))
     → AreOut f turn refused text done old out out_mid err err_mid → (old.ended ≡ true → read ≡ []) → (old.ended ≡ true → now.ended ≡ true) → now.from_lines ≡ old.from_lines → IsNextPiece m old read now
-    → SaysAll (said_of f (turn + 1) m) told out_mid out_after err_mid err_after
+    → SaysAll (said_of true f (turn + 1) m) told out_mid out_after err_mid err_after
     → AreOut f (turn + 1) (refused || told) (text ++ read) (done ++ m ∷ []) now out out_after err err_after
 one_out f turn refused told text read m done old now out out_mid out_after err err_mid err_after a r s w p y = record {
   pieces = λ more e. read_with f turn refused text read done old out out_mid err err_mid a r more (λ t. e (s t))
       ∙ (ap (λ xs. done ++ xs) (next_on f m read old now more a.same p e) ∙ sym (append_assoc done (m ∷ []) (mailbox_pieces f.from_lines (now.kept ++ more))));
   says = subst (λ said. SaysAll said (refused || told) out out_after err err_after) (sym (said_more f turn done m a.count))
-      (says_on (said_from f 1 done) (said_of f (turn + 1) m) refused told out out_mid out_after err err_mid err_after a.says y);
+      (says_on (said_from true f 1 done) (said_of true f (turn + 1) m) refused told out out_mid out_after err err_mid err_after a.says y);
   count = omega (arith, a.count, length-append done (m ∷ []));
   same = w ∙ a.same;
 }
@@ -130,36 +127,36 @@ one_out f turn refused told text read m done old now out out_mid out_after err e
 -- a run that stops between two messages
 pub stopped_between : (f : PlainFilter) (turn : ℕ) (refused : Bool) (text read : List ℕ) (done : List (List ℕ)) (now : Kept) (out out_after err err_after : Option (List ℕ))
     → AreOut f turn refused text done now out out_after err err_after → (now.ended ≡ true → read ≡ [])
-    → SaysSome (said_from f 1 (mailbox_pieces f.from_lines (text ++ read))) out out_after err err_after
+    → SaysSome (said_from true f 1 (mailbox_pieces f.from_lines (text ++ read))) out out_after err err_after
 stopped_between f turn refused text read done now out out_after err err_after a r =
     let rest = mailbox_pieces f.from_lines (now.kept ++ read) in
     let all = read_all f turn refused text read done now out out_after err err_after a r in
-    some_on (said_from f 1 done) silence (said_from f (1 + length done) rest) (said_from f 1 (mailbox_pieces f.from_lines (text ++ read))) refused out out_after out_after err err_after err_after a.says (none_said out_after err_after)
-    (ap (said_from f 1) all ∙ said_append f 1 done rest)
+    some_on (said_from true f 1 done) silence (said_from true f (1 + length done) rest) (said_from true f 1 (mailbox_pieces f.from_lines (text ++ read))) refused out out_after out_after err err_after err_after a.says (none_said out_after err_after)
+    (ap (said_from true f 1) all ∙ said_append f 1 done rest)
 
 -- the same where nothing more was read
 pub stopped_here : (f : PlainFilter) (turn : ℕ) (refused : Bool) (text : List ℕ) (done : List (List ℕ)) (now : Kept) (out out_after err err_after : Option (List ℕ))
-    → AreOut f turn refused text done now out out_after err err_after → SaysSome (said_from f 1 (mailbox_pieces f.from_lines text)) out out_after err err_after
+    → AreOut f turn refused text done now out out_after err err_after → SaysSome (said_from true f 1 (mailbox_pieces f.from_lines text)) out out_after err err_after
 stopped_here f turn refused text done now out out_after err err_after a =
-    subst (λ x. SaysSome (said_from f 1 (mailbox_pieces f.from_lines x)) out out_after err err_after) (append-nil text) (stopped_between f turn refused text [] done now out out_after err err_after a (λ _. refl))
+    subst (λ x. SaysSome (said_from true f 1 (mailbox_pieces f.from_lines x)) out out_after err err_after) (append-nil text) (stopped_between f turn refused text [] done now out out_after err err_after a (λ _. refl))
 
 -- a run that stops within a message
 pub stopped_within : (f : PlainFilter) (turn : ℕ) (refused : Bool) (text read m : List ℕ) (done : List (List ℕ)) (old now : Kept) (out out_mid out_after err err_mid err_after : Option (List ℕ))
-    → AreOut f turn refused text done old out out_mid err err_mid → (old.ended ≡ true → read ≡ []) → IsNextPiece m old read now → SaysSome (said_of f (turn + 1) m) out_mid out_after err_mid err_after
-    → SaysSome (said_from f 1 (mailbox_pieces f.from_lines (text ++ read))) out out_after err err_after
+    → AreOut f turn refused text done old out out_mid err err_mid → (old.ended ≡ true → read ≡ []) → IsNextPiece m old read now → SaysSome (said_of true f (turn + 1) m) out_mid out_after err_mid err_after
+    → SaysSome (said_from true f 1 (mailbox_pieces f.from_lines (text ++ read))) out out_after err err_after
 stopped_within f turn refused text read m done old now out out_mid out_after err err_mid err_after a r p y =
     let rest = mailbox_pieces f.from_lines (now.kept ++ []) in
     let all : mailbox_pieces f.from_lines (text ++ read) ≡ done ++ (m ∷ rest) =
     ap (mailbox_pieces f.from_lines) (sym (append-nil (text ++ read))) ∙ (read_with f turn refused text read done old out out_mid err err_mid a r [] (λ _. refl) ∙ ap (λ xs. done ++ xs) (next_on f m read old now [] a.same p (λ _. refl))) in
-    some_on (said_from f 1 done) (said_of f (turn + 1) m) (said_from f (suc (1 + length done)) rest) (said_from f 1 (mailbox_pieces f.from_lines (text ++ read))) refused out out_mid out_after err err_mid err_after a.says y
-    (ap (said_from f 1) all ∙ (said_append f 1 done (m ∷ rest) ∙ ap (λ k. said_behind (said_from f 1 done) (said_behind (said_of f k m) (said_from f (suc (1 + length done)) rest))) (omega (arith, a.count))))
+    some_on (said_from true f 1 done) (said_of true f (turn + 1) m) (said_from true f (suc (1 + length done)) rest) (said_from true f 1 (mailbox_pieces f.from_lines (text ++ read))) refused out out_mid out_after err err_mid err_after a.says y
+    (ap (said_from true f 1) all ∙ (said_append f 1 done (m ∷ rest) ∙ ap (λ k. said_behind (said_from true f 1 done) (said_behind (said_of true f k m) (said_from true f (suc (1 + length done)) rest))) (omega (arith, a.count))))
 
 -- all messages went out
 pub all_out : (f : PlainFilter) (turn : ℕ) (refused : Bool) (text read : List ℕ) (done : List (List ℕ)) (old now : Kept) (out out_after err err_after : Option (List ℕ))
     → AreOut f turn refused text done old out out_after err err_after → (old.ended ≡ true → read ≡ []) → IsOver old read now
-    → SaysAll (said_from f 1 (mailbox_pieces f.from_lines (text ++ read))) refused out out_after err err_after
+    → SaysAll (said_from true f 1 (mailbox_pieces f.from_lines (text ++ read))) refused out out_after err err_after
 all_out f turn refused text read done old now out out_after err err_after a r o =
-    subst (λ ms. SaysAll (said_from f 1 ms) refused out out_after err err_after)
+    subst (λ ms. SaysAll (said_from true f 1 ms) refused out out_after err err_after)
     (sym (read_all f turn refused text read done old out out_after err err_after a r ∙ (ap (λ x. done ++ mailbox_pieces f.from_lines x) o.none ∙ append-nil done))) a.says
 
 -- ---- reads
@@ -190,34 +187,34 @@ long_on turn kept before reads now c h =
 -- ---- the edits of one message
 
 -- the reason that is reported is that of the edit that was refused
-report_some : (P : List ℕ → Type 0) (number : ℕ) (m : Made) (error : EditError) → IsReason (Some error) m → IfSome (refusal_of error) (λ reason. P (message_line number reason)) → P (report_of number m)
-report_some P number (Ok made) error h s = absurd h
-report_some P number (Err reason) error h s = rw h at s
+report_some : (P : List ℕ → Type 0) (path : List ℕ) (number : ℕ) (m : Made) (error : EditError) → IsReason (Some error) m → IfSome (refusal_of error) (λ reason. P (message_line_at path number reason)) → P (report_of path number m)
+report_some P path number (Ok made) error h s = absurd h
+report_some P path number (Err reason) error h s = rw h at s
 
-report_none : (number : ℕ) (m : Made) → IsReason None m → report_of number m ≡ []
-report_none number (Ok made) h = refl
-report_none number (Err reason) h = absurd h
+report_none : (path : List ℕ) (number : ℕ) (m : Made) → IsReason None m → report_of path number m ≡ []
+report_none path number (Ok made) h = refl
+report_none path number (Err reason) h = absurd h
 
-some_message : (o : Option Refusal) (number : ℕ) → IfSome o (λ reason. true ≡ not (is_nil (message_line number reason)))
-some_message None number = tt
-some_message (Some reason) number = refl
+some_message : (path : List ℕ) (o : Option Refusal) (number : ℕ) → IfSome o (λ reason. true ≡ not (is_nil (message_line_at path number reason)))
+some_message path None number = tt
+some_message path (Some reason) number = refl
 
 -- what is left of a message went out, and the report too
-pub said_refused : (rs : List PlainRound) (number : ℕ) (text shown left : List ℕ) (error : EditError) (out out_after err err_after : Option (List ℕ)) (before after : ℕ) → IsEdited rs text (Some error) left → shown ≡ left
-    → Appends out out_after shown → IfSome (refusal_of error) (λ reason. IsSent (message_line number reason) err err_after before after) → SaysAll (said_of_edits rs number text) true out out_after err err_after
-said_refused rs number text shown left error out out_after err err_after before after e s o r =
-    let sent = report_some (λ bytes. IsSent bytes err err_after before after) number (rounds_made rs text) error e.reason r in
+pub said_refused : (path : List ℕ) (m : Made) (number : ℕ) (text shown left : List ℕ) (error : EditError) (out out_after err err_after : Option (List ℕ)) (before after : ℕ) → IsEdited m text (Some error) left → shown ≡ left
+    → Appends out out_after shown → IfSome (refusal_of error) (λ reason. IsSent (message_line_at path number reason) err err_after before after) → SaysAll (said_of_made path number text m) true out out_after err err_after
+said_refused path m number text shown left error out out_after err err_after before after e s o r =
+    let sent = report_some (λ bytes. IsSent bytes err err_after before after) path number m error e.reason r in
     record {
       output = subst (Appends out out_after) (s ∙ e.left_is) o;
       errors = sent.whole;
-      refused_is = report_some (λ bytes. true ≡ not (is_nil bytes)) number (rounds_made rs text) error e.reason (some_message (refusal_of error) number);
+      refused_is = report_some (λ bytes. true ≡ not (is_nil bytes)) path number m error e.reason (some_message path (refusal_of error) number);
     }
 
 -- it went out, and there is nothing to report
-pub said_accepted : (rs : List PlainRound) (number : ℕ) (text shown left : List ℕ) (out out_after err : Option (List ℕ)) → IsEdited rs text None left → shown ≡ left → Appends out out_after shown
-    → SaysAll (said_of_edits rs number text) false out out_after err err
-said_accepted rs number text shown left out out_after err e s o =
-    let none = report_none number (rounds_made rs text) e.reason in
+pub said_accepted : (path : List ℕ) (m : Made) (number : ℕ) (text shown left : List ℕ) (out out_after err : Option (List ℕ)) → IsEdited m text None left → shown ≡ left → Appends out out_after shown
+    → SaysAll (said_of_made path number text m) false out out_after err err
+said_accepted path m number text shown left out out_after err e s o =
+    let none = report_none path number m e.reason in
     record {
       output = subst (Appends out out_after) (s ∙ e.left_is) o;
       errors = subst (Appends err err) (sym none) (Appends-nil err);
@@ -225,68 +222,77 @@ said_accepted rs number text shown left out out_after err e s o =
     }
 
 -- it went out, and a front of the report
-pub said_partly : (rs : List PlainRound) (number : ℕ) (text shown left : List ℕ) (error : EditError) (stop : Stop) (out out_after err err_after : Option (List ℕ)) (before after : ℕ) → IsEdited rs text (Some error) left → shown ≡ left
-    → Appends out out_after shown → IfSome (refusal_of error) (λ reason. IsStopped stop (message_line number reason) err err_after before after) → SaysSome (said_of_edits rs number text) out out_after err err_after
-said_partly rs number text shown left error stop out out_after err err_after before after e s o r =
-    let stopped = report_some (λ bytes. IsStopped stop bytes err err_after before after) number (rounds_made rs text) error e.reason r in
+pub said_partly : (path : List ℕ) (m : Made) (number : ℕ) (text shown left : List ℕ) (error : EditError) (stop : Stop) (out out_after err err_after : Option (List ℕ)) (before after : ℕ) → IsEdited m text (Some error) left → shown ≡ left
+    → Appends out out_after shown → IfSome (refusal_of error) (λ reason. IsStopped stop (message_line_at path number reason) err err_after before after) → SaysSome (said_of_made path number text m) out out_after err err_after
+said_partly path m number text shown left error stop out out_after err err_after before after e s o r =
+    let stopped = report_some (λ bytes. IsStopped stop bytes err err_after before after) path number m error e.reason r in
     record { output = (shown, [], sym (s ∙ e.left_is) ∙ sym (append-nil shown), o); errors = stopped.front }
 
 -- a front of it went out
-pub said_hardly : (rs : List PlainRound) (number : ℕ) (text shown left : List ℕ) (refusal : Option EditError) (out out_after err : Option (List ℕ)) → IsEdited rs text refusal left → shown ≡ left → AppendsFront out out_after shown
-    → SaysSome (said_of_edits rs number text) out out_after err err
-said_hardly rs number text shown left refusal out out_after err e s o = record {
+pub said_hardly : (path : List ℕ) (m : Made) (number : ℕ) (text shown left : List ℕ) (refusal : Option EditError) (out out_after err : Option (List ℕ)) → IsEdited m text refusal left → shown ≡ left → AppendsFront out out_after shown
+    → SaysSome (said_of_made path number text m) out out_after err err
+said_hardly path m number text shown left refusal out out_after err e s o = record {
   output = subst (AppendsFront out out_after) (s ∙ e.left_is) o;
-  errors = AppendsFront-none err (report_of number (rounds_made rs text));
+  errors = AppendsFront-none err (report_of path number m);
 }
 
 -- what is known of sending a report, whatever the reason is
-pub sent_well : (o : Option Refusal) (number : ℕ) (err err_after : Option (List ℕ)) (before after : ℕ) → is_unnamed o ≡ false → IfSome o (λ reason. IsSent (message_line number reason) err err_after before after) → after ≡ before
-sent_well None number err err_after before after n s = cc
-sent_well (Some reason) number err err_after before after n s = s.well
+pub sent_well : (path : List ℕ) (o : Option Refusal) (number : ℕ) (err err_after : Option (List ℕ)) (before after : ℕ) → is_unnamed o ≡ false → IfSome o (λ reason. IsSent (message_line_at path number reason) err err_after before after) → after ≡ before
+sent_well path None number err err_after before after n s = cc
+sent_well path (Some reason) number err err_after before after n s = s.well
 
-pub stopped_so : (o : Option Refusal) (number : ℕ) (stop : Stop) (err err_after : Option (List ℕ)) (before after : ℕ) → is_unnamed o ≡ false → IfSome o (λ reason. IsStopped stop (message_line number reason) err err_after before after)
+pub stopped_so : (path : List ℕ) (o : Option Refusal) (number : ℕ) (stop : Stop) (err err_after : Option (List ℕ)) (before after : ℕ) → is_unnamed o ≡ false → IfSome o (λ reason. IsStopped stop (message_line_at path number reason) err err_after before after)
     → stop ≡ Stopped → Rose before after
-stopped_so None number stop err err_after before after n s = cc
-stopped_so (Some reason) number stop err err_after before after n s = s.fault
+stopped_so path None number stop err err_after before after n s = cc
+stopped_so path (Some reason) number stop err err_after before after n s = s.fault
 
 -- ---- what is said of one message
 
--- what rounds give of it goes out
-pub given_all : (form : ValueForm) (rs : List PlainRound) (number : ℕ) (text given : List ℕ) (out out_after err : Option (List ℕ)) → Some given ≡ given_of form rs text → Appends out out_after given → SaysAll (said_by form rs number text) false out out_after err err
-given_all form rs number text given out out_after err e o =
-    subst (λ x. SaysAll (said_or x (said_of_edits rs number text)) false out out_after err err) e (record { output = o; errors = Appends-nil err; refused_is = refl })
+-- the section is there, so nothing is reported of what is given
+pub given_all : (path : List ℕ) (number : ℕ) (text given : List ℕ) (out out_after err : Option (List ℕ)) → has_section path text ≡ true → Appends out out_after given → SaysAll (given_said path number text given) false out out_after err err
+given_all path number text given out out_after err h o = rw h (record { output = o; errors = Appends-nil err; refused_is = refl })
 
-pub given_some : (form : ValueForm) (rs : List PlainRound) (number : ℕ) (text given : List ℕ) (out out_after err : Option (List ℕ)) → Some given ≡ given_of form rs text → AppendsFront out out_after given → SaysSome (said_by form rs number text) out out_after err err
-given_some form rs number text given out out_after err e o =
-    subst (λ x. SaysSome (said_or x (said_of_edits rs number text)) out out_after err err) e (record { output = o; errors = AppendsFront-none err [] })
+pub given_none : (path : List ℕ) (number : ℕ) (text given : List ℕ) (out out_after err err_after : Option (List ℕ)) (before after : ℕ) → has_section path text ≡ false → Appends out out_after given
+    → IsSent (message_line_at path number NoSuchSection) err err_after before after → SaysAll (given_said path number text given) true out out_after err err_after
+given_none path number text given out out_after err err_after before after h o s = rw h (record { output = o; errors = s.whole; refused_is = refl })
 
--- where they give nothing, it is what their edits leave
-pub given_none : (P : Said → Type 0) (form : ValueForm) (rs : List PlainRound) (number : ℕ) (text : List ℕ) → None ≡ given_of form rs text → P (said_of_edits rs number text) → P (said_by form rs number text)
-given_none P form rs number text e h = subst (λ x. P (said_or x (said_of_edits rs number text))) e h
+pub given_some : (path : List ℕ) (number : ℕ) (text given : List ℕ) (out out_after err : Option (List ℕ)) → AppendsFront out out_after given → SaysSome (given_said path number text given) out out_after err err
+given_some path number text given out out_after err o = record { output = o; errors = AppendsFront-none err (missing_report path number text) }
+
+pub given_partly : (path : List ℕ) (number : ℕ) (text given : List ℕ) (stop : Stop) (out out_after err err_after : Option (List ℕ)) (before after : ℕ) → has_section path text ≡ false → Appends out out_after given
+    → IsStopped stop (message_line_at path number NoSuchSection) err err_after before after → SaysSome (given_said path number text given) out out_after err err_after
+given_partly path number text given stop out out_after err err_after before after h o s = rw h (record { output = AppendsFront-whole out out_after given o; errors = s.front })
+
+-- what a filter gives
+pub said_given : (P : Said → Type 0) (each : Bool) (f : PlainFilter) (number : ℕ) (text given : List ℕ) → Some given ≡ given_of f.path f.form f.rounds text → P (given_said f.path number text given) → P (said_by each f number text)
+said_given P each f number text given e h = subst (λ x. P (said_or (given_said f.path number text) x (said_of_made f.path number text (filter_made each f text)))) e h
+
+-- where it gives nothing, it is what its edits leave
+pub said_edited : (P : Said → Type 0) (each : Bool) (f : PlainFilter) (number : ℕ) (text : List ℕ) (m : Made) → None ≡ given_of f.path f.form f.rounds text → m ≡ filter_made each f text → P (said_of_made f.path number text m) → P (said_by each f number text)
+said_edited P each f number text m e k h =
+    subst (λ x. P (said_or (given_said f.path number text) x (said_of_made f.path number text (filter_made each f text)))) e (subst (λ n. P (said_of_made f.path number text n)) k h)
 
 pub on_err : {A E : Type 0} (r : Result A E) (P Q : Type 0) → OnErr r P → (P → Q) → OnErr r Q
 on_err (Ok x) P Q h f = tt
 on_err (Err e) P Q h f = f h
 
 -- a message that is left as it is went out in part
-alone_some : (f : PlainFilter) (number : ℕ) (text : List ℕ) (out out_after err : Option (List ℕ)) → is_left_alone f.from_lines text ≡ true → AppendsFront out out_after (said_alone f.rounds text).output → SaysSome (said_of f number text) out out_after err err
-alone_some f number text out out_after err t a = rw t (record { output = a; errors = AppendsFront-none err [] })
+alone_some : (each : Bool) (f : PlainFilter) (number : ℕ) (text : List ℕ) (out out_after err : Option (List ℕ)) → is_left_alone f.from_lines text ≡ true → AppendsFront out out_after (said_alone f.rounds text).output → SaysSome (said_of each f number text) out out_after err err
+alone_some each f number text out out_after err t a = rw t (record { output = a; errors = AppendsFront-none err [] })
 
 -- the same by what the calls answer
-pub alone_by : (f : PlainFilter) (number : ℕ) (text second third : List ℕ) (alone : Bool) (out out_after err : Option (List ℕ)) → second ≡ text → third ≡ text
-    → alone ≡ is_left_alone f.from_lines second → alone ≡ true → AppendsFront out out_after (said_alone f.rounds third).output → SaysSome (said_of f number text) out out_after err err
-alone_by f number text second third alone out out_after err b c t y part =
+pub alone_by : (each : Bool) (f : PlainFilter) (number : ℕ) (text second third : List ℕ) (alone : Bool) (out out_after err : Option (List ℕ)) → second ≡ text → third ≡ text
+    → alone ≡ is_left_alone f.from_lines second → alone ≡ true → AppendsFront out out_after (said_alone f.rounds third).output → SaysSome (said_of each f number text) out out_after err err
+alone_by each f number text second third alone out out_after err b c t y part =
     let is_alone : is_left_alone f.from_lines text ≡ true = ap (is_left_alone f.from_lines) (sym b) ∙ (sym t ∙ y) in
     let sent : AppendsFront out out_after (said_alone f.rounds text).output = subst (λ x. AppendsFront out out_after (said_alone f.rounds x).output) c part in
-    alone_some f number text out out_after err is_alone sent
+    alone_some each f number text out out_after err is_alone sent
 
 -- ---- the fields of a name
 
-pub given_begun : (f : FieldText → List ℕ) (name text held head : List ℕ) (fields : List FieldText) → held ≡ [] → head ≡ head_text (root_of (tree text)) → fields ≡ fields_of (fields_from false (cut head))
-    → held ++ flat_map f (filter (is_named name) fields) ≡ flat_map f (filter (is_named name) (section_fields (root_of (tree text))))
-given_begun f name text held head fields e h g =
-    ap (λ x. x ++ flat_map f (filter (is_named name) fields)) e
-    ∙ ap (λ fs. flat_map f (filter (is_named name) fs)) (g ∙ (ap (λ b. fields_of (fields_from false (cut b))) h ∙ root_fields text))
+pub given_begun : (f : FieldText → List ℕ) (path name text held head : List ℕ) (fields : List FieldText) → held ≡ [] → fields_of (fields_from false (cut head)) ≡ fields_at path text → fields ≡ fields_of (fields_from false (cut head))
+    → held ++ flat_map f (filter (is_named name) fields) ≡ flat_map f (filter (is_named name) (fields_at path text))
+given_begun f path name text held head fields e h g = ap (λ x. x ++ flat_map f (filter (is_named name) fields)) e ∙ ap (λ fs. flat_map f (filter (is_named name) fs)) (g ∙ h)
 
 -- ---- how a run ends
 

@@ -1,21 +1,28 @@
 -- Rounds of letters in a session: what was made so far, and all taken back where a round is refused.
-use Rattle.std.proofs.Common.{◌≡◌, ◌+◌, ◌-◌, ◌<◌, ◌≤◌, ◌++◌, ◌&&◌, ℕ, Bool, true, zero, suc, if◌then◌else◌, nat_lt, Option, None, Some, Result, Ok, Err, List, [], ◌∷◌, refl, ap, sym, ◌∙◌, subst, length, take, drop, map, get_or, slice_index_or, arith, length-append, drop-cons, add-one}
+use Rattle.std.proofs.Common.{◌≡◌, ◌+◌, ◌-◌, ◌<◌, ◌++◌, ℕ, Bool, true, false, zero, suc, if◌then◌else◌, Option, None, Some, Result, Ok, Err, List, [], ◌∷◌, refl, ap, sym, ◌∙◌, subst, length, take, drop, map, get_or, slice_index_or, arith, length-append}
 use Rattle.std.specs.List.{list_all}
 use Rattle.std.proofs.lemmas.Bool.{and_parts, lt-ltb}
 use Rattle.std.proofs.lemmas.List.{length-take-le}
 use Rattle.mk_tree.specs.Documents.{printed, tree}
 use Rattle.mk_decide.specs.declared.errors.EditError.{EditError}
 use Rattle.mk_decide.specs.Answers.{refusal_of}
-use Rattle.mk_decide.specs.Edits.{Group, Member, NothingToUndo, PlainEdit, Refusal, Undo}
+use Rattle.mk_decide.specs.Edits.{Group, Member, NoSuchSection, NothingToUndo, PlainEdit, Recut, Refusal, Undo}
 use Rattle.mk_edit.specs.Answers.{IsGroupRefusedBy}
 use Rattle.mk_edit.specs.declared.errors.GroupError.TheVariants.{Member as MemberIn}
 use Rattle.mk_edit.specs.Groups.{Together, together}
 use Rattle.mk_edit.specs.Histories.{first_text, grouped_by, started, step, text_now, with_step}
 use Rattle.mk_edit.specs.History.{History}
-use Rattle.mk_mail.specs.Filtered.{outcome}
-use Rattle.mk_mail.specs.Letters.{PlainLetters, edits_of}
-use Rattle.mk_mail.specs.Rounds.{Made, PlainRound, letters_for, made_of, made_text, round_made, rounds_left, rounds_made}
-use Rattle.mk_field.specs.FilterClauses.{IsEdited, IsReason, IsRoundMade}
+use Rattle.mk_mailbox.specs.declared.places.Place.{Place}
+use Rattle.mk_mailbox.specs.declared.from_lines.FromLines.{FromLines}
+use Rattle.mk_mailbox.specs.Places.{begins_from, ends_empty, fits_place}
+use Rattle.mk_line.specs.Lines.{cut}
+use Rattle.mk_mail.specs.Apart.{has_section, mail_made, placed_made, section_made}
+use Rattle.mk_mail.specs.Letters.{is_root}
+use Rattle.mk_field.specs.Filtering.{PlainFilter, filter_made}
+use Rattle.mk_mail.specs.Filtered.{outcome_at}
+use Rattle.mk_mail.specs.Letters.{PlainLetters, edits_at}
+use Rattle.mk_mail.specs.Rounds.{Made, PlainRound, letters_for, made_of, made_text, round_made_at, rounds_made_at}
+use Rattle.mk_field.specs.FilterClauses.{IsEdited, IsFitted, IsReason, IsRoundMade, fitted}
 use Rattle.mk_field.specs.FilterViews.{is_round, round_of}
 use Rattle.mk_field.specs.declared.filters.Round.{Round}
 
@@ -29,28 +36,28 @@ abbrev reason_by : Result History Refusal → Refusal
 reason_by (Ok h) = NothingToUndo
 reason_by (Err e) = member_of e
 
-pub letters_made : (l : PlainLetters) (es : List PlainEdit) (old new : History) → es ≡ edits_of (text_now old) l → step (Group es) old ≡ Ok new → IsRoundMade l None old new
-letters_made l es old new e h = ap (λ x. grouped_by old (together x (tree (text_now old)))) (sym e) ∙ h
+pub letters_made : (path : List ℕ) (l : PlainLetters) (es : List PlainEdit) (old new : History) → es ≡ edits_at path (text_now old) l → step (Group es) old ≡ Ok new → IsRoundMade path l None old new
+letters_made path l es old new e h = ap (λ x. grouped_by old (together x (tree (text_now old)))) (sym e) ∙ h
 
 refused_by : (h : History) (r : Together) (index : ℕ) (reason : Refusal) (error : EditError) → grouped_by h r ≡ Err (Member index reason) → refusal_of error ≡ Some reason → IsReason (Some error) (made_text r)
 refused_by h (Ok p) index reason error e n = cc
 refused_by h (Err q) index reason error e n = n ∙ ap (λ x. Some x) (sym (ap reason_by e))
 
-pub letters_refused : (l : PlainLetters) (es : List PlainEdit) (old new : History) (index : ℕ) (error : EditError) → es ≡ edits_of (text_now old) l → new ≡ old
-    → IsGroupRefusedBy (MemberIn index error) (step (Group es) old) → IsRoundMade l (Some error) old new
-letters_refused l es old new index error e n r =
-    (n, refused_by old (outcome l (text_now old)) index r.0 error (ap (λ x. grouped_by old (together x (tree (text_now old)))) (sym e) ∙ r.2) r.1)
+pub letters_refused : (path : List ℕ) (l : PlainLetters) (es : List PlainEdit) (old new : History) (index : ℕ) (error : EditError) → es ≡ edits_at path (text_now old) l → new ≡ old
+    → IsGroupRefusedBy (MemberIn index error) (step (Group es) old) → IsRoundMade path l (Some error) old new
+letters_refused path l es old new index error e n r =
+    (n, refused_by old (outcome_at path l (text_now old)) index r.0 error (ap (λ x. grouped_by old (together x (tree (text_now old)))) (sym e) ∙ r.2) r.1)
 
 -- ---- rounds, one after another
 
 -- rounds were made so far: what is to be made is what the others make of the text that stands
-pub record SoFar (all rest : List PlainRound) (text : List ℕ) (h : History) : Type 0 where
-  pub made : rounds_made all text ≡ rounds_made rest (text_now h)
+pub record SoFar (path : List ℕ) (all rest : List PlainRound) (text : List ℕ) (h : History) : Type 0 where
+  pub made : rounds_made_at path all text ≡ rounds_made_at path rest (text_now h)
   pub first : first_text h ≡ text
   pub room : h.place < length h.texts
 
-pub begun : (all : List PlainRound) (text : List ℕ) (h : History) → h ≡ started text → SoFar all all text h
-begun all text h e = subst (SoFar all all text) (sym e) (record { made = refl; first = refl; room = omega arith })
+pub begun : (path : List ℕ) (all : List PlainRound) (text : List ℕ) (h : History) → h ≡ started text → SoFar path all all text h
+begun path all text h e = subst (SoFar path all all text) (sym e) (record { made = refl; first = refl; room = omega arith })
 
 -- the last of some texts
 last_text : (xs : List (List ℕ)) (x : List ℕ) (n : ℕ) → n ≡ length xs → slice_index_or (xs ++ x ∷ []) n [] ≡ x
@@ -64,41 +71,52 @@ front_text : (xs more : List (List ℕ)) (n : ℕ) → 0 < length xs → slice_i
 front_text [] more n h = absurd (omega (arith, h))
 front_text (x ∷ xs) more n h = let k : n + 1 ≡ suc n = omega arith in ap (λ j. slice_index_or (take j (x ∷ xs) ++ more) 0 []) k
 
-steps_on : (all rest : List PlainRound) (r : PlainRound) (text : List ℕ) (h new : History) (o : Together) → o ≡ outcome (letters_for r (text_now h)) (text_now h) → SoFar all (r ∷ rest) text h → grouped_by h o ≡ Ok new → SoFar all rest text new
-steps_on all rest r text h new (Ok p) e s k =
+steps_on : (path : List ℕ) (all rest : List PlainRound) (r : PlainRound) (text : List ℕ) (h new : History) (o : Together) → o ≡ outcome_at path (letters_for r (text_now h)) (text_now h) → SoFar path all (r ∷ rest) text h → grouped_by h o ≡ Ok new → SoFar path all rest text new
+steps_on path all rest r text h new (Ok p) e s k =
     let same : with_step h (printed p.0) p.1 ≡ new = cc in
     let size : length (take (h.place + 1) h.texts) ≡ h.place + 1 = length-take-le (h.place + 1) h.texts (omega (arith, s.room)) in
     let stands : text_now (with_step h (printed p.0) p.1) ≡ printed p.0 = last_text (take (h.place + 1) h.texts) (printed p.0) (h.place + 1) (sym size) in
-    subst (SoFar all rest text) same (record {
-      made = s.made ∙ (ap (λ x. made_of (rounds_made rest) (made_text x)) (sym e) ∙ ap (rounds_made rest) (sym stands));
+    subst (SoFar path all rest text) same (record {
+      made = s.made ∙ (ap (λ x. made_of (rounds_made_at path rest) (made_text x)) (sym e) ∙ ap (rounds_made_at path rest) (sym stands));
       first = front_text h.texts (printed p.0 ∷ []) h.place (omega (arith, s.room)) ∙ s.first;
       room = omega (arith, size, length-append (take (h.place + 1) h.texts) (printed p.0 ∷ []));
     })
-steps_on all rest r text h new (Err q) e s k = cc
+steps_on path all rest r text h new (Err q) e s k = cc
 
 -- one round more
-pub round_on : (all rest : List PlainRound) (r : PlainRound) (l : PlainLetters) (text : List ℕ) (h new : History) → l ≡ letters_for r (text_now h) → SoFar all (r ∷ rest) text h → IsRoundMade l None h new → SoFar all rest text new
-round_on all rest r l text h new e s k = steps_on all rest r text h new (outcome l (text_now h)) (ap (λ x. outcome x (text_now h)) e) s k
+pub round_on : (path : List ℕ) (all rest : List PlainRound) (r : PlainRound) (l : PlainLetters) (text : List ℕ) (h new : History) → l ≡ letters_for r (text_now h) → SoFar path all (r ∷ rest) text h → IsRoundMade path l None h new → SoFar path all rest text new
+round_on path all rest r l text h new e s k = steps_on path all rest r text h new (outcome_at path l (text_now h)) (ap (λ x. outcome_at path x (text_now h)) e) s k
 
 refused_now : (m : Made) (error : EditError) (f : List ℕ → Made) → IsReason (Some error) m → IsReason (Some error) (made_of f m)
 refused_now (Ok made) error f h = absurd h
 refused_now (Err reason) error f h = h
 
-all_left : (rs : List PlainRound) (text left : List ℕ) (error : EditError) (m : Made) → rounds_made rs text ≡ m → IsReason (Some error) m → left ≡ text → IsEdited rs text (Some error) left
-all_left rs text left error (Ok made) e h s = absurd h
-all_left rs text left error (Err reason) e h s = record { left_is = s ∙ sym (rw e refl); reason = rw e h }
+all_left : (place : Option Place) (text left : List ℕ) (error : EditError) (made m : Made) → made ≡ m → IsReason (Some error) m → left ≡ text → IsEdited (fitted place made) text (Some error) left
+all_left place text left error made (Ok n) e h s = absurd h
+all_left place text left error made (Err reason) e h s = rw e (record { left_is = s; reason = h })
 
 -- a round is refused, and all is taken back
-pub round_refused : (all rest : List PlainRound) (r : PlainRound) (l : PlainLetters) (text left : List ℕ) (h new : History) (error : EditError) → l ≡ letters_for r (text_now h) → SoFar all (r ∷ rest) text h
-    → IsRoundMade l (Some error) h new → left ≡ first_text new → IsEdited all text (Some error) left
-round_refused all rest r l text left h new error e s k back =
-    all_left all text left error (made_of (rounds_made rest) (round_made r (text_now h))) s.made
-    (refused_now (round_made r (text_now h)) error (rounds_made rest) (subst (λ x. IsReason (Some error) (made_text (outcome x (text_now h)))) e k.1))
+pub round_refused : (path : List ℕ) (all rest : List PlainRound) (r : PlainRound) (l : PlainLetters) (place : Option Place) (text left : List ℕ) (h new : History) (error : EditError) → l ≡ letters_for r (text_now h) → SoFar path all (r ∷ rest) text h
+    → IsRoundMade path l (Some error) h new → left ≡ first_text new → IsEdited (fitted place (rounds_made_at path all text)) text (Some error) left
+round_refused path all rest r l place text left h new error e s k back =
+    all_left place text left error (rounds_made_at path all text) (made_of (rounds_made_at path rest) (round_made_at path r (text_now h))) s.made
+    (refused_now (round_made_at path r (text_now h)) error (rounds_made_at path rest) (subst (λ x. IsReason (Some error) (made_text (outcome_at path x (text_now h)))) e k.1))
     (back ∙ (ap first_text k.0 ∙ s.first))
 
--- all rounds were made
-pub rounds_done : (all : List PlainRound) (text : List ℕ) (h : History) → SoFar all [] text h → IsEdited all text None (text_now h)
-rounds_done all text h s = record { left_is = sym (rw s.made refl); reason = rw s.made tt }
+-- all rounds were made, and what they made fits a place, or all is taken back
+pub rounds_done : (path : List ℕ) (all : List PlainRound) (place : Option Place) (refusal : Option EditError) (text : List ℕ) (h new : History) → SoFar path all [] text h → IsFitted place refusal h new
+    → IsEdited (fitted place (rounds_made_at path all text)) text refusal (text_now new)
+rounds_done path all place None text h new s f = rw s.made (rw f.1 (record { left_is = ap text_now f.0; reason = tt }))
+rounds_done path all place (Some e) text h new s f = rw s.made (rw f.1 (record { left_is = f.2 ∙ s.first; reason = f.0 }))
+
+-- a message that has no section at a path is refused
+pub none_there : (path : List ℕ) (rs : List PlainRound) (place : Option Place) (text left : List ℕ) (error : EditError) → has_section path text ≡ false → refusal_of error ≡ Some NoSuchSection → left ≡ text
+    → IsEdited (fitted place (section_made path rs text)) text (Some error) left
+none_there path rs place text left error n e s = rw n (record { left_is = s; reason = e })
+
+pub some_there : (path : List ℕ) (rs : List PlainRound) (place : Option Place) (text left : List ℕ) (refusal : Option EditError) → has_section path text ≡ true → IsEdited (fitted place (rounds_made_at path rs text)) text refusal left
+    → IsEdited (fitted place (section_made path rs text)) text refusal left
+some_there path rs place text left refusal t h = rw t h
 
 -- the rest of a list from an index on
 pub raw_next : {X : Type 0} (i : ℕ) (xs : List X) (x : X) → i < length xs → x ≡ get_or xs i x → drop i xs ≡ x ∷ drop (i + 1) xs
@@ -127,3 +145,17 @@ undone h new p e =
     let less : step Undo h ≡ Ok (record h { place = h.place - 1 }) = rw (lt-ltb 0 h.place p) refl in
     let same : record h { place = h.place - 1 } ≡ new = cc in
     (ap (λ (g : History). g.texts) (sym same), let place : new.place ≡ h.place - 1 = ap (λ (g : History). g.place) (sym same) in omega (arith, place, p))
+
+-- ---- the place of a message in a mailbox
+
+fitted_so : (way : FromLines) (p : Place) (text : List ℕ) (m : Made) → p.from_lines ≡ way → p.begins ≡ begins_from way (cut text) → p.ends ≡ ends_empty false (cut text) → fitted (Some p) m ≡ placed_made way text m
+fitted_so way p text (Ok made) a b e = λ i. if fits_place (a i) (b i) (e i) made then Ok made else Err Recut
+fitted_so way p text (Err reason) a b e = refl
+
+-- below the root what is made of a message of a mailbox fits its place
+pub place_kept : (f : PlainFilter) (each root : Bool) (p : Place) (text : List ℕ) → each ≡ true → root ≡ is_root f.path → root ≡ false → p.from_lines ≡ f.from_lines → p.begins ≡ begins_from f.from_lines (cut text)
+    → p.ends ≡ ends_empty false (cut text) → fitted (Some p) (section_made f.path f.rounds text) ≡ filter_made each f text
+place_kept f each root p text t r n a b e =
+    let m = section_made f.path f.rounds text in
+    fitted_so f.from_lines p text m a b e
+    ∙ sym (ap (λ x. if x then mail_made f.from_lines f.path f.rounds text else m) t ∙ ap (λ x. if x then m else placed_made f.from_lines text m) (sym r ∙ n))

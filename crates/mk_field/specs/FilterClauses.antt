@@ -1,17 +1,20 @@
 -- What a run that filters leaves in its devices.
-use Rattle.std.specs.Prelude.{◌≡◌, ◌⊎◌, ◌++◌, ℕ, Bool, true, false, not, List, Option, None, Some, Result, Ok, Err}
+use Rattle.std.specs.Prelude.{◌≡◌, ◌⊎◌, ◌++◌, if◌then◌else◌, ℕ, Bool, true, false, not, List, Option, None, Some, Result, Ok, Err}
 use Rattle.std.specs.Io.KnownBytes.{Appends, Consumes, IsAtEnd, Keeps}
 use Rattle.mk_line.specs.Lines.{is_nil}
 use Rattle.mk_decide.specs.declared.errors.EditError.{EditError}
 use Rattle.mk_decide.specs.Answers.{refusal_of}
-use Rattle.mk_edit.specs.Histories.{grouped_by, text_now}
+use Rattle.mk_decide.specs.Edits.{Recut}
+use Rattle.mk_edit.specs.Histories.{first_text, grouped_by, text_now}
 use Rattle.mk_edit.specs.History.{History}
 use Rattle.mk_mailbox.specs.Devices.{AppendsFront}
 use Rattle.mk_mailbox.specs.Mailboxes.{IsKnownWhole}
+use Rattle.mk_mailbox.specs.declared.places.Place.{Place}
 use Rattle.mk_mailbox.specs.Pieces.{mailbox_pieces}
-use Rattle.mk_mail.specs.Filtered.{outcome}
+use Rattle.mk_mailbox.specs.Places.{fits_place}
+use Rattle.mk_mail.specs.Filtered.{outcome_at}
 use Rattle.mk_mail.specs.Letters.{PlainLetters}
-use Rattle.mk_mail.specs.Rounds.{Made, PlainRound, made_text, rounds_left, rounds_made}
+use Rattle.mk_mail.specs.Rounds.{Made, left_of, made_text}
 use Rattle.mk_transfer.specs.declared.status.Status.{Status}
 use Rattle.mk_transfer.specs.declared.status.Status.TheVariants.{Well, Refused, Usage, Fault, Memory}
 use Rattle.mk_transfer.specs.declared.status.Cause.{Cause}
@@ -26,7 +29,7 @@ pub record GivesKnown (f : PlainFilter) (text : List ℕ) (out out_after : Optio
   pub rest : List ℕ
   pub parts : mailbox_pieces f.from_lines text ≡ given ++ mailbox_pieces f.from_lines rest
   pub unknown : IsKnownWhole f.from_lines rest → ⊥
-  pub output : Appends out out_after (said_from f 1 given).output
+  pub output : Appends out out_after (said_from true f 1 given).output
 
 -- where messages go out one by one and reading fails, all that are known to be whole went out, unless so much was read that reading
 -- was given up
@@ -85,15 +88,30 @@ IsReason None (Err reason) = ⊥
 IsReason (Some e) (Ok made) = ⊥
 IsReason (Some e) (Err reason) = refusal_of e ≡ Some reason
 
--- what the edits of letters answered and left of a history: a step more, or the reason, and all as before
-abbrev pub IsRoundMade : PlainLetters → Option EditError → History → History → Type 0
-IsRoundMade l None old new = grouped_by old (outcome l (text_now old)) ≡ Ok new
-IsRoundMade l (Some e) old new = (new ≡ old) × IsReason (Some e) (made_text (outcome l (text_now old)))
+-- what the edits of letters at a path answered and left of a history: a step more, or the reason, and all as before
+abbrev pub IsRoundMade : List ℕ → PlainLetters → Option EditError → History → History → Type 0
+IsRoundMade path l None old new = grouped_by old (outcome_at path l (text_now old)) ≡ Ok new
+IsRoundMade path l (Some e) old new = (new ≡ old) × IsReason (Some e) (made_text (outcome_at path l (text_now old)))
 
--- rounds left this text of a message, and gave this reason where an edit was refused
-pub record IsEdited (rs : List PlainRound) (text : List ℕ) (refusal : Option EditError) (left : List ℕ) : Type 0 where
-  pub left_is : left ≡ rounds_left rs text
-  pub reason : IsReason refusal (rounds_made rs text)
+-- a text fits a place, where one is to be kept
+abbrev pub fits : Option Place → List ℕ → Bool
+fits None text = true
+fits (Some p) text = fits_place p.from_lines p.begins p.ends text
+
+-- what was made, where it fits a place
+abbrev pub fitted : Option Place → Made → Made
+fitted place (Ok made) = if fits place made then Ok made else Err Recut
+fitted place (Err reason) = Err reason
+
+-- the text that stands fits a place, or all is taken back
+abbrev pub IsFitted : Option Place → Option EditError → History → History → Type 0
+IsFitted place None old new = (new ≡ old) × (fits place (text_now old) ≡ true)
+IsFitted place (Some e) old new = (refusal_of e ≡ Some Recut) × (fits place (text_now old) ≡ false) × (text_now new ≡ first_text old)
+
+-- this text was left of a message, and this reason given where an edit was refused
+pub record IsEdited (m : Made) (text : List ℕ) (refusal : Option EditError) (left : List ℕ) : Type 0 where
+  pub left_is : left ≡ left_of text m
+  pub reason : IsReason refusal m
 
 -- all messages were filtered up to the end of the input
 pub record IsFiltered (said : Said) (refused : Bool) (before after : Held) : Type 0 where
@@ -115,7 +133,7 @@ FiltersSoFar IsKnown each (Err cause) said before after = IsBroken IsKnown each 
 abbrev pub LeavesSaid : Type 0 → PlainFilter → Bool → Result Bool Cause → Held → Held → Type 0
 LeavesSaid spent f each result before after =
     (text : List ℕ) × Consumes before.input after.input text
-    × FiltersSoFar (known_by f each spent text before.output after.output) each result (said_from f 1 (messages_of f.from_lines each text)) before after
+    × FiltersSoFar (known_by f each spent text before.output after.output) each result (said_from each f 1 (messages_of f.from_lines each text)) before after
 
 -- what a run that filters leaves, where it may be given up
 abbrev pub LeavesFilteredSoFar : Type 0 → PlainFilter → Bool → Result Status Cause → Held → Held → Type 0

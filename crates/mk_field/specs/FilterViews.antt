@@ -14,7 +14,7 @@ round_of r = record { lf = letters_of r.lf.now; crlf = letters_of r.crlf.now }
 
 -- a filter as it is
 abbrev pub filter_of : FieldFilter → PlainFilter
-filter_of f = record { rounds = map round_of f.rounds.now; form = f.form; from_lines = f.from_lines }
+filter_of f = record { rounds = map round_of f.rounds.now; form = f.form; from_lines = f.from_lines; path = f.path.now }
 
 -- the letters of a round may be asked for
 abbrev pub is_round : PlainRound → Bool

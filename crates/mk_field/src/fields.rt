@@ -6,40 +6,39 @@ ghost use Rattle.mk_decide.specs.Answers.{is_memory};
 ghost use Rattle.mk_edit.specs.Histories.{first_text, started, text_now};
 ghost use Rattle.mk_mailbox.specs.Devices.{Rose};
 ghost use Rattle.mk_transfer.specs.RunClauses.{Sends};
+ghost use Rattle.mk_mail.specs.Apart.{section_made};
 ghost use Rattle.mk_mail.specs.LetterViews.{bytes_in, letters_of};
-ghost use Rattle.mk_mail.specs.Letters.{are_allowed};
-ghost use Rattle.mk_field.specs.FilterClauses.{IsEdited, IsRoundMade, SaysAll, SaysSome};
+ghost use Rattle.mk_mail.specs.Letters.{are_allowed, is_root as is_root_path};
+ghost use Rattle.mk_mail.specs.Rounds.{rounds_made_at};
+ghost use Rattle.mk_field.specs.FilterClauses.{IsEdited, IsFitted, IsRoundMade, SaysAll, SaysSome, fitted};
 ghost use Rattle.mk_field.specs.FilterViews.{filter_of, is_allowed, is_round, round_of};
-ghost use Rattle.mk_field.specs.Filtering.{behind_colon as is_behind_colon, given_by, given_of, rounds_ask as do_rounds_ask, said_alone, said_by, said_of, said_of_edits, values_named, wholes_named};
+ghost use Rattle.mk_field.specs.Filtering.{filter_made, given_of, given_said, rounds_ask as do_rounds_ask, said_alone, said_by, said_of, said_of_made};
 
-use crate::filters::{FieldFilter, Round, ValueForm, ask};
-use crate::wording::push_value;
+use crate::filters::{FieldFilter, Round, ask};
+use crate::giving::given;
 use mk_edit::{EditError, GroupError, Session};
-use mk_head::each_field;
 use mk_line::Meter;
-use mk_mail::{Letters, Sink, field_edits};
-use mk_report::report_message;
-use mk_script::parted;
+use mk_mail::{Letters, Place, Sink, field_edits_at};
+use mk_report::report_message_at;
 use mk_transfer::{Stop, send};
 use mk_tree::Doc;
 use std::alloc::{AllocError, Global};
 
-const COLON: u8 = b':';
-
-/// Prints what a filter gives or leaves of a message. Where an edit is refused, it is printed as it came, and reported by its
-/// number from 1 on. Answers whether it was reported.
+/// Prints what a filter gives or leaves of a message, one of a mailbox or by itself. Where an edit is refused, it is printed as
+/// it came, and reported by its number from 1 on. Answers whether it was reported.
 pub fn filter_message<O: Sink, E: Sink>(
     alloc: Global,
     filter: &FieldFilter<'_>,
+    each: bool,
     number: u64,
     message: Vec<u8>,
     out: &mut O,
     err: &mut E,
 ) -> Result<bool, Stop>
     requires { is_allowed (filter_of filter.now) ≡ true }
-    ensures all { IfOk result (λ refused. SaysAll (said_of (filter_of filter.now) number message.items) refused
+    ensures all { IfOk result (λ refused. SaysAll (said_of each (filter_of filter.now) number message.items) refused
         (O.contents out.old) (O.contents out.new) (E.contents err.old) (E.contents err.new)) }
-    ensures some { OnErr result (SaysSome (said_of (filter_of filter.now) number message.items)
+    ensures some { OnErr result (SaysSome (said_of each (filter_of filter.now) number message.items)
         (O.contents out.old) (O.contents out.new) (E.contents err.old) (E.contents err.new)) }
     ensures failed { IfErr result (λ stop. stop ≡ Stop.Fault
         → Rose (O.failures out.old) (O.failures out.new) ⊎ Rose (E.failures err.old) (E.failures err.new)) }
@@ -53,7 +52,7 @@ pub fn filter_message<O: Sink, E: Sink>(
         leave_message(filter.rounds, &message, out)?;
         return Ok(false);
     }
-    say_message(alloc, filter.rounds, filter.form, number, message, out, err)
+    say_message(alloc, filter, each, number, message, out, err)
 }
 
 // Prints a message that is left as it is, or nothing where rounds ask for fields.
@@ -80,20 +79,20 @@ fn rounds_ask(rounds: &[Round<'_>], message: &[u8]) -> bool
     }
 }
 
-// Prints what rounds give or leave of a message.
+// Prints what a filter gives or leaves of a message that isn't left as it is.
 fn say_message<O: Sink, E: Sink>(
     alloc: Global,
-    rounds: &[Round<'_>],
-    form: ValueForm,
+    filter: &FieldFilter<'_>,
+    each: bool,
     number: u64,
     message: Vec<u8>,
     out: &mut O,
     err: &mut E,
 ) -> Result<bool, Stop>
-    requires { list_all is_round (map round_of rounds.now) ≡ true }
-    ensures all { IfOk result (λ refused. SaysAll (said_by form (map round_of rounds.now) number message.items) refused
+    requires { is_allowed (filter_of filter.now) ≡ true }
+    ensures all { IfOk result (λ refused. SaysAll (said_by each (filter_of filter.now) number message.items) refused
         (O.contents out.old) (O.contents out.new) (E.contents err.old) (E.contents err.new)) }
-    ensures some { OnErr result (SaysSome (said_by form (map round_of rounds.now) number message.items)
+    ensures some { OnErr result (SaysSome (said_by each (filter_of filter.now) number message.items)
         (O.contents out.old) (O.contents out.new) (E.contents err.old) (E.contents err.new)) }
     ensures failed { IfErr result (λ stop. stop ≡ Stop.Fault
         → Rose (O.failures out.old) (O.failures out.new) ⊎ Rose (E.failures err.old) (E.failures err.new)) }
@@ -103,33 +102,84 @@ fn say_message<O: Sink, E: Sink>(
     ensures errors_well { OnOk result (E.failures err.new ≡ E.failures err.old) }
     ensures unfinished { O.finished out.new ≡ O.finished out.old }
 {
+    let place = place_to_keep(filter, each, &message);
     let mut session = match Session::start(alloc, message) {
         Ok(session) => session,
         Err(_) => return Err(Stop::Memory),
     };
-    match given(alloc, rounds, form, session.doc()) {
-        Ok(Some(text)) => {
-            send(out, &text)?;
-            Ok(false)
-        }
-        Ok(None) => edit_message(alloc, rounds, number, &mut session, out, err),
+    match given(alloc, filter, session.doc()) {
+        Ok(Some(text)) => give_fields(alloc, filter.path, number, session.doc(), &text, out, err),
+        Ok(None) => edit_message(alloc, filter, place, number, &mut session, out, err),
         Err(_) => Err(Stop::Memory),
     }
 }
 
-// Prints what the edits of rounds leave of a message that was just read, and reports it where one is refused.
+// The place in a mailbox that what is made of a message must fit: at the root all that is made does.
+fn place_to_keep(filter: &FieldFilter<'_>, each: bool, message: &[u8]) -> Option<Place>
+    ensures { fitted result (section_made filter.now.path.now (map round_of filter.now.rounds.now) message.now) ≡ filter_made each (filter_of filter.now) message.now }
+{
+    if each && !is_root(filter.path) {
+        Some(Place::of(filter.from_lines, message))
+    } else {
+        None
+    }
+}
+
+fn is_root(path: &[u32]) -> bool
+    ensures { result ≡ is_root_path path.now }
+{
+    match path {
+        [number] => *number == 1,
+        _ => false,
+    }
+}
+
+// Prints what is given of a document, and reports it where it has no section at a path.
+fn give_fields<O: Sink, E: Sink>(
+    alloc: Global,
+    path: &[u32],
+    number: u64,
+    doc: &Doc,
+    text: &[u8],
+    out: &mut O,
+    err: &mut E,
+) -> Result<bool, Stop>
+    ensures all { IfOk result (λ refused. SaysAll (given_said path.now number doc.now text.now) refused
+        (O.contents out.old) (O.contents out.new) (E.contents err.old) (E.contents err.new)) }
+    ensures some { OnErr result (SaysSome (given_said path.now number doc.now text.now)
+        (O.contents out.old) (O.contents out.new) (E.contents err.old) (E.contents err.new)) }
+    ensures failed { IfErr result (λ stop. stop ≡ Stop.Fault
+        → Rose (O.failures out.old) (O.failures out.new) ⊎ Rose (E.failures err.old) (E.failures err.new)) }
+    ensures memory { IfErr result (λ stop. stop ≡ Stop.Memory
+        → (O.failures out.new ≡ O.failures out.old) × (E.failures err.new ≡ E.failures err.old)) }
+    ensures output_well { OnOk result (O.failures out.new ≡ O.failures out.old) }
+    ensures errors_well { OnOk result (E.failures err.new ≡ E.failures err.old) }
+    ensures unfinished { O.finished out.new ≡ O.finished out.old }
+{
+    send(out, text)?;
+    if doc.section(path).is_some() {
+        return Ok(false);
+    }
+    report_message_at(alloc, err, number, path, EditError::NoSuchSection)?;
+    Ok(true)
+}
+
+// Prints what the edits of a filter leave of a message that was just read, and reports it where one is refused.
 fn edit_message<O: Sink, E: Sink>(
     alloc: Global,
-    rounds: &[Round<'_>],
+    filter: &FieldFilter<'_>,
+    place: Option<Place>,
     number: u64,
     session: &mut Session,
     out: &mut O,
     err: &mut E,
 ) -> Result<bool, Stop>
-    requires { list_all is_round (map round_of rounds.now) ≡ true }
-    ensures all { IfOk result (λ refused. (text : List ℕ) → session.old ≡ started text → SaysAll (said_of_edits (map round_of rounds.now) number text) refused
+    requires { is_allowed (filter_of filter.now) ≡ true }
+    ensures all { IfOk result (λ refused. (text : List ℕ) → session.old ≡ started text
+        → SaysAll (said_of_made filter.now.path.now number text (fitted place (section_made filter.now.path.now (map round_of filter.now.rounds.now) text))) refused
         (O.contents out.old) (O.contents out.new) (E.contents err.old) (E.contents err.new)) }
-    ensures some { OnErr result ((text : List ℕ) → session.old ≡ started text → SaysSome (said_of_edits (map round_of rounds.now) number text)
+    ensures some { OnErr result ((text : List ℕ) → session.old ≡ started text
+        → SaysSome (said_of_made filter.now.path.now number text (fitted place (section_made filter.now.path.now (map round_of filter.now.rounds.now) text)))
         (O.contents out.old) (O.contents out.new) (E.contents err.old) (E.contents err.new)) }
     ensures failed { IfErr result (λ stop. stop ≡ Stop.Fault
         → Rose (O.failures out.old) (O.failures out.new) ⊎ Rose (E.failures err.old) (E.failures err.new)) }
@@ -139,34 +189,55 @@ fn edit_message<O: Sink, E: Sink>(
     ensures errors_well { OnOk result (E.failures err.new ≡ E.failures err.old) }
     ensures unfinished { O.finished out.new ≡ O.finished out.old }
 {
-    let refusal = match edit_in_rounds(alloc, rounds, session) {
+    let refusal = match edit_section(alloc, filter, place, session) {
         Ok(refusal) => refusal,
         Err(_) => return Err(Stop::Memory),
     };
     send(out, session.text())?;
     match refusal {
         Some(reason) => {
-            report_message(alloc, err, number, reason)?;
+            report_message_at(alloc, err, number, filter.path, reason)?;
             Ok(true)
         }
         None => Ok(false),
     }
 }
 
-// Makes the edits of rounds in a message that was just read, each in what the one before it left. Answers the reason where one
-// is refused; the message stands as it came then.
+// Makes the edits of a filter in a message that was just read. Answers the reason where they are refused; the message stands as
+// it came then.
+fn edit_section(
+    alloc: Global,
+    filter: &FieldFilter<'_>,
+    place: Option<Place>,
+    session: &mut Session,
+) -> Result<Option<EditError>, AllocError>
+    requires { is_allowed (filter_of filter.now) ≡ true }
+    ensures edited { IfOk result (λ refusal. (text : List ℕ) → session.old ≡ started text
+        → IsEdited (fitted place (section_made filter.now.path.now (map round_of filter.now.rounds.now) text)) text refusal (text_now session.new)) }
+    ensures named { IfOk result (λ refusal. IfSome refusal (λ error. is_memory error ≡ false)) }
+{
+    if session.doc().section(filter.path).is_none() {
+        return Ok(Some(EditError::NoSuchSection));
+    }
+    edit_in_rounds(alloc, filter.path, filter.rounds, place, session)
+}
+
+// Makes the edits of rounds, each in what the one before it left.
 fn edit_in_rounds(
     alloc: Global,
+    path: &[u32],
     rounds: &[Round<'_>],
+    place: Option<Place>,
     session: &mut Session,
 ) -> Result<Option<EditError>, AllocError>
     requires { list_all is_round (map round_of rounds.now) ≡ true }
-    ensures edited { IfOk result (λ refusal. (text : List ℕ) → session.old ≡ started text → IsEdited (map round_of rounds.now) text refusal (text_now session.new)) }
+    ensures edited { IfOk result (λ refusal. (text : List ℕ) → session.old ≡ started text
+        → IsEdited (fitted place (rounds_made_at path.now (map round_of rounds.now) text)) text refusal (text_now session.new)) }
     ensures named { IfOk result (λ refusal. IfSome refusal (λ error. is_memory error ≡ false)) }
 {
     for round in rounds {
         let letters = round.letters_for(session.text());
-        let refusal = edit(alloc, letters, session)?;
+        let refusal = edit(alloc, path, letters, session)?;
         match refusal {
             Some(reason) => {
                 take_back(session)?;
@@ -175,7 +246,24 @@ fn edit_in_rounds(
             None => {}
         }
     }
-    Ok(None)
+    fit(place, session)
+}
+
+// Takes all steps of a session back where its text doesn't fit a place. Answers the reason then.
+fn fit(place: Option<Place>, session: &mut Session) -> Result<Option<EditError>, AllocError>
+    ensures fitted { IfOk result (λ refusal. IsFitted place refusal session.old session.new) }
+    ensures named { IfOk result (λ refusal. IfSome refusal (λ error. is_memory error ≡ false)) }
+{
+    match place {
+        Some(place) => {
+            if place.fits(session.text()) {
+                return Ok(None);
+            }
+            take_back(session)?;
+            Ok(Some(EditError::Recut))
+        }
+        None => Ok(None),
+    }
 }
 
 // Takes all steps of a session back.
@@ -194,86 +282,18 @@ fn take_back(session: &mut Session) -> Result<(), AllocError>
 // Makes the edits of letters in a message, as one step. Answers the reason where one is refused; nothing changed then.
 fn edit(
     alloc: Global,
+    path: &[u32],
     letters: &Letters,
     session: &mut Session,
 ) -> Result<Option<EditError>, AllocError>
     requires { are_allowed (letters_of letters.now) ≡ true }
-    ensures made { IfOk result (λ refusal. IsRoundMade (letters_of letters.now) refusal session.old session.new) }
+    ensures made { IfOk result (λ refusal. IsRoundMade path.now (letters_of letters.now) refusal session.old session.new) }
     ensures named { IfOk result (λ refusal. IfSome refusal (λ error. is_memory error ≡ false)) }
 {
-    let edits = field_edits(alloc, session.doc(), letters)?;
+    let edits = field_edits_at(alloc, session.doc(), path, letters)?;
     match session.group(&edits, &mut Meter::new()) {
         Ok(()) => Ok(None),
         Err(GroupError::Member { refusal, .. }) => Ok(Some(refusal)),
         Err(GroupError::Memory) => Err(AllocError),
-    }
-}
-
-// What rounds give of a document that ask for fields of a name. `None` where they don't.
-fn given(
-    alloc: Global,
-    rounds: &[Round<'_>],
-    form: ValueForm,
-    doc: &Doc,
-) -> Result<Option<Vec<u8>>, AllocError>
-    ensures { IfOk result (λ text. bytes_in text ≡ given_of form (map round_of rounds.now) doc.now) }
-{
-    match rounds {
-        [round, ..] => given_by_letters(alloc, round.letters_for(doc.text()), form, doc),
-        [] => Ok(None),
-    }
-}
-
-// What letters give of a document that ask for fields of a name.
-fn given_by_letters(
-    alloc: Global,
-    letters: &Letters,
-    form: ValueForm,
-    doc: &Doc,
-) -> Result<Option<Vec<u8>>, AllocError>
-    ensures { IfOk result (λ text. bytes_in text ≡ given_by form (letters_of letters.now).take (letters_of letters.now).whole doc.now) }
-{
-    match &letters.take {
-        Some(name) => Ok(Some(values(alloc, doc, name, form)?)),
-        None => match &letters.whole {
-            Some(name) => Ok(Some(wholes(alloc, doc, name)?)),
-            None => Ok(None),
-        },
-    }
-}
-
-// What `-x` gives of a document: the values of the fields of a name, one after another.
-fn values(alloc: Global, doc: &Doc, name: &[u8], form: ValueForm) -> Result<Vec<u8>, AllocError>
-    ensures { IfOk result (λ text. text.items ≡ values_named form name.now doc.now) }
-{
-    let mut text = Vec::new(alloc);
-    for field in each_field(doc.root().head()) {
-        if field.is_named(name) {
-            push_value(alloc, &mut text, behind_colon(field.raw), form)?;
-        }
-    }
-    Ok(text)
-}
-
-// The fields of a name, one after another.
-fn wholes(alloc: Global, doc: &Doc, name: &[u8]) -> Result<Vec<u8>, AllocError>
-    ensures { IfOk result (λ text. text.items ≡ wholes_named name.now doc.now) }
-{
-    let mut text = Vec::new(alloc);
-    for field in each_field(doc.root().head()) {
-        if field.is_named(name) {
-            text.extend_from_slice(field.raw)?;
-        }
-    }
-    Ok(text)
-}
-
-// What follows the colon of a field.
-fn behind_colon(field: &[u8]) -> &[u8]
-    ensures { result.now ≡ is_behind_colon field.now }
-{
-    match parted(field, COLON) {
-        Some((_, behind)) => behind,
-        None => b"",
     }
 }

@@ -142,7 +142,7 @@ fn filter_whole<S: Source, O: Sink, E: Sink>(
         Ok(message) => message,
         Err(stop) => return Err(reading(stop)),
     };
-    match filter_message(alloc, filter, ONLY, message, out, err) {
+    match filter_message(alloc, filter, false, ONLY, message, out, err) {
         Ok(refused) => Ok(refused),
         Err(stop) => Err(writing(stop)),
     }
@@ -177,7 +177,7 @@ fn filter_each<S: Source, O: Sink, E: Sink>(
         }
         match mailbox.next(input) {
             Ok(Some(message)) => {
-                match filter_message(alloc, filter, turn + 1, message, out, err) {
+                match filter_message(alloc, filter, true, turn + 1, message, out, err) {
                     Ok(told) => refused |= told,
                     Err(stop) => return Err(writing(stop)),
                 }

@@ -105,6 +105,9 @@ pub(crate) fn ask(letters: &Letters) -> bool
     letters.take.is_some() || letters.whole.is_some()
 }
 
+/// The path of the root.
+const ROOT: &[u32] = &[1];
+
 /// What a run that filters fields is asked for.
 #[derive(Clone, Copy, Debug)]
 pub struct FieldFilter<'a> {
@@ -115,6 +118,9 @@ pub struct FieldFilter<'a> {
     /// Which From-lines begin the messages of a mailbox. With `Dated` a message of empty lines alone is left as it is, and
     /// nothing of it is given.
     pub from_lines: FromLines,
+    /// The section of each message whose fields they are. A message that has no such section is refused. Below the root of a
+    /// message of a mailbox, edits are refused after which another text than this message would be cut from it.
+    pub path: &'a [u32],
 }
 
 impl<'a> FieldFilter<'a> {
@@ -122,7 +128,7 @@ impl<'a> FieldFilter<'a> {
     ghost use Rattle.mk_field.specs.FilterViews.{filter_of, is_allowed, round_of};
     ghost use Rattle.mk_field.specs.Filtering.{of_rounds};
 
-    /// These rounds for each message.
+    /// These rounds for each message, at its root.
     pub fn new(rounds: &'a [Round<'a>]) -> FieldFilter<'a>
         ensures { filter_of result ≡ of_rounds (map round_of rounds.now) }
     {
@@ -130,6 +136,7 @@ impl<'a> FieldFilter<'a> {
             rounds,
             form: ValueForm::AsWritten,
             from_lines: FromLines::Any,
+            path: ROOT,
         }
     }
 

@@ -5,6 +5,7 @@ mod fields;
 mod filtering;
 mod filters;
 mod forms;
+mod giving;
 mod letters;
 pub mod word_laws;
 mod wording;

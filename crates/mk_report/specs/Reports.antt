@@ -32,6 +32,10 @@ behind_name path reason = []
 abbrev pub error_line : ℕ → List ℕ → Refusal → List ℕ
 error_line number path reason = codes "line " ++ (decimal number ++ (codes ": " ++ (reason_name reason ++ (behind_name path reason ++ line_feed ∷ []))))
 
--- the line that reports a message for which an edit is refused, by its number from 1 on
+-- the line that reports a message for which an edit at a path is refused, by its number from 1 on
+abbrev pub message_line_at : List ℕ → ℕ → Refusal → List ℕ
+message_line_at path number reason = codes "message " ++ (decimal number ++ (codes ": " ++ (reason_name reason ++ (behind_name path reason ++ line_feed ∷ []))))
+
+-- the same of an edit at the root
 abbrev pub message_line : ℕ → Refusal → List ℕ
-message_line number reason = codes "message " ++ (decimal number ++ (codes ": " ++ (reason_name reason ++ (behind_name (1 ∷ []) reason ++ line_feed ∷ []))))
+message_line number reason = message_line_at (1 ∷ []) number reason

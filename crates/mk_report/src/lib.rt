@@ -3,4 +3,4 @@
 
 mod refusals;
 
-pub use refusals::{refusal_name, report_message, report_refusal};
+pub use refusals::{refusal_name, report_message, report_message_at, report_refusal};

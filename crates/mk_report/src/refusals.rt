@@ -2,7 +2,7 @@
 
 ghost use Rattle.std.specs.Prelude.{◌≡◌, ◌++◌, IfOk, OnOk, IfSome};
 ghost use Rattle.mk_decide.specs.Answers.{refusal_of};
-ghost use Rattle.mk_report.specs.Reports.{reason_name as name_of, behind_name, error_line, message_line as line_of_message};
+ghost use Rattle.mk_report.specs.Reports.{reason_name as name_of, behind_name, error_line, message_line as line_of_message, message_line_at};
 ghost use Rattle.mk_transfer.specs.RunClauses.{Sends};
 
 use mk_decide::EditError;
@@ -15,7 +15,7 @@ const SPACE: u8 = b' ';
 
 const LINE_FEED: u8 = b'\n';
 
-/// The path of the root, where the edits of letters are made.
+/// The path of the root.
 const ROOT: [u32; 1] = [1];
 
 /// Reports a refusal of an edit at a path, with the number of its line in the script.
@@ -61,19 +61,38 @@ pub fn report_message<E: Sink>(
     ensures { IfSome (refusal_of reason) (λ refusal. Sends result (line_of_message number refusal)
         (E.contents err.old) (E.contents err.new) (E.failures err.old) (E.failures err.new)) }
 {
-    match message_line(alloc, number, reason) {
+    report_message_at(alloc, err, number, &ROOT, reason)
+}
+
+/// Reports a message for which an edit at a path is refused.
+pub fn report_message_at<E: Sink>(
+    alloc: Global,
+    err: &mut E,
+    number: u64,
+    path: &[u32],
+    reason: EditError,
+) -> Result<(), Stop>
+    ensures { IfSome (refusal_of reason) (λ refusal. Sends result (message_line_at path.now number refusal)
+        (E.contents err.old) (E.contents err.new) (E.failures err.old) (E.failures err.new)) }
+{
+    match message_line(alloc, number, path, reason) {
         Ok(line) => send(err, &line),
         Err(_) => Err(Stop::Memory),
     }
 }
 
 // The line that reports a message.
-fn message_line(alloc: Global, number: u64, reason: EditError) -> Result<Vec<u8>, AllocError>
-    ensures { IfOk result (λ line. IfSome (refusal_of reason) (λ refusal. line.items ≡ line_of_message number refusal)) }
+fn message_line(
+    alloc: Global,
+    number: u64,
+    path: &[u32],
+    reason: EditError,
+) -> Result<Vec<u8>, AllocError>
+    ensures { IfOk result (λ line. IfSome (refusal_of reason) (λ refusal. line.items ≡ message_line_at path.now number refusal)) }
 {
     let name = refusal_name(reason);
     let mut line = format!(in alloc; "message {number}: {name}")?.into_bytes();
-    push_place(&mut line, &ROOT, reason)?;
+    push_place(&mut line, path, reason)?;
     line.push(LINE_FEED)?;
     Ok(line)
 }

@@ -23,9 +23,9 @@ returns-in-Some-clause-edited c = λ text begun.
     let x = c.round-item.result in
     let step : drop i rounds ≡ x ∷ drop (i + 1) rounds = raw_next i rounds x (omega (arith, c.loop-round-test.true)) c.round-item.is in
     let made = rw c.in-Some.is at c.in_ok-refusal.ensures.made in
-    round_refused (map round_of rounds) (map round_of (drop (i + 1) rounds)) (round_of x) (letters_of c.letters_for-letters.result.now) text (text_now c.take_back.new.session) c.loop-round.session c.edit.new.session c.in-Some.reason
+    round_refused c.args.path.now (map round_of rounds) (map round_of (drop (i + 1) rounds)) (round_of x) (letters_of c.letters_for-letters.result.now) c.args.place text (text_now c.take_back.new.session) c.loop-round.session c.edit.new.session c.in-Some.reason
     (c.letters_for-letters.ensures ∙ ap (letters_for (round_of x)) c.text.ensures.now)
-    (subst (λ rs. SoFar (map round_of rounds) rs text c.loop-round.session) (ap (map round_of) step) (c.loop-round.invariant text begun)) made c.in_ok-take_back-in-Some.ensures
+    (subst (λ rs. SoFar c.args.path.now (map round_of rounds) rs text c.loop-round.session) (ap (map round_of) step) (c.loop-round.invariant text begun)) made c.in_ok-take_back-in-Some.ensures
 
 pub loop-round-preserved : goal.loop-round-preserved
 loop-round-preserved c = λ text begun.
@@ -34,6 +34,6 @@ loop-round-preserved c = λ text begun.
     let x = c.round-item.result in
     let step : drop i rounds ≡ x ∷ drop (i + 1) rounds = raw_next i rounds x (omega (arith, c.loop-round-test.true)) c.round-item.is in
     let made = rw c.in-None.is at c.in_ok-refusal.ensures.made in
-    round_on (map round_of rounds) (map round_of (drop (i + 1) rounds)) (round_of x) (letters_of c.letters_for-letters.result.now) text c.loop-round.session c.edit.new.session
+    round_on c.args.path.now (map round_of rounds) (map round_of (drop (i + 1) rounds)) (round_of x) (letters_of c.letters_for-letters.result.now) text c.loop-round.session c.edit.new.session
     (c.letters_for-letters.ensures ∙ ap (letters_for (round_of x)) c.text.ensures.now)
-    (subst (λ rs. SoFar (map round_of rounds) rs text c.loop-round.session) (ap (map round_of) step) (c.loop-round.invariant text begun)) made
+    (subst (λ rs. SoFar c.args.path.now (map round_of rounds) rs text c.loop-round.session) (ap (map round_of) step) (c.loop-round.invariant text begun)) made

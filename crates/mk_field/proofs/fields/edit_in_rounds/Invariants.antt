@@ -5,4 +5,4 @@ use Rattle.mk_field.proofs.RoundLemmas.{SoFar}
 use Rattle.mk_field.proofs.fields.edit_in_rounds.Given as goal
 
 abbrev pub invariant-loop-round : goal.invariant-loop-round
-invariant-loop-round l = (text : List ℕ) → l.fn.session ≡ started text → SoFar (map round_of l.rounds) (map round_of (drop l.round-index l.rounds)) text l.session
+invariant-loop-round l = (text : List ℕ) → l.fn.session ≡ started text → SoFar l.path (map round_of l.rounds) (map round_of (drop l.round-index l.rounds)) text l.session

@@ -1,27 +1,18 @@
-use Rattle.std.proofs.Common.{map}
-use Rattle.std.proofs.lemmas.Result.{err_from_is_err_and}
-use Rattle.mk_field.specs.FilterViews.{round_of}
-use Rattle.mk_field.specs.FilterClauses.{SaysSome}
-use Rattle.mk_field.proofs.FilterLemmas.{given_all, given_none, given_some, on_err}
+use Rattle.std.proofs.Common.{◌≡◌, subst}
+use Rattle.mk_mail.specs.Apart.{section_made}
+use Rattle.mk_field.specs.FilterViews.{filter_of}
+use Rattle.mk_field.specs.FilterClauses.{SaysSome, fitted}
+use Rattle.mk_field.specs.Filtering.{filter_made}
+use Rattle.mk_field.proofs.FilterLemmas.{on_err, said_edited}
 use Rattle.mk_field.proofs.fields.say_message.Goals as goal
-
-pub returns-in-Ok-Some-clause-all : goal.returns-in-Ok-Some-clause-all
-returns-in-Ok-Some-clause-all g c =
-    let rs = map round_of c.args.rounds.now in
-    let given = rw (c.in-Ok-Some.field-0-is, c.doc.ensures, c.in-Ok.ensures.ok) at c.in-Ok-Some.ensures in
-    given_all c.args.form rs c.args.number c.args.message.items c.in-Ok-Some.text.items _ _ _ given (rw c.deref.ensures.value at c.in_ok-send-in-Ok-Some.ensures.sends.whole)
-
-pub returns-in_err-send-in-Ok-Some-clause-some : goal.returns-in_err-send-in-Ok-Some-clause-some
-returns-in_err-send-in-Ok-Some-clause-some g c =
-    let stopped = err_from_is_err_and c.from_residual.result c.from_residual.ensures.1 in
-    let rs = map round_of c.args.rounds.now in
-    let given = rw (c.in-Ok-Some.field-0-is, c.doc.ensures, c.in-Ok.ensures.ok) at c.in-Ok-Some.ensures in
-    rw stopped.1 (given_some c.args.form rs c.args.number c.args.message.items c.in-Ok-Some.text.items _ _ _ given (rw c.deref.ensures.value at c.in_err-send-in-Ok-Some.ensures.sends.front))
 
 pub returns-in-Ok-None-clause-some : goal.returns-in-Ok-None-clause-some
 returns-in-Ok-None-clause-some g c =
-    let rs = map round_of c.args.rounds.now in
+    let f = filter_of c.args.filter.now in
+    let text = c.args.message.items in
+    let place = c.place_to_keep-place.result in
     let given = rw (c.in-Ok-None.field-0-is, c.doc.ensures, c.in-Ok.ensures.ok) at c.in-Ok-None.ensures in
+    let kept : fitted place (section_made f.path f.rounds text) ≡ filter_made c.args.each f text = subst (λ t. fitted place (section_made f.path f.rounds t) ≡ filter_made c.args.each f t) c.deref.ensures.value c.place_to_keep-place.ensures in
     on_err c.edit_message.result _ _ c.edit_message.ensures.some
-    (λ h. given_none (λ said. SaysSome said (g.O.Sink.contents c.args.out.now) (g.O.Sink.contents c.edit_message.new.out) (g.E.Sink.contents c.args.err.now) (g.E.Sink.contents c.edit_message.new.err)) c.args.form rs c.args.number c.args.message.items given
-    (h c.args.message.items c.in-Ok.ensures.ok))
+    (λ h. said_edited (λ said. SaysSome said (g.O.Sink.contents c.args.out.now) (g.O.Sink.contents c.edit_message.new.out) (g.E.Sink.contents c.args.err.now) (g.E.Sink.contents c.edit_message.new.err)) c.args.each f c.args.number text
+    (fitted place (section_made f.path f.rounds text)) given kept (h text c.in-Ok.ensures.ok))

@@ -1,4 +1,4 @@
-use Rattle.std.proofs.Common.{refl, sym, subst}
+use Rattle.std.proofs.Common.{false, refl, sym, subst}
 use Rattle.std.proofs.KnownBytes.{Keeps-refl}
 use Rattle.mk_field.specs.FilterViews.{filter_of}
 use Rattle.mk_field.specs.FilterClauses.{SaysSome}
@@ -16,7 +16,7 @@ returns-in-Err-clause-leaves g c =
 
 pub returns-in-Err-filter_message-clause-leaves : goal.returns-in-Err-filter_message-clause-leaves
 returns-in-Err-filter_message-clause-leaves g c =
-    let one = said_one (filter_of c.args.filter.now) 1 c.in-Ok.message.items in (
+    let one = said_one false (filter_of c.args.filter.now) 1 c.in-Ok.message.items in (
       c.in-Ok.message.items,
       c.in-Ok.ensures.all,
       record {

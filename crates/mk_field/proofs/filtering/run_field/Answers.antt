@@ -19,7 +19,7 @@ pub returns-in-Err-clause-leaves : goal.returns-in-Err-clause-leaves
 returns-in-Err-clause-leaves g c =
     let left = let same : filter_of c.new-2.result ≡ of_letters (letters_of c.args.letters.now) = c.new-2.ensures ∙ ap (λ r. of_rounds (r ∷ [])) c.new.ensures in
     rw (same, ap (λ (f : PlainFilter). f.from_lines) same) at c.in-Err.ensures.leaves in
-    let said = said_from (of_letters (letters_of c.args.letters.now)) 1 (messages_of Any c.args.each left.0) in (
+    let said = said_from c.args.each (of_letters (letters_of c.args.letters.now)) 1 (messages_of Any c.args.each left.0) in (
       left.0,
       left.1,
       rw c.give_up.ensures.status (Filters-given_up _ _ c.args.each c.in-Err.cause said _ _ _ _ _ left.2 (record {

@@ -8,19 +8,19 @@ use Rattle.mk_field.proofs.filtering.try_field.Goals as goal
 pub returns-then-refused-clause-leaves : goal.returns-then-refused-clause-leaves
 returns-then-refused-clause-leaves g c =
     let left = rw c.if-refused.true at c.in-Ok.ensures.leaves in
-    let said = said_from (filter_of c.args.filter.now) 1 (messages_of c.args.filter.now.from_lines c.args.each left.0) in
+    let said = said_from c.args.each (filter_of c.args.filter.now) 1 (messages_of c.args.filter.now.from_lines c.args.each left.0) in
     (left.0, left.1, EndsFiltered-refused said _ _ (IsFiltered-kept said _ _ _ _ _ _ left.2 c.in-Ok-finish.ensures.kept))
 
 pub returns-else-refused-clause-leaves : goal.returns-else-refused-clause-leaves
 returns-else-refused-clause-leaves g c =
     let left = rw c.if-refused.false at c.in-Ok.ensures.leaves in
-    let said = said_from (filter_of c.args.filter.now) 1 (messages_of c.args.filter.now.from_lines c.args.each left.0) in
+    let said = said_from c.args.each (filter_of c.args.filter.now) 1 (messages_of c.args.filter.now.from_lines c.args.each left.0) in
     (left.0, left.1, EndsFiltered-well said _ _ (IsFiltered-kept said _ _ _ _ _ _ left.2 c.in-Ok-finish.ensures.kept))
 
 pub returns-in-Err-finish-clause-leaves : goal.returns-in-Err-finish-clause-leaves
 returns-in-Err-finish-clause-leaves g c =
     let left = c.in-Ok.ensures.leaves in
-    let said = said_from (filter_of c.args.filter.now) 1 (messages_of c.args.filter.now.from_lines c.args.each left.0) in
+    let said = said_from c.args.each (filter_of c.args.filter.now) 1 (messages_of c.args.filter.now.from_lines c.args.each left.0) in
     (left.0, left.1, IsBroken-last _ c.args.each c.in-Err-finish.stop _ said c.in-Ok.refused _ _ _ _ _ c.writing.ensures left.2 c.in-Err-finish.ensures.kept (λ not r. absurd (not r)))
 
 pub returns-in-Err-finish-clause-blamed : goal.returns-in-Err-finish-clause-blamed

@@ -1,9 +1,0 @@
-use Rattle.std.proofs.Common.{◌∙◌, ap}
-use Rattle.mk_tree.specs.Sections.{head_text}
-use Rattle.mk_field.proofs.FilterLemmas.{given_begun}
-use Rattle.mk_field.proofs.fields.wholes.Goals as goal
-
-pub loop-field-init : goal.loop-field-init
-loop-field-init c =
-    given_begun (λ f. f.raw) c.args.name.now c.args.doc.now c.new-text.result.items c.head.result.now c.into_iter-field-iterator.result c.new-text.ensures.items (c.head.ensures ∙ ap (λ p. head_text p) c.root.ensures)
-    (c.into_iter-field-iterator.ensures.into_iter_gives ∙ c.each_field-field-items.ensures.fields)
