@@ -9,8 +9,8 @@ _mimetool_options() {
         sections) options='--from -n --rfc4155 --json --utf8 -h --help' ;;
         extract) options='--from -n --rfc4155 -s --raw --head --prefix -h --help' ;;
         unpack) options='--from -n --rfc4155 -f -t -s --silent --paths --utf8 -C -h --help' ;;
-        pack) options='-b -m --inline --charset --part --utf8 -h --help' ;;
-        field) options='--from --in-place --drop --rename -a -A -i -I -u -U -x -X --unfold --decode --encode --eol --refused-ok -s --rfc4155 -h --help' ;;
+        pack) options='-b -m --inline --charset --forward --part --utf8 -h --help' ;;
+        field) options='--from --in-place -p --drop --rename -a -A -i -I -u -U -x -X --unfold --decode --encode --eol --refused-ok -s --rfc4155 -h --help' ;;
         messages) options='--from --rfc4155 -h --help' ;;
         help) options='' ;;
         '') options='-h --help -V --version' ;;
@@ -30,13 +30,13 @@ _mimetool() {
     done
     compopt -o filenames 2>/dev/null
     case $command:$prev in
-        edit:-j | undo:-j | redo:-j | *:--from | *:--in-place)
+        edit:-j | undo:-j | redo:-j | *:--from | *:--in-place | pack:--forward)
             mapfile -t COMPREPLY < <(compgen -f -- "$cur")
             return ;;
         unpack:-C)
             mapfile -t COMPREPLY < <(compgen -d -- "$cur")
             return ;;
-        edit:-e | *:-n | extract:-s | unpack:-s | pack:-b | pack:-m | pack:--charset | field:--drop | field:--rename | field:-[aAiIuUxX])
+        edit:-e | *:-n | extract:-s | unpack:-s | pack:-b | pack:-m | pack:--charset | field:--drop | field:--rename | field:-[aAiIpuUxX])
             return ;;
     esac
     if [[ $cur == -* ]]; then

@@ -26,6 +26,9 @@ use std::rt::Files;
 /// The folder that files are written to where none is named.
 const WORKING_FOLDER: &str = ".";
 
+/// The path of the message itself, whose fields are filtered where no section is named.
+const ROOT: &str = "1";
+
 /// Runs a subcommand, the words of which are valid.
 pub fn run_command<R: Files<File = File> + AllocGlobal, S: Source, O: Sink, E: Sink>(
     rt: &R,
@@ -216,11 +219,16 @@ fn field<R: AllocGlobal, S: Source, O: Sink, E: Sink>(
     let Some(letters) = letters_of_rounds(alloc, &words, field_form(matches))? else {
         return Ok(usage(err));
     };
+    let word = matches.get_str(PATH).unwrap_or(ROOT);
+    let Some(path) = numbers(alloc, word.as_bytes())? else {
+        return Ok(usage(err));
+    };
     let rounds = rounds(alloc, &letters)?;
     let filter = FieldFilter {
         rounds: &rounds,
         form: value_form(matches),
         from_lines: from_lines(matches),
+        path: &path,
     };
     if !filter.ok() {
         return Ok(usage(err));

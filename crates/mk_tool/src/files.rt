@@ -3,6 +3,7 @@
 use crate::faults::Problem;
 use mk_mail::Attach;
 use mk_run::{Cause, Spec};
+use mk_show::Forward;
 use std::io::Read;
 use std::rt::Files;
 use std::{fs, io};
@@ -60,6 +61,20 @@ pub fn attachments<R: Files + AllocGlobal>(
         }
     }
     Ok(parts)
+}
+
+/// Reads the files of messages that are forwarded, in their order.
+pub fn forwards<R: Files + AllocGlobal>(
+    rt: &R,
+    paths: &[&str],
+    inline: bool,
+) -> Result<Vec<Forward>, Problem> {
+    let mut messages = Vec::new(rt.alloc());
+    for path in paths {
+        let text = read(rt, *path)?;
+        messages.push(Forward { text, inline })?;
+    }
+    Ok(messages)
 }
 
 // The path in a word TYPE:FILE.

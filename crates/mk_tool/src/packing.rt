@@ -2,12 +2,12 @@
 
 use crate::commands::name_form;
 use crate::faults::{Problem, usage};
-use crate::files::attachments;
+use crate::files::{attachments, forwards};
 use clap::ArgMatches;
 use mk_mail::{Sink, Source};
 use mk_run::Status;
-use mk_show::{MIXED, PackOptions, try_pack_with, try_part_with};
-use mk_words::options::{BOUNDARY, CHARSET, INLINE, PART, SPEC, SUBTYPE};
+use mk_show::{MIXED, PackOptions, try_pack_with_messages, try_part_with};
+use mk_words::options::{BOUNDARY, CHARSET, FORWARD, INLINE, PART, SPEC, SUBTYPE};
 use std::rt::Files;
 
 /// mimetool pack
@@ -29,13 +29,14 @@ pub fn pack<R: Files + AllocGlobal, S: Source, O: Sink, E: Sink>(
         };
     }
     let parts = attachments(rt, matches.get_strs(SPEC).unwrap_or(&[]), inline)?;
+    let messages = forwards(rt, matches.get_strs(FORWARD).unwrap_or(&[]), inline)?;
     let options = PackOptions {
         form,
         subtype: subtype(matches),
         charset,
         boundary: matches.get_str(BOUNDARY).map(|word| word.as_bytes()),
     };
-    Ok(try_pack_with(alloc, input, out, err, options, &parts)?)
+    Ok(try_pack_with_messages(alloc, input, out, err, options, &parts, &messages)?)
 }
 
 // -m SUBTYPE

@@ -5,10 +5,12 @@ mod devices;
 mod directory;
 mod faults;
 mod files;
+mod forwarded;
 mod in_place;
 mod journals;
 mod letters;
 mod mailboxes;
+mod section_fields;
 mod usage;
 
 use crate::program::obey;

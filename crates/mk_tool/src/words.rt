@@ -23,6 +23,11 @@ const NO_NUMBER: &str = "--rfc4155 goes only with -n: it says how a mailbox is c
 
 const NO_MAILBOX: &str = "--rfc4155 goes only with -s: it says how a mailbox is cut";
 
+/// The options that take a path, as help writes them.
+const SECTION: &str = "-s <PATH>";
+
+const SECTION_OF_FIELDS: &str = "-p <PATH>";
+
 /// Refuses the words of a subcommand where one is invalid. No file has to be opened for that, so such a fault comes before
 /// those of files.
 pub fn check_words(alloc: Global, name: &str, matches: &ArgMatches<'_>) -> Result<(), Problem> {
@@ -34,7 +39,7 @@ pub fn check_words(alloc: Global, name: &str, matches: &ArgMatches<'_>) -> Resul
     } else if name == SECTIONS {
         why_no_names(alloc, matches)?
     } else if name == EXTRACT {
-        why_no_path(alloc, matches.get_str(PATH).unwrap_or(""))?
+        why_no_path(alloc, matches.get_str(PATH).unwrap_or(""), SECTION)?
     } else if name == UNPACK {
         why_no_paths(alloc, matches)?
     } else if name == PACK {
@@ -81,6 +86,11 @@ fn why_no_message(
 
 // Why the letters of `field`, or the options beside them, are refused, if they are.
 fn why_no_field(alloc: Global, matches: &ArgMatches<'_>) -> Result<Option<String>, AllocError> {
+    if let Some(word) = matches.get_str(PATH) {
+        if let Some(sentence) = why_no_path(alloc, word, SECTION_OF_FIELDS)? {
+            return Ok(Some(sentence));
+        }
+    }
     let words = placed_words(alloc, matches)?;
     match why_refused(alloc, &words)? {
         Some(sentence) => Ok(Some(sentence)),
@@ -105,12 +115,12 @@ fn why_no_names(alloc: Global, matches: &ArgMatches<'_>) -> Result<Option<String
 }
 
 // Why a word is no path, if it isn't one.
-fn why_no_path(alloc: Global, word: &str) -> Result<Option<String>, AllocError> {
+fn why_no_path(alloc: Global, word: &str, option: &str) -> Result<Option<String>, AllocError> {
     if numbers(alloc, word.as_bytes())?.is_some() {
         return Ok(None);
     }
     let sentence = format!(in alloc;
-        "invalid value '{word}' for '-s <PATH>': write numbers from 1 on with dots between them, as 1.2"
+        "invalid value '{word}' for '{option}': write numbers from 1 on with dots between them, as 1.2"
     )?;
     Ok(Some(sentence))
 }
@@ -118,7 +128,7 @@ fn why_no_path(alloc: Global, word: &str) -> Result<Option<String>, AllocError> 
 // Why a word of `unpack` is no path, where there is one that isn't.
 fn why_no_paths(alloc: Global, matches: &ArgMatches<'_>) -> Result<Option<String>, AllocError> {
     for word in matches.get_strs(PATH).unwrap_or(&[]) {
-        if let Some(sentence) = why_no_path(alloc, *word)? {
+        if let Some(sentence) = why_no_path(alloc, *word, SECTION)? {
             return Ok(Some(sentence));
         }
     }

@@ -2,8 +2,8 @@
 
 use crate::mailbox_options::rfc4155;
 use crate::options::{
-    ADD, ADD_IF, DECODE, DROP, EACH, ENCODE, EOL, FIELD, FIRST, LAST, ONLY, PREFIXED, REFUSED_OK,
-    RENAME, TAKE, UNFOLD, WHOLE, flag, from, in_place,
+    ADD, ADD_IF, DECODE, DROP, EACH, ENCODE, EOL, FIELD, FIRST, LAST, ONLY, PATH, PREFIXED,
+    REFUSED_OK, RENAME, TAKE, UNFOLD, WHOLE, flag, from, in_place,
 };
 use clap::{Arg, ArgAction, Command};
 use std::alloc::{AllocError, Global};
@@ -13,13 +13,13 @@ const A_FIELD: &str = "FIELD";
 
 const A_NAME: &str = "NAME:";
 
-/// mimetool field [--drop NAME:] [-a FIELD] [-A FIELD] [-i FIELD] [-I FIELD] [-u NAME:] [-U NAME:] [-x NAME:] [-X NAME:] [--rename OLD:NEW] [--unfold] [--decode] [--encode] [--eol] [--refused-ok] [-s [--rfc4155]]
+/// mimetool field [-p PATH] [--drop NAME:] [-a FIELD] [-A FIELD] [-i FIELD] [-I FIELD] [-u NAME:] [-U NAME:] [-x NAME:] [-X NAME:] [--rename OLD:NEW] [--unfold] [--decode] [--encode] [--eol] [--refused-ok] [-s [--rfc4155]]
 pub fn field_command<'a>(alloc: Global) -> Result<Command<'a>, AllocError> {
     let rename = letter(alloc, RENAME, "OLD:NEW", "Give the fields OLD the name NEW").long(RENAME);
     let command = Command::new(alloc, FIELD)
         .about("Adds, renames and removes fields of a message, or prints those of a name")
         .after_help(
-            "A letter that is given again works on what the earlier ones made, as in a pipe.\n\nExamples:\n  mimetool field -I 'X-Seen: yes' --in-place message\n  mimetool field -I 'X-Seen: yes' -I 'X-By: me' < message\n  mimetool field -s -x Subject: --from mailbox",
+            "A letter that is given again works on what the earlier ones made, as in a pipe.\n\nExamples:\n  mimetool field -I 'X-Seen: yes' --in-place message\n  mimetool field -I 'X-Seen: yes' -I 'X-By: me' < message\n  mimetool field -s -x Subject: --from mailbox\n  mimetool field -p 1.2 -x Content-Type: < message",
         )
         .arg(from(alloc))?
         .arg(
@@ -27,6 +27,13 @@ pub fn field_command<'a>(alloc: Global) -> Result<Command<'a>, AllocError> {
                 .conflicts_with(TAKE)?
                 .conflicts_with(WHOLE)?,
         )?
+        .arg(single(
+            alloc,
+            PATH,
+            PATH,
+            "Work on the fields of the section at PATH, as 1.2, not those of the message",
+        )
+        .short('p'))?
         .arg(rename)?;
     let command = with_fields(alloc, command)?;
     let command = with_names(alloc, command)?;

@@ -58,7 +58,7 @@ pub const SECTIONS: &str = "sections";
 /// The subcommand that gives the content of a section.
 pub const EXTRACT: &str = "extract";
 
-/// `-s PATH`: the section.
+/// `-s PATH`, and `-p PATH` of `field`: the section.
 pub const PATH: &str = "PATH";
 
 /// `--raw`: the content as it stands.
@@ -108,6 +108,9 @@ pub const SPEC: &str = "SPEC";
 
 /// `--part SPEC`: this part alone.
 pub const PART: &str = "part";
+
+/// `--forward FILE`: a message that becomes a part.
+pub const FORWARD: &str = "forward";
 
 /// The subcommand that filters the fields of messages.
 pub const FIELD: &str = "field";

@@ -174,6 +174,7 @@ words: pack|-b
 words: pack|-m
 words: pack|--charset
 words: pack|-m|related|--part|text/plain:n
+words: pack|--forward
 words: pack|--part
 words: pack|--part|text/plain:n|--part|text/plain:n
 ";

@@ -1,6 +1,6 @@
 //! Each letter of `field` alone, and each value that it doesn't take.
 
-use super::{check_refused, check_rows};
+use super::{check_refused, check_rows, obeyed};
 use std::test::Fail;
 
 /// What is asked of a message, and what comes out where all is well.
@@ -172,18 +172,6 @@ message: A: 1\nB: 2\nA: 3\n\nx\n
 output: B: 2\nA: =?utf-8?B?w6Q=?=\n\nx\n
 status: Well
 
-== lines of a field that end as those of the message
-words: field|--eol|-I|A: a\n b
-message: A: 1\r\n\r\nx\r\n
-output: A: a\r\n b\r\n\r\nx\r\n
-status: Well
-
-== lines of a field as they are given
-words: field|-I|A: a\n b
-message: A: 1\r\n\r\nx\r\n
-output: A: a\n b\r\n\r\nx\r\n
-status: Well
-
 == a field as it is given
 words: field|-I|A: ä
 message: A: 1\nB: 2\nA: 3\n\nx\n
@@ -289,4 +277,17 @@ status: Well
 #[test]
 fn messages_are_filtered(rt: HostRuntime) -> Result<(), Fail> {
     check_rows(&rt, ROWS)
+}
+
+#[test]
+fn lines_of_fields_end_as_asked(rt: HostRuntime) -> Result<(), Fail> {
+    let message = b"A: 1\r\n\r\nx\r\n";
+    let given = obeyed(&rt, &["field", "-I", "A: a\n b"], message)?;
+    assert_eq!(rt; given.output.bytes(), b"A: a\n b\r\n\r\nx\r\n".as_slice());
+    let turned = obeyed(&rt, &["field", "--eol", "-I", "A: a\n b"], message)?;
+    assert_eq!(rt;
+        turned.output.bytes(),
+        b"A: a\r\n b\r\n\r\nx\r\n".as_slice()
+    );
+    Ok(())
 }

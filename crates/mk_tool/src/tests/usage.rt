@@ -33,6 +33,14 @@ begins: error: invalid value '1.4294967296' for '-s <PATH>': write numbers from 
 words: unpack|-s|1|-s|0|-s|x
 begins: error: invalid value '0' for '-s <PATH>': write numbers from 1 on with dots between them, as 1.2\n\nUsage: mimetool unpack\x20
 
+== -p <PATH> doesn't take '1.0'
+words: field|-p|1.0|-x|A:
+begins: error: invalid value '1.0' for '-p <PATH>': write numbers from 1 on with dots between them, as 1.2\n\nUsage: mimetool field\x20
+
+== -p <PATH> doesn't take '-1'
+words: field|-p|-1|-A|A: 9
+begins: error: invalid value '-1' for '-p <PATH>': write numbers from 1 on with dots between them, as 1.2\n\nUsage: mimetool field\x20
+
 == <SPEC>... doesn't take 'text'
 words: pack|-b|b|text
 begins: error: invalid value 'text' for '<SPEC>...': write TYPE:FILE, as image/gif:dot.gif\n\nUsage: mimetool pack\x20
@@ -212,6 +220,10 @@ begins: error: the argument '--silent' cannot be used with '--paths'\n
 == a part alone, and a boundary
 words: pack|--part|text/plain:n|-b|b
 begins: error: the argument '--part <SPEC>' cannot be used with '-b <BOUNDARY>'\n
+
+== a part alone, and a message
+words: pack|--forward|n|--part|text/plain:n
+begins: error: the argument '--forward <FILE>' cannot be used with '--part <SPEC>'\n
 
 == a part alone, and more parts
 words: pack|--part|text/plain:n|text/plain:n
