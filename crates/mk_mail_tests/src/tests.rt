@@ -6,6 +6,7 @@ mod edits;
 mod letters;
 mod mailboxes;
 mod memory;
+mod places;
 mod text_names;
 
 use calls::{Call, check};

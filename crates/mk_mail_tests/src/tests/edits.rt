@@ -2,7 +2,7 @@
 use super::calls::{Call, check, read, same};
 use super::letters::{edits_of, letters_in, no_letters};
 use mk_edit::Edit;
-use mk_mail::field_edits;
+use mk_mail::{field_edits, field_edits_at};
 use mk_rows::{Row, rows};
 use std::alloc::{AllocError, Global};
 use std::process::Abort;
@@ -137,5 +137,44 @@ fn check_six_edits(rt: &impl Abort, alloc: Global, row: &Row) {
     }
     if let Ok(last) = line_of(alloc, &edits[5]) {
         same(rt, last.as_bytes(), b"remove [1] Old-A 2", "the last edit");
+    }
+}
+
+/// A message within another, and letters that have two edits of it.
+const BELOW: &str = r"
+== fields of a message below
+message: Content-Type: message/rfc822\n\nA: 1\nA: 2\n\n
+only: B: 3
+last: A
+";
+
+// The same of the edits at the path of a section.
+#[test]
+fn memory_field_edits_at(rt: HostRuntime) {
+    let alloc = rt.alloc();
+    let Ok(all) = rows(alloc, BELOW) else {
+        return;
+    };
+    for row in &all {
+        check_edits_below(&rt, alloc, row);
+    }
+}
+
+fn check_edits_below(rt: &impl Abort, alloc: Global, row: &Row) {
+    let Ok(letters) = letters_in(alloc, row) else {
+        return;
+    };
+    let Ok(doc) = read(alloc, row.bytes("message")) else {
+        return;
+    };
+    assert!(rt; letters.ok());
+    let edits = match field_edits_at(alloc, &doc, &[1, 1], &letters) {
+        Ok(edits) => edits,
+        Err(_) => field_edits_at(alloc, &doc, &[1, 1], &letters).expect(rt, "memory"),
+    };
+    assert_eq!(rt; edits.len(), 2);
+    // Where the test itself gets no memory, there is nothing more to see.
+    if let Ok(last) = line_of(alloc, &edits[1]) {
+        same(rt, last.as_bytes(), b"remove [1, 1] A 1", "the last edit");
     }
 }

@@ -173,8 +173,8 @@ fn bytes(cell: Option<&Cell>) -> Option<&[u8]> {
     }
 }
 
-// The parts of a row, each a file after what it holds.
-fn parts(rt: &impl Abort, alloc: Global, row: &Row) -> Result<Vec<Attach>, Fail> {
+/// The parts of a row, each a file after what it holds.
+pub fn parts(rt: &impl Abort, alloc: Global, row: &Row) -> Result<Vec<Attach>, Fail> {
     let mut parts = Vec::new(alloc);
     let mut word: &[u8] = &[];
     for cell in &row.cells {
@@ -203,7 +203,8 @@ fn part(
     })
 }
 
-fn options(row: &Row) -> PackOptions<'_> {
+/// The options of a row.
+pub fn options(row: &Row) -> PackOptions<'_> {
     PackOptions {
         form: NameForm::Plain,
         subtype: bytes(row.get("subtype")).unwrap_or(MIXED),

@@ -1,0 +1,96 @@
+//! Texts that may stand in the place of a message of a mailbox, and texts that may not.
+
+use mk_mail::{FromLines, Place};
+use mk_rows::{Row, rows};
+use std::alloc::Global;
+use std::process::Abort;
+use std::test::Fail;
+
+/// A message, a text in its place, and whether it may stand there: where every From-line begins a message, and where only
+/// those with a date do.
+const PLACES: &str = r"
+== the message itself
+message: From a\nA: 1\n\n
+text: From a\nA: 1\n\n
+any: yes
+dated: yes
+
+== a From-line after an empty line
+message: From a\nA: 1\nFrom b\n\n
+text: From a\n\nFrom b\n\n
+any: no
+dated: yes
+
+== one with a date
+message: A: 1\n
+text: \nFrom b Fri Jul  8 12:08:34 2011\n
+any: no
+dated: no
+
+== a From-line after another line
+message: A: 1\n
+text: B: 1\nFrom b\n
+any: yes
+dated: yes
+
+== no empty line at the end any more
+message: A: 1\n\n
+text: A: 1\n
+any: no
+dated: no
+
+== an empty line at the end of the last message
+message: A: 1
+text: A: 1\n\n
+any: yes
+dated: yes
+
+== a line that a line feed doesn't end isn't empty
+message: A: 1\n\n
+text: A: 1\n\nx
+any: no
+dated: no
+
+== no From-line at the start any more
+message: From a\nA: 1\n
+text: A: 1\n
+any: no
+dated: yes
+
+== a From-line at the start where there was none
+message: A: 1\n
+text: From a\nA: 1\n
+any: yes
+dated: yes
+
+== no byte in the place of a message that ends with an empty line
+message: A: 1\n\n
+text:
+any: no
+dated: no
+
+== no byte in the place of the only message
+message: A: 1\n
+text:
+any: yes
+dated: yes
+";
+
+fn check_row(rt: &impl Abort, row: &Row, from_lines: FromLines, key: &str) {
+    let place = Place::of(from_lines, row.bytes("message"));
+    let fits = place.fits(row.bytes("text"));
+    assert!(rt; fits == (row.text(key) == "yes"), "{}: {key}", row.shows);
+}
+
+fn check(rt: &impl Abort, alloc: Global) -> Result<(), Fail> {
+    for row in &rows(alloc, PLACES)? {
+        check_row(rt, row, FromLines::Any, "any");
+        check_row(rt, row, FromLines::Dated, "dated");
+    }
+    Ok(())
+}
+
+#[test]
+fn texts_take_the_places_of_messages(rt: HostRuntime) -> Result<(), Fail> {
+    check(&rt, rt.alloc())
+}
