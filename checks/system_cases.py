@@ -16,6 +16,9 @@ PACKED = (b'Subject: s\nMIME-Version: 1.0\nContent-Type: multipart/mixed; bounda
           b'Content-Disposition: attachment; filename="p"\nContent-Transfer-Encoding: quoted-printable\n\nhi\n\n--b--\n')
 SHOWN = b'Content-Type: text/plain; charset=utf-8\nContent-Transfer-Encoding: quoted-printable\n\nhi\n'
 DRESSED = b'Subject: s\nMIME-Version: 1.0\nContent-Type: multipart/digest; boundary="b"\n\n--b\n' + SHOWN + b"\n--b--\n"
+FORWARDED = (b'Subject: s\nMIME-Version: 1.0\nContent-Type: multipart/mixed; boundary="b"\nContent-Transfer-Encoding: 8bit\n\n'
+             b"--b\nContent-Type: message/rfc822\nContent-Disposition: attachment\n\nhi\n\n--b\nContent-Type: message/rfc822\n"
+             b"Content-Disposition: attachment\nContent-Transfer-Encoding: 8bit\n\nA: \xe9\n\n--b--\n")
 # A leaf that isn't base64, and one that is.
 LEAVES = (b"Content-Type: multipart/mixed; boundary=b\n\n"
           b"--b\nContent-Type: image/gif; name=bad.gif\nContent-Transfer-Encoding: base64\n\naGl=\n"
@@ -85,6 +88,9 @@ def alone():
     yield Case(["pack", "-b", "b", "text/plain:p"], PACKED, message=b"Subject: s\n", files=files)
     yield Case(["pack", "-b", "b", "text/plain:p"], b"", b"pack: BadField 1\n", 1, b"Subject: s\n\nx\n", files)
     yield Case(["pack", "-b", "b", "-m", "digest", "--inline", "--charset", "utf-8", "text/plain:p"], DRESSED, message=b"Subject: s\n", files=files)
+    yield Case(["pack", "-b", "b", "--forward", "p", "--forward", "f"], FORWARDED, message=b"Subject: s\n", files={**files, "f": b"From a\nA: \xe9\n"})
+    yield Case(["pack", "-b", "b", "--forward", "p", "--forward", "f"], b"", b"pack: HoldsBoundary 1\n", 1, b"Subject: s\n", {**files, "f": b"--b"})
+    yield Case(["pack", "--forward", "none"], b"", read_fault("none", MISSING), 3, reads=False, ended=True)
     yield Case(["pack", "--part", "text/plain:p", "--inline", "--charset", "utf-8"], SHOWN, files=files, reads=False)
     yield Case(["pack", "-b", "b", "-m", "a b", "text/plain:p"], b"", b"pack: BadSubtype\n", 1, b"Subject: s\n", files)
     yield Case(["pack", "-b", "b", "--charset", "", "text/plain:p"], b"", b"pack: BadCharset\n", 1, b"Subject: s\n", files)

@@ -27,7 +27,7 @@ OPTIONS = {
     "sections": {},
     "extract": {"-s <PATH>": "1"},
     "unpack": {"-C <DIR>": "d", "-s <PATH>": "1"},
-    "pack": {"-b <BOUNDARY>": "b", "-m <SUBTYPE>": "related", "--charset <NAME>": "utf-8"},
+    "pack": {"-b <BOUNDARY>": "b", "-m <SUBTYPE>": "related", "--charset <NAME>": "utf-8", "--forward <FILE>": "f"},
     "field": {
         "--drop <NAME:>": "A:", "--rename <OLD:NEW>": "A:B", "-a <FIELD>": "A: 1", "-A <FIELD>": "A: 1", "-i <FIELD>": "A: 1", "-I <FIELD>": "A: 1",
         "-u <NAME:>": "A:", "-U <NAME:>": "A:", "-x <NAME:>": "A:", "-X <NAME:>": "A:",
@@ -95,6 +95,8 @@ SAID = [
     ("pack without parts", ["pack", "-b", "b"], ["required arguments were not provided", "<SPEC>...", "Usage: mimetool pack"]),
     ("a multipart around a part alone", ["pack", "-m", "digest", "--part", "text/plain:f"],
      ["cannot be used with", "-m <SUBTYPE>", "--part <SPEC>", "Usage: mimetool pack"]),
+    ("a message beside a part alone", ["pack", "--part", "text/plain:f", "--forward", "f"],
+     ["cannot be used with", "--forward <FILE>", "--part <SPEC>", "Usage: mimetool pack"]),
     ("a piece that begins with a hyphen", ["edit", "-e", "undo", "-m"], ["unexpected argument '-m' found", "Usage: mimetool edit"]),
     ("--json with a value", ["sections", "--json=1"], ["--json", "Usage: mimetool sections"]),
     ("--json of another command", ["unpack", "--json"], ["unexpected argument '--json' found", "Usage: mimetool unpack"]),
@@ -128,7 +130,7 @@ NO_TEXT = [
 
 
 # Options that may be given again.
-REPEATED = {("edit", "-e"), ("unpack", "-s"), *(("field", letter) for letter in ("--drop", "--rename", "-a", "-A", "-i", "-I", "-u", "-U"))}
+REPEATED = {("edit", "-e"), ("unpack", "-s"), ("pack", "--forward"), *(("field", letter) for letter in ("--drop", "--rename", "-a", "-A", "-i", "-I", "-u", "-U"))}
 
 
 def doubled():

@@ -94,7 +94,8 @@ def field(chooser):
     """`field` with letters, over a message or a mailbox."""
     each = chooser.maybe(0.5)
     text = messages.mailbox(chooser) if chooser.maybe(0.8 if each else 0.1) else messages.message(chooser)
-    there = [fields.name(named) for named in tree.document(text).root.fields]
+    section = chooser.choice(tree.sections(tree.document(text))) if chooser.maybe(0.3) else tree.root(tree.document(text))
+    there = [fields.name(named) for named in section.entity.fields]
     if chooser.maybe(0.2):
         chosen = [chooser.choice([b"-x", b"-X"])] + chooser.some([b"-x", b"-X", b"-a"], 1)[:chooser.maybe(0.1)]
     else:
@@ -107,6 +108,10 @@ def field(chooser):
                          (b"--eol", 0.3 if chosen else 0.02)):
         if chooser.maybe(chance):
             words.insert(chooser.choice([1, len(words)]), flag)
+    if len(section.path) > 1 or chooser.maybe(0.05):
+        odd = scripts.ODD_PATHS + scripts.FAULTY_PATHS
+        path = chooser.choice(odd) if chooser.maybe(0.05) else b".".join(b"%d" % number for number in section.path)
+        words[1:1] = [b"-p", path]
     yield from_file(chooser, Run(words, text, {}))
 
 
@@ -178,8 +183,15 @@ def content(chooser):
     return found
 
 
+def forwarded(chooser, boundary):
+    """A message to be forwarded, now and then with a From-line before it or a line that begins as a delimiter does."""
+    text = chooser.choice([b"", b"", b"From a@b\n", b"From \xff\r\n", b"From: x\n"]) + messages.message(chooser)
+    text += chooser.weighted([(b"", 8), (b"\r", 1), (b"\n", 1), (b"\xe9", 1)])
+    return text + chooser.weighted([(b"", 12), (b"\n--" + boundary, 1), (b"\r\n--" + boundary + b"x\n", 1), (b"\n --" + boundary + b"\n", 1)])
+
+
 def pack(chooser):
-    """`pack` of files after fields."""
+    """`pack` of files and messages after fields."""
     head = chooser.some(messages.FIELDS[:9] + [b" x"], 3) if chooser.maybe(0.8) else chooser.some(messages.FIELDS + messages.JUNK, 3)
     head += chooser.weighted([([], 8), ([b""], 6), ([b"", b""], 1), ([b"", b"x"], 1)])
     ending = chooser.choice([b"\n", b"\r\n"])
@@ -191,7 +203,10 @@ def pack(chooser):
     specs += [b"text/plain:none"] if chooser.maybe(0.02) else []
     boundary = chooser.choice([b"b", b"=_b", b"a b"] if chooser.maybe(0.8) else messages.BOUNDARIES + [b"-b", b"y" * 71])
     flags = [b"--utf8"] if chooser.maybe(0.5) else []
-    yield Run([b"pack"] + flags + [b"-b", boundary, b"--"] + specs, text, files)
+    given = {b"m%d" % number: forwarded(chooser, boundary) for number in range(chooser.choice([0, 0, 1, 2]))}
+    names_given = list(given) + ([b"none"] if chooser.maybe(0.02) else [])
+    flags += [word for name in names_given for word in (b"--forward", name)]
+    yield Run([b"pack"] + flags + [b"-b", boundary, b"--"] + specs, text, {**files, **given})
 
 
 KINDS = {kind.__name__: kind for kind in (sections, extract, unpack, field, edit, deep, journal, pack)}

@@ -73,53 +73,71 @@ def rounds(given):
     return found
 
 
-def head_of(history):
-    """The fields of the root as it is now (own)."""
-    return tree.document(history.text()).root.fields
+def head_of(text, path):
+    """The fields of the section at a path, none where there is no such section (own)."""
+    section = tree.section_at(tree.document(text), path)
+    return section.entity.fields if section else ()
 
 
-def rename_edits(head, word):
+def rename_edits(head, word, path):
     """Each field of the old name gets the new one (own)."""
     old, _, new = word.partition(b":")
     same = old.lower() == new.lower()
-    return [edits.Edit("ren", (1,), name=old, number=number if same else 1, new=new)
+    return [edits.Edit("ren", path, name=old, number=number if same else 1, new=new)
             for number in range(1, len(fields.numbers(head, old)) + 1)]
 
 
-def drop_edits(head, words):
+def drop_edits(head, words, path):
     """The fields that are meant go, each as the first of its name (own)."""
     names = [fields.name(field) for field in head]
-    return [edits.Edit("del", (1,), name=name, number=1) for name in names if any(is_meant(word, name) for word in words)]
+    return [edits.Edit("del", path, name=name, number=1) for name in names if any(is_meant(word, name) for word in words)]
 
 
-def letter_edits(letter, word, head, ending):
+def letter_edits(letter, word, head, ending, path):
     """The edits of one letter on the fields that are there (own)."""
     if letter == "--drop":
-        return drop_edits(head, word)
+        return drop_edits(head, word, path)
     name = word[:-1] if letter in ("-u", "-U") else lines.name_of(word)
     there = fields.numbers(head, name)
-    adding = [edits.Edit("add", (1,), text=word + ending)]
+    adding = [edits.Edit("add", path, text=word + ending)]
     last = [] if is_bare(word) else adding
     if letter == "--rename":
-        return rename_edits(head, word)
+        return rename_edits(head, word, path)
     if letter == "-a":
         return [] if there else adding
     if letter == "-A":
         return adding
     if letter == "-i":
-        return [edits.Edit("ren", (1,), name=name, number=1, new=b"Old-" + fields.name(head[at])) for at in there] + last
+        return [edits.Edit("ren", path, name=name, number=1, new=b"Old-" + fields.name(head[at])) for at in there] + last
     if letter == "-I":
-        return [edits.Edit("del", (1,), name=name, number=1)] * len(there) + last
-    return [edits.Edit("del", (1,), name=name, number=2 if letter == "-u" else 1)] * (len(there) - 1)
+        return [edits.Edit("del", path, name=name, number=1)] * len(there) + last
+    return [edits.Edit("del", path, name=name, number=2 if letter == "-u" else 1)] * (len(there) - 1)
 
 
-def filtered(message, given, flags):
-    """A message after its rounds, or as it came with the reason where an edit is refused (own): text, reason."""
+def has_section(text, path):
+    """Whether a message has a section at a path (own)."""
+    return tree.section_at(tree.document(text), path) is not None
+
+
+def takes_place(old, new):
+    """A text may stand in the place of a message of a mailbox: it is one message, and begins and ends as that does (own)."""
+    before, after = lines.cut(old), lines.cut(new)
+    begins = not lines.is_from_line(before[0].content) or (after and lines.is_from_line(after[0].content))
+    ends = before[-1].content or (after and not after[-1].content)
+    return len(messages(new)) < 2 and bool(begins) and bool(ends)
+
+
+def filtered(message, given, flags, path):
+    """A message after its rounds, or as it came with the reason where they are refused (own): text, reason."""
+    if not has_section(message, path):
+        return message, "NoSuchSection"
     text = message
     for letters in rounds(given):
-        text, reason = round_filtered(text, letters, flags)
+        text, reason = round_filtered(text, letters, flags, path)
         if reason:
             return message, reason
+    if b"-s" in flags and path != (1,) and not takes_place(message, text):
+        return message, "Recut"
     return text, None
 
 
@@ -129,14 +147,14 @@ def formed(word, ending, flags):
     return lines.turned(word, ending) if b"--eol" in flags else word
 
 
-def round_filtered(message, letters, flags):
+def round_filtered(message, letters, flags, path):
     """A text after a round of letters, or as it came with the reason where an edit is refused (own): text, reason."""
     history, ending = session.Session(message), lines.ending_of(message)
     for letter in EDITING:
         if letter in letters:
             word = letters[letter]
             word = formed(word, ending, flags) if letter in WITH_FIELDS else word
-            for edit in letter_edits(letter, word, head_of(history), ending):
+            for edit in letter_edits(letter, word, head_of(history.text(), path), ending, path):
                 reason = history.edit(edit)
                 if reason:
                     return message, reason
@@ -150,25 +168,27 @@ def shaped(value, flags):
     return wording.unfolded(value) + b"\n" if b"--unfold" in flags else value
 
 
-def shown(message, given, flags):
-    """`-X` prints fields of a name whole, `-x` what stands behind their colons (own)."""
+def shown(message, given, flags, path):
+    """`-X` prints fields of a name whole, `-x` what stands behind their colons (own): text, reason."""
+    if not has_section(message, path):
+        return b"", "NoSuchSection"
     found = b""
     for letter, word in given:
-        for field in tree.document(message).root.fields:
+        for field in head_of(message, path):
             if fields.is_named(field, word[:-1]):
                 raw = lines.printed(field)
                 found += raw if letter == "-X" else shaped(raw.partition(b":")[2], flags)
-    return found
+    return found, None
 
 
-def run(text, given, flags):
+def run(text, given, flags, path):
     """The whole input, or each message of a mailbox, goes through the letters (own): output, errors, status."""
-    output, errors = b"", b""
-    for number, message in enumerate(messages(text) if b"-s" in flags else [text], 1):
+    output, errors, each = b"", b"", b"-s" in flags
+    for number, message in enumerate(messages(text) if each else [text], 1):
         if any(letter in PRINTING for letter, _ in given):
-            output += shown(message, given, flags)
-            continue
-        result, reason = filtered(message, given, flags)
+            result, reason = shown(message, given, flags, path)
+        else:
+            result, reason = filtered(message, given, flags, path)
         output += result
         errors += b"message %d: %s\n" % (number, reason.encode()) if reason else b""
     return output, errors, 1 if errors and b"--refused-ok" not in flags else 0

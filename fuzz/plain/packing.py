@@ -41,15 +41,20 @@ def names_of(name, utf8):
     return plain, b"; filename*=utf-8''" + said
 
 
-def refusal(given, parts, boundary):
-    """The first reason against a message: fields, types, names, the boundary, each by its least number (own)."""
+def refusal(given, parts, boundary, messages=()):
+    """The first reason against a message: fields, types, names, the boundary, forwarded messages, each by its least number (own)."""
     tests = [("BadField", is_good_field, given), ("BadType", is_good_type, [media for media, _, _ in parts]),
              ("BadName", is_good_name, [name for _, (name, _), _ in parts])]
     for reason, is_good, items in tests:
         for number, item in enumerate(items):
             if not is_good(item):
                 return "%s %d" % (reason, number)
-    return None if values.is_boundary(boundary) else "BadBoundary"
+    if not values.is_boundary(boundary):
+        return "BadBoundary"
+    for number, text in enumerate(messages):
+        if any(line.startswith(b"--" + boundary) for line in text.split(b"\n")):
+            return "HoldsBoundary %d" % number
+    return None
 
 
 def part(media, names, text, ending):
@@ -61,22 +66,42 @@ def part(media, names, text, ending):
     return b"".join(line + ending for line in head) + encode(text, ending)
 
 
-def built(given, parts, boundary, ending):
-    """The fields, those of a multipart, each part behind a delimiter, and the close line (RFC 2046, 5.1)."""
+def sent(text):
+    """A message without the line that a mailbox puts before it (own)."""
+    first, feed, rest = text.partition(b"\n")
+    return rest if lines.is_from_line(first.removesuffix(b"\r") if feed else first) else text
+
+
+def eight_bit(text, ending):
+    """Bytes of 128 or more are told of, since no encoding hides them (RFC 2045, 6.4)."""
+    return b"" if text.isascii() else b"Content-Transfer-Encoding: 8bit" + ending
+
+
+def forwarded(text, ending):
+    """A message as an attachment, byte for byte, and an ending that takes no CR of it (RFC 2046, 5.2.1)."""
+    head = b"Content-Type: message/rfc822" + ending + b"Content-Disposition: attachment" + ending + eight_bit(text, ending)
+    return head + ending + text + (b"\r\n" if text.endswith(b"\r") else ending)
+
+
+def built(given, parts, boundary, ending, messages=()):
+    """The fields, those of a multipart, each part and message behind a delimiter, and the close line (RFC 2046, 5.1)."""
     message = b"".join(field if field.endswith(b"\n") else field + ending for field in given)
     message += b"MIME-Version: 1.0" + ending
-    message += b'Content-Type: multipart/mixed; boundary="%s"' % boundary + ending + ending
+    message += b'Content-Type: multipart/mixed; boundary="%s"' % boundary + ending + eight_bit(b"".join(messages), ending) + ending
     for media, names, text in parts:
         message += b"--" + boundary + ending + part(media, names, text, ending) + ending
+    for text in messages:
+        message += b"--" + boundary + ending + forwarded(text, ending)
     return message + b"--" + boundary + b"--" + ending
 
 
-def run(text, boundary, parts, utf8=False):
+def run(text, boundary, parts, utf8=False, messages=()):
     """The input gives the fields and the ending; all but one empty line behind them is refused (own): output, errors, status."""
     head, _, body = fields.split(lines.cut(text))
     given = [lines.printed(field) for field in head] + ([b""] if body else [])
     parts = [(media, names_of(name, utf8), content) for media, name, content in parts]
-    reason = refusal(given, parts, boundary)
+    messages = [sent(message) for message in messages]
+    reason = refusal(given, parts, boundary, messages)
     if reason:
         return b"", b"pack: " + reason.encode() + b"\n", 1
-    return built(given, parts, boundary, lines.ending_of(text)), b"", 0
+    return built(given, parts, boundary, lines.ending_of(text), messages), b"", 0

@@ -9,12 +9,12 @@ Answer = namedtuple("Answer", "status output errors files loose", defaults=(Fals
 
 OPTIONS = {
     b"sections": (b"--from",), b"extract": (b"-s", b"--from"), b"unpack": (b"-C", b"--from"),
-    b"field": (b"--drop", b"--rename", b"-a", b"-A", b"-i", b"-I", b"-u", b"-U", b"-x", b"-X", b"--from"),
-    b"edit": (b"-j", b"-e", b"--from"), b"undo": (b"-j", b"--from"), b"redo": (b"-j", b"--from"), b"pack": (b"-b",),
+    b"field": (b"--drop", b"--rename", b"-a", b"-A", b"-i", b"-I", b"-u", b"-U", b"-x", b"-X", b"-p", b"--from"),
+    b"edit": (b"-j", b"-e", b"--from"), b"undo": (b"-j", b"--from"), b"redo": (b"-j", b"--from"), b"pack": (b"-b", b"--forward"),
 }
 FLAGS = {b"unpack": (b"-f", b"-t", b"--silent", b"--utf8"), b"field": (b"-s", b"--unfold", b"--decode", b"--encode", b"--eol", b"--refused-ok"),
          b"pack": (b"--utf8",), b"edit": (b"--all", b"--eol", b"--explain")}
-AGAIN = {b"edit": (b"-e",), b"field": (b"--drop", b"--rename", b"-a", b"-A", b"-i", b"-I", b"-u", b"-U")}
+AGAIN = {b"edit": (b"-e",), b"pack": (b"--forward",), b"field": (b"--drop", b"--rename", b"-a", b"-A", b"-i", b"-I", b"-u", b"-U")}
 NEEDED = {b"extract": b"-s", b"undo": b"-j", b"redo": b"-j", b"pack": b"-b"}
 
 
@@ -66,7 +66,9 @@ def letters_given(found):
 
 
 def are_letters_valid(found):
-    """`--unfold` and `--decode` are for `-x`, `--encode` and `--eol` for letters that take a field (own)."""
+    """`--unfold` and `--decode` are for `-x`, `--encode` and `--eol` for letters that take a field, and `-p` takes a path (own)."""
+    if listing.path_of(found.get(b"-p", b"1")) is None:
+        return False
     given = letters_given(found)
     shapes, adds = any(flag in found for flag in letters.SHAPES), any(letter in letters.WITH_FIELDS for letter, _ in given)
     forms = any(flag in found for flag in letters.FORMS)
@@ -78,7 +80,7 @@ def are_valid(command, found, others):
     if command == b"edit":
         return b"-e" in found or bool(others)
     if command == b"pack":
-        return bool(others) and all(b":" in word for word in others)
+        return bool(others or b"--forward" in found) and all(b":" in word for word in others)
     if command == b"extract" and listing.path_of(found[b"-s"]) is None:
         return False
     if command == b"field" and not are_letters_valid(found):
@@ -111,10 +113,11 @@ def run_unpack(found, message, files):
 
 
 def run_pack(found, others, message, files):
-    """Each part is a type, a colon and a file, whose name is what follows its last slash (own)."""
+    """Each part is a type, a colon and a file, whose name is what follows its last slash; each message is a file (own)."""
     specs = [word.partition(b":") for word in others]
     parts = [(media, name.split(b"/")[-1], file_of(files, name)) for media, _, name in specs]
-    return packing.run(message, found[b"-b"], parts, b"--utf8" in found)
+    messages = [file_of(files, name) for name in found.get(b"--forward", [])]
+    return packing.run(message, found[b"-b"], parts, b"--utf8" in found, messages)
 
 
 def obeyed(run):
@@ -132,7 +135,8 @@ def obeyed(run):
     elif command == b"extract":
         plain = listing.extract(message, found[b"-s"])
     elif command == b"field":
-        plain = letters.run(message, letters_given(found), [flag for flag in found if found[flag] is True])
+        plain = letters.run(message, letters_given(found), [flag for flag in found if found[flag] is True],
+                            listing.path_of(found.get(b"-p", b"1")))
     else:
         plain = run_pack(found, others, message, run.files)
     return *plain, run.files
