@@ -1,0 +1,124 @@
+//! Devices that keep a digest of what they take.
+
+ghost use Rattle.std.specs.Prelude.{◌≡◌, None, false};
+
+use crate::digest::Digest;
+use mk_mailbox::{Fault, Sink};
+use mk_run::Folder;
+
+/// A sink that takes all.
+#[derive(Debug, Drop)]
+pub struct Taken {
+    pub digest: Digest,
+    is_finished: bool,
+}
+
+impl Taken {
+    /// One that took nothing yet.
+    pub fn new() -> Taken {
+        Taken {
+            digest: Digest::new(),
+            is_finished: false,
+        }
+    }
+}
+
+impl Sink for Taken {
+    ghost contents = { λ _. None };
+
+    ghost failures = { λ _. 0 };
+
+    ghost finished = { λ s. s.is_finished };
+
+    fn write(&mut self, piece: &[u8]) -> Result<usize, Fault> {
+        self.digest.add(piece);
+        Ok(piece.len())
+    }
+
+    fn finish(&mut self) -> Result<(), Fault> {
+        self.is_finished = true;
+        Ok(())
+    }
+
+    fn faults(&self) -> u64 {
+        0
+    }
+}
+
+/// A sink that keeps what it takes, for a later run.
+#[derive(Debug, Drop)]
+pub struct Page {
+    pub held: Vec<u8>,
+    faults: u64,
+    is_finished: bool,
+}
+
+impl Page {
+    /// One that keeps its bytes in this memory.
+    pub fn new(held: Vec<u8>) -> Page {
+        Page {
+            held,
+            faults: 0,
+            is_finished: false,
+        }
+    }
+}
+
+impl Sink for Page {
+    ghost contents = { λ _. None };
+
+    ghost failures = { λ s. s.faults };
+
+    ghost finished = { λ s. s.is_finished };
+
+    fn write(&mut self, piece: &[u8]) -> Result<usize, Fault> {
+        match self.held.extend_from_slice(piece) {
+            Ok(()) => Ok(piece.len()),
+            Err(_) => {
+                self.faults = self.faults.saturating_add(1);
+                Err(Fault)
+            }
+        }
+    }
+
+    fn finish(&mut self) -> Result<(), Fault> {
+        self.is_finished = true;
+        Ok(())
+    }
+
+    fn faults(&self) -> u64 {
+        self.faults
+    }
+}
+
+/// A folder that takes every file.
+#[derive(Debug, Drop)]
+pub struct Shelf {
+    pub digest: Digest,
+}
+
+impl Shelf {
+    /// One that took nothing yet.
+    pub fn new() -> Shelf {
+        Shelf {
+            digest: Digest::new(),
+        }
+    }
+}
+
+impl Folder for Shelf {
+    ghost files = { λ _. None };
+
+    ghost failures = { λ _. 0 };
+
+    fn put(&mut self, name: &[u8], text: &[u8], _over: bool) -> Result<bool, Fault> {
+        self.digest.add(name);
+        self.digest.add_number(text.len() as u64);
+        self.digest.add(text);
+        Ok(true)
+    }
+
+    fn faults(&self) -> u64 {
+        0
+    }
+}

@@ -1,0 +1,59 @@
+//! The sections of messages listed, as lines and as JSON.
+
+use crate::messages::{Part, Supply};
+use crate::random::Random;
+use crate::runs::Results;
+use std::alloc::{AllocError, Global};
+
+/// The parts of a message.
+const PARTS: usize = 160;
+
+/// How deep messages are forwarded.
+const DEEP: usize = 10;
+
+const ALL: [Part; 4] = [Part::Plain, Part::Html, Part::File, Part::Binary];
+
+// A message of forwarded messages, each of which has some deep in it.
+fn forwarded(
+    alloc: Global,
+    supply: &Supply,
+    random: &mut Random,
+    count: usize,
+) -> Result<Vec<u8>, AllocError> {
+    let mut text = Vec::new(alloc);
+    supply.push_fields(random, &mut text)?;
+    let boundary = supply.boundary(random)?;
+    supply.push_multipart(&mut text, &boundary)?;
+    for _ in 0..count {
+        supply.push_delimiter(&mut text, &boundary)?;
+        for _ in 0..DEEP {
+            supply.push_line(&mut text, b"Content-Type: message/rfc822")?;
+            supply.push_line(&mut text, b"")?;
+            supply.push_fields(random, &mut text)?;
+        }
+        supply.push_parts(random, &mut text, &ALL, 4, 800)?;
+    }
+    supply.push_close(&mut text, &boundary)?;
+    Ok(text)
+}
+
+/// Lists large messages, and messages of many parts.
+pub fn run(
+    alloc: Global,
+    random: &mut Random,
+    scale: usize,
+    results: &mut Results,
+) -> Result<(), AllocError> {
+    let parts = scale.saturating_mul(PARTS);
+    let supply = Supply::new(alloc, random, b"\n")?;
+    for size in [100, 600, 3_000] {
+        results.list(&supply.message(random, &ALL, parts, size)?);
+    }
+    results.list_as_json(supply.message(random, &ALL, parts, 500)?)?;
+    results.list(&forwarded(alloc, &supply, random, scale.saturating_mul(14))?);
+    let supply = Supply::new(alloc, random, b"\r\n")?;
+    results.list_as_json(forwarded(alloc, &supply, random, scale.saturating_mul(14))?)?;
+    results.list_as_json(supply.message(random, &ALL, 4, scale.saturating_mul(80_000))?)?;
+    results.list(&supply.message(random, &ALL, 4, scale.saturating_mul(120_000))?);
+    Ok(())
+}
