@@ -4,6 +4,8 @@ ghost use Rattle.std.specs.List.{list_all, prefix_len};
 ghost use Rattle.mk_line.specs.Ascii.{is_blank as blank, is_name_byte as name_byte};
 ghost use Rattle.mk_line.specs.Kinds.{is_continuation as continues, is_from_line as is_from, is_name as are_name, is_past_blanks_colon, name_len as length_of_name};
 
+use crate::lanes::{LANES, name_bytes_at};
+
 const TAB: u8 = b'\t';
 
 const SPACE: u8 = b' ';
@@ -75,6 +77,22 @@ fn is_name_byte(byte: u8) -> bool
 
 // How many bytes of a name stand at the start.
 fn name_front(content: &[u8]) -> usize
+    ensures front { result ≡ prefix_len name_byte content.now }
+    ensures within { result ≤ length content.now }
+{
+    let mut size = 0;
+    'each: while LANES <= content.len() - size {
+        let run = name_bytes_at(content, size);
+        size += run;
+        if run < LANES {
+            return size;
+        }
+    }
+    size + last_of_name(&content[size..])
+}
+
+// The same, one by one.
+fn last_of_name(content: &[u8]) -> usize
     ensures front { result ≡ prefix_len name_byte content.now }
     ensures within { result ≤ length content.now }
 {
