@@ -1,3 +1,4 @@
+pub mod Commentless
 pub mod Splits
 pub mod FieldRuns
 pub mod Headers

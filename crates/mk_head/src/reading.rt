@@ -8,7 +8,7 @@ ghost use Rattle.mk_head.specs.Fields.{continuations, fields_of, header_view, is
 ghost use Rattle.mk_head.specs.Views.{field_view};
 
 use crate::fields::{Field, Header};
-use mk_line::{Lines, cut, is_continuation, name_len};
+use mk_line::{Lines, cut, first_line, is_continuation, name_len};
 use std::alloc::{AllocError, Global};
 
 /// The header that a text begins with: the longest run of fields at the start, and the empty line after it, if one is there.
@@ -79,18 +79,19 @@ pub(crate) fn first_field(text: &[u8]) -> Option<(Field<'_>, &[u8])>
     Some((field, rest))
 }
 
-// How many bytes the continuations at the start take.
+// How many bytes the continuations at the start take. The first byte of a line tells whether it is one, so the end of the
+// line after them isn't looked for.
 fn continuations_size(text: &[u8]) -> usize
     ensures { result ≡ length (text_of (continuations (lines_of text.now))) }
 {
-    let mut size = 0;
-    for line in cut(text) {
-        if !is_continuation(line.content) {
-            break;
+    let mut rest = text;
+    'each: while is_continuation(rest) {
+        match first_line(rest) {
+            Some((_, behind)) => rest = behind,
+            None => break,
         }
-        size += line.size();
     }
-    size
+    text.len() - rest.len()
 }
 
 // How many bytes the empty line at the start takes, if there is one.

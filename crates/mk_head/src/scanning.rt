@@ -4,6 +4,7 @@ ghost use Rattle.mk_head.specs.Values.{Plain, Quoted, Comment, out_of, scan as s
 ghost use Rattle.mk_head.specs.ValueViews.{scan_of};
 ghost use Rattle.mk_head.specs.Depths.{depth_of, first_piece, other_pieces, pieces_behind};
 
+use memchr::memchr;
 use std::alloc::{AllocError, Global};
 
 pub(crate) const QUOTE: u8 = b'"';
@@ -116,6 +117,16 @@ fn outer(depth: usize) -> Scan
 
 /// The value without its comments.
 pub fn uncomment(alloc: Global, value: &[u8]) -> Result<Vec<u8>, AllocError>
+    ensures { IfOk result (λ text. text.items ≡ uncommented Plain value.now) }
+{
+    match memchr(OPENING, value) {
+        None => Ok(Vec::from_slice(alloc, value)?),
+        Some(_) => without_comments(alloc, value),
+    }
+}
+
+// The same, byte by byte.
+fn without_comments(alloc: Global, value: &[u8]) -> Result<Vec<u8>, AllocError>
     ensures { IfOk result (λ text. text.items ≡ uncommented Plain value.now) }
 {
     let mut text = Vec::with_capacity(alloc, value.len())?;

@@ -2,7 +2,7 @@ use Rattle.std.proofs.Common.{◌≡◌, ◌++◌, ◌≤◌, drop}
 use Rattle.mk_head.specs.Values.{Plain, uncommented}
 use Rattle.mk_head.specs.ValueViews.{scan_of}
 use Rattle.mk_head.specs.Depths.{depth_of}
-use Rattle.mk_head.proofs.scanning.uncomment.Given as goal
+use Rattle.mk_head.proofs.scanning.without_comments.Given as goal
 
 abbrev pub invariant-loop-byte : goal.invariant-loop-byte
 invariant-loop-byte l = record {
