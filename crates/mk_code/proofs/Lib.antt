@@ -1,4 +1,5 @@
 pub mod Base64Letters
+pub mod Base64Blocks
 pub mod Base64Lines
 pub mod Unquoting
 pub mod Pairs

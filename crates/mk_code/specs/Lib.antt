@@ -4,3 +4,4 @@ pub mod QuotedPrintable
 pub mod EncodedWords
 pub mod Contents
 pub mod Base64Fronts
+pub mod inner

@@ -1,14 +1,16 @@
 //! Base64 as a transfer encoding (RFC 2045, 6.8).
-ghost use Rattle.std.specs.Prelude.{◌≡◌, ◌≢◌, ◌<◌, ◌≤◌, ◌==◌, ◌++◌, length, not, filter, take_while, IfOk, IfErr, OnOk};
+ghost use Rattle.std.specs.Prelude.{◌≡◌, ◌≢◌, ◌<◌, ◌≤◌, ◌==◌, ◌++◌, ◌%◌, [], length, not, filter, take_while, IfOk, IfErr, OnOk};
 ghost use Rattle.std.specs.List.{prefix_len};
 ghost use Rattle.base64.specs.GeneralPurpose.{encode_of};
 ghost use Rattle.base64.specs.Engines.{standard};
 ghost use Rattle.mk_line.specs.Ascii.{equals_sign};
 ghost use Rattle.mk_code.specs.Base64Text.{IsBase64Of, letters as letters_of, base64_encoded, is_letter as letter};
 ghost use Rattle.mk_code.specs.Contents.{IsRefused};
+ghost use Rattle.mk_code.specs.inner.Decoded.{HasDecoded, IsUndecoded, IsUngrouped};
 ghost use Rattle.mk_head.specs.declared.encodings.Encoding.TheVariants.{Base64};
 
 use crate::decoding::CodeError;
+use crate::lanes::{LANES, letters_at};
 use base64::DecodeAllocError;
 use base64::engine::general_purpose::{STANDARD, STANDARD_NO_PAD};
 use mk_line::{Ending, split_at_first};
@@ -21,6 +23,14 @@ const WIDEST: usize = 76;
 
 /// How many bytes they stand for.
 const LINE_BYTES: usize = 57;
+
+/// The letters of a group, and the bytes that they stand for.
+const GROUP: usize = 4;
+
+const GROUP_BYTES: usize = 3;
+
+/// How many bytes of a text are decoded at once.
+const BLOCK: usize = 16_384;
 
 /// Padded base64 in lines of 76 characters, with the ending between two lines and none after the last.
 pub fn b64_encode(alloc: Global, bytes: &[u8], eol: Ending) -> Result<Vec<u8>, AllocError>
@@ -62,14 +72,53 @@ fn push_letters(text: &mut Vec<u8>, line: &[u8]) -> Result<(), AllocError>
     }
 }
 
-/// The bytes whose encoding the letters before the first `=` are.
+/// The bytes whose encoding the letters before the first `=` are. They are decoded block by block, so that no second text of
+/// letters is kept.
 pub(crate) fn decode(alloc: Global, text: &[u8]) -> Result<Vec<u8>, CodeError>
     ensures content { IfOk result (λ bytes. IsBase64Of text.now bytes.items) }
     ensures refused { IfErr result (λ error. IsRefused Base64 text.now error) }
 {
-    let found = letters(alloc, text)?;
-    match STANDARD_NO_PAD.decode(alloc, &found) {
-        Ok(bytes) => Ok(bytes),
+    let mut rest = before_equals(text);
+    let mut out = Vec::with_capacity(alloc, rest.len() / GROUP * GROUP_BYTES + 2 * GROUP_BYTES)?;
+    let mut found = Vec::with_capacity(alloc, GROUP + BLOCK.min(rest.len()))?;
+    'each: while !rest.is_empty() {
+        let (front, behind) = rest.split_at(BLOCK.min(rest.len()));
+        gather(&mut found, front)?;
+        match decode_groups(alloc, &mut out, &mut found) {
+            Ok(()) => rest = behind,
+            Err(error) => return Err(error),
+        }
+    }
+    match push_decoded(&mut out, &found) {
+        Ok(()) => Ok(out),
+        Err(error) => Err(error),
+    }
+}
+
+// Decodes the whole groups of letters, and leaves the others.
+fn decode_groups(alloc: Global, out: &mut Vec<u8>, found: &mut Vec<u8>) -> Result<(), CodeError>
+    requires { length out.old.items % 3 ≡ 0 }
+    ensures ok { OnOk result (HasDecoded out.old.items found.old.items out.new.items found.new.items) }
+    ensures err { IfErr result (λ error. IsUngrouped found.old.items error) }
+    ensures whole { OnOk result (length out.new.items % 3 ≡ 0) }
+{
+    let whole = found.len() / GROUP * GROUP;
+    if let Err(error) = push_decoded(out, &found[..whole]) {
+        return Err(error);
+    }
+    let left = Vec::from_slice(alloc, &found[whole..])?;
+    found.clear();
+    found.extend_from_slice(&left)?;
+    Ok(())
+}
+
+// Appends the bytes whose encoding letters are.
+fn push_decoded(out: &mut Vec<u8>, found: &[u8]) -> Result<(), CodeError>
+    ensures ok { OnOk result (HasDecoded out.old.items found.now out.new.items []) }
+    ensures err { IfErr result (λ error. IsUndecoded found.now error) }
+{
+    match STANDARD_NO_PAD.decode_vec(found, out) {
+        Ok(()) => Ok(()),
         Err(DecodeAllocError::OutOfMemory) => Err(CodeError::Memory),
         Err(DecodeAllocError::DecodeError(_)) => Err(CodeError::BadBase64),
     }
@@ -79,14 +128,23 @@ pub(crate) fn decode(alloc: Global, text: &[u8]) -> Result<Vec<u8>, CodeError>
 pub(crate) fn letters(alloc: Global, text: &[u8]) -> Result<Vec<u8>, AllocError>
     ensures { IfOk result (λ found. found.items ≡ letters_of text.now) }
 {
-    let mut rest = before_equals(text);
-    let mut out = Vec::with_capacity(alloc, rest.len())?;
+    let front = before_equals(text);
+    let mut out = Vec::with_capacity(alloc, front.len())?;
+    gather(&mut out, front)?;
+    Ok(out)
+}
+
+// Appends the letters of a text.
+fn gather(out: &mut Vec<u8>, text: &[u8]) -> Result<(), AllocError>
+    ensures { OnOk result (out.new.items ≡ out.old.items ++ filter letter text.now) }
+{
+    let mut rest = text;
     while !rest.is_empty() {
         let (run, behind) = split_letters(rest);
         out.extend_from_slice(run)?;
         rest = behind;
     }
-    Ok(out)
+    Ok(())
 }
 
 fn before_equals(text: &[u8]) -> &[u8]
@@ -113,6 +171,22 @@ fn split_letters(text: &[u8]) -> (&[u8], &[u8])
 
 // How many letters stand at the start.
 pub(crate) fn letter_front(text: &[u8]) -> usize
+    ensures front { result ≡ prefix_len letter text.now }
+    ensures within { result ≤ length text.now }
+{
+    let mut size = 0;
+    'each: while LANES <= text.len() - size {
+        let run = letters_at(text, size);
+        size += run;
+        if run < LANES {
+            return size;
+        }
+    }
+    size + last_letters(&text[size..])
+}
+
+// How many letters stand at the start, one by one.
+fn last_letters(text: &[u8]) -> usize
     ensures front { result ≡ prefix_len letter text.now }
     ensures within { result ≤ length text.now }
 {

@@ -6,6 +6,7 @@
 mod base64_fronts;
 mod base64_text;
 mod decoding;
+mod lanes;
 pub mod laws;
 mod one_word;
 mod qp_decoding;

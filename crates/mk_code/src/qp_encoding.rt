@@ -7,6 +7,7 @@ ghost use Rattle.mk_code.specs.OutputLines.{widest};
 ghost use Rattle.mk_code.specs.QuotedPrintable.{qp_encoded, packed, form, limit as line_limit, is_plain, is_quiet as quiet, is_guarded as guarded, escaped, hex_digit as digit_of, logical_lines};
 ghost use Rattle.mk_line.specs.declared.cutting.Ending.TheVariants.{Crlf};
 
+use crate::lanes::{LANES, quiet_at};
 use memchr::memmem;
 use mk_line::{Ending, is_blank, split_at_first};
 use std::alloc::{AllocError, Global};
@@ -170,6 +171,22 @@ fn push_quiet(out: &mut Vec<u8>, column: usize, rest: &[u8]) -> Result<usize, Al
 
 // How many quiet bytes stand at the start.
 fn quiet_front(bytes: &[u8]) -> usize
+    ensures front { result ≡ prefix_len quiet bytes.now }
+    ensures within { result ≤ length bytes.now }
+{
+    let mut size = 0;
+    'each: while LANES <= bytes.len() - size {
+        let run = quiet_at(bytes, size);
+        size += run;
+        if run < LANES {
+            return size;
+        }
+    }
+    size + last_quiet(&bytes[size..])
+}
+
+// How many quiet bytes stand at the start, one by one.
+fn last_quiet(bytes: &[u8]) -> usize
     ensures front { result ≡ prefix_len quiet bytes.now }
     ensures within { result ≤ length bytes.now }
 {

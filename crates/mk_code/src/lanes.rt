@@ -1,0 +1,56 @@
+//! Runs of bytes of one class, tested sixteen at a time: which byte ends a run can't be foreseen, so a test byte by byte
+//! waits for each, and these runs are most of what is decoded and encoded.
+ghost use Rattle.std.specs.Prelude.{◌≡◌, ◌==◌, ◌+◌, ◌≤◌, if◌then◌else◌, length, take, drop};
+ghost use Rattle.std.specs.Int.{w64, trailing_zeros};
+ghost use Rattle.std.specs.List.{prefix_len};
+ghost use Rattle.mk_code.specs.Base64Text.{is_letter as letter};
+ghost use Rattle.mk_code.specs.QuotedPrintable.{is_quiet as quiet};
+
+use std::simd::prelude::*;
+
+/// How many bytes are tested at once.
+pub(crate) const LANES: usize = 16;
+
+// How many lanes come before the first that is marked.
+#[inline(always)]
+fn first_set(mask: u64) -> usize
+    ensures { result ≡ (if mask == 0 then 16 else trailing_zeros w64 mask) }
+{
+    if mask == 0 {
+        LANES
+    } else {
+        mask.trailing_zeros() as usize
+    }
+}
+
+/// How many letters of base64 come first of the sixteen bytes at a place.
+#[inline(always)]
+pub(crate) fn letters_at(text: &[u8], at: usize) -> usize
+    requires { at + 16 ≤ length text.now }
+    ensures front { result ≡ prefix_len letter (take 16 (drop at text.now)) }
+    ensures few { result ≤ 16 }
+{
+    let bytes = u8x16::from_slice(&text[at..]);
+    let from_a = (bytes | u8x16::splat(0x20)) - u8x16::splat(b'a');
+    let from_slash = bytes - u8x16::splat(b'/');
+    let stops = from_a.simd_ge(u8x16::splat(26))
+        & from_slash.simd_ge(u8x16::splat(11))
+        & bytes.simd_ne(u8x16::splat(b'+'));
+    first_set(stops.to_bitmask())
+}
+
+/// How many bytes that stand for themselves in quoted-printable come first of the sixteen bytes at a place.
+#[inline(always)]
+pub(crate) fn quiet_at(text: &[u8], at: usize) -> usize
+    requires { at + 16 ≤ length text.now }
+    ensures front { result ≡ prefix_len quiet (take 16 (drop at text.now)) }
+    ensures few { result ≤ 16 }
+{
+    let bytes = u8x16::from_slice(&text[at..]);
+    let from_printable = bytes - u8x16::splat(b'!');
+    let others = from_printable.simd_ge(u8x16::splat(94))
+        & bytes.simd_ne(u8x16::splat(b' '))
+        & bytes.simd_ne(u8x16::splat(b'\t'));
+    let stops = others | bytes.simd_eq(u8x16::splat(b'='));
+    first_set(stops.to_bitmask())
+}
