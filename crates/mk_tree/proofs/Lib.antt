@@ -8,6 +8,7 @@ pub mod Plugs
 pub mod Stability
 pub mod Placed
 pub mod Marked
+pub mod DashedLines
 pub mod Descent
 pub mod PartsRead
 pub mod Heads

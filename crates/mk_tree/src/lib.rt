@@ -5,6 +5,7 @@
 
 mod changing;
 mod children;
+mod dashes;
 mod describing;
 mod doc;
 pub mod laws;

@@ -10,6 +10,7 @@ ghost use Rattle.mk_tree.specs.Nodes.{tail_of};
 ghost use Rattle.mk_tree.specs.Spans.{tail_sizes};
 ghost use Rattle.mk_tree.specs.Steps.{boundaries_of, begins_part, behind_first, first_size, ended_by};
 
+use crate::dashes::{dashed_lines, to_dashed};
 use crate::node::Tail;
 use mk_line::{Line, Mark, first_line, is_continuation, is_delimiter, name_len, trimmed};
 use std::alloc::{AllocError, Global};
@@ -96,12 +97,16 @@ pub(crate) fn skip_unmarked<'a>(text: &'a [u8], opened: &[&[u8]]) -> &'a [u8]
     ensures front { length text.now ≡ size (upto (boundaries_of opened.now) (lines_of text.now)) + length result.now }
     ensures rest { beyond (boundaries_of opened.now) (lines_of text.now) ≡ lines_of result.now }
 {
-    let mut rest = text;
+    if opened.is_empty() {
+        return &text[text.len()..];
+    }
+    let dashed = dashed_lines();
+    let mut rest = to_dashed(text, &dashed);
     'each: while let Some((line, behind)) = first_line(rest) {
         if is_marked(&line, opened) {
             break;
         }
-        rest = behind;
+        rest = to_dashed(behind, &dashed);
     }
     rest
 }
