@@ -10,7 +10,7 @@ ghost use Rattle.mk_view.specs.Listing.{encoding_name as name_of_encoding, kind_
 use crate::typing::push_type;
 use crate::writing::{push_column, push_number_column, push_path};
 use mk_head::Encoding;
-use mk_line::cut;
+use mk_line::line_count;
 use mk_tree::{Doc, Kind, Section};
 use std::alloc::{AllocError, Global};
 
@@ -150,13 +150,6 @@ fn push_line_counts(
 {
     push_number_column(lines, line_count(section.head()))?;
     push_number_column(lines, count)
-}
-
-// How many lines a text has.
-fn line_count(text: &[u8]) -> usize
-    ensures { result ≡ length (lines_of text.now) }
-{
-    cut(text).count()
 }
 
 fn kind_name(kind: Kind) -> &'static [u8]
