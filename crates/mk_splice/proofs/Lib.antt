@@ -1,5 +1,6 @@
 pub mod Bytes
 pub mod Splicings
+pub mod Shifts
 pub mod Trials
 pub mod FoundSteps
 pub mod Sequences

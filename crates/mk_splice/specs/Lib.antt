@@ -1,5 +1,6 @@
 pub mod Splices
 pub mod Rooms
+pub mod Roomy
 pub mod Fits
 pub mod Views
 pub mod Misfits

@@ -5,8 +5,8 @@ ghost use Rattle.mk_splice.specs.inner.Tries.{FailsWith, IsTried, Succeeds};
 ghost use Rattle.mk_splice.specs.Views.{splice_of, steps_of};
 ghost use Rattle.mk_splice.specs.declared.fitting.FitError.TheVariants.{Memory as FitMemory};
 
-use crate::replacing::replace;
 use crate::splicing::Splice;
+use crate::texts::Text;
 use std::alloc::{AllocError, Global};
 use thiserror::Error;
 
@@ -45,7 +45,7 @@ fn fit_back(alloc: Global, text: &[u8], steps: &[Vec<Splice>]) -> Result<(), Fit
     ensures ok { OnOk result (Succeeds (all_taken_back 1 (steps_of steps.now) text.now)) }
     ensures err { IfErr result (λ e. FailsWith e (all_taken_back 1 (steps_of steps.now) text.now)) }
 {
-    let mut trial = Vec::from_slice(alloc, text)?;
+    let mut trial = Text::new(Vec::from_slice(alloc, text)?);
     let mut left = steps.len();
     while 0 < left {
         if !try_back(&mut trial, &steps[left - 1])? {
@@ -62,7 +62,7 @@ fn fit_forth(alloc: Global, text: &[u8], steps: &[Vec<Splice>], done: usize) -> 
     ensures ok { OnOk result (Succeeds (all_made (done + 1) (steps_of (drop done steps.now)) text.now)) }
     ensures err { IfErr result (λ e. FailsWith e (all_made (done + 1) (steps_of (drop done steps.now)) text.now)) }
 {
-    let mut trial = Vec::from_slice(alloc, text)?;
+    let mut trial = Text::new(Vec::from_slice(alloc, text)?);
     let mut made = done;
     while made < steps.len() {
         if !try_forth(&mut trial, &steps[made])? {
@@ -74,30 +74,30 @@ fn fit_forth(alloc: Global, text: &[u8], steps: &[Vec<Splice>], done: usize) -> 
 }
 
 // Takes a step back where each splice finds its new bytes, and answers whether all did.
-fn try_back(text: &mut Vec<u8>, step: &[Splice]) -> Result<bool, AllocError>
-    ensures { IfOk result (λ all. IsTried all text.new.items (step_taken_back (map splice_of step.now) text.old.items)) }
+fn try_back(text: &mut Text, step: &[Splice]) -> Result<bool, AllocError>
+    ensures { IfOk result (λ all. IsTried all text.new.bytes (step_taken_back (map splice_of step.now) text.old.bytes)) }
 {
     let mut left = step.len();
     while 0 < left {
         left -= 1;
         let splice = &step[left];
-        if !stand(text, splice.place, &splice.new) {
+        if !stand(text.bytes(), splice.place, &splice.new) {
             return Ok(false);
         }
-        replace(text, splice.place, splice.new.len(), &splice.old)?;
+        text.replace(splice.place, splice.new.len(), &splice.old)?;
     }
     Ok(true)
 }
 
 // Makes a step where each splice finds its old bytes, and answers whether all did.
-fn try_forth(text: &mut Vec<u8>, step: &[Splice]) -> Result<bool, AllocError>
-    ensures { IfOk result (λ all. IsTried all text.new.items (step_made (map splice_of step.now) text.old.items)) }
+fn try_forth(text: &mut Text, step: &[Splice]) -> Result<bool, AllocError>
+    ensures { IfOk result (λ all. IsTried all text.new.bytes (step_made (map splice_of step.now) text.old.bytes)) }
 {
     for splice in step {
-        if !stand(text, splice.place, &splice.old) {
+        if !stand(text.bytes(), splice.place, &splice.old) {
             return Ok(false);
         }
-        replace(text, splice.place, splice.old.len(), &splice.new)?;
+        text.replace(splice.place, splice.old.len(), &splice.new)?;
     }
     Ok(true)
 }

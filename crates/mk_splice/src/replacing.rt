@@ -40,7 +40,7 @@ pub fn replace_within(items: &mut Vec<u8>, place: usize, count: usize, text: &[u
 }
 
 // Writes `text` over as many bytes at `place`.
-fn overwrite(items: &mut Vec<u8>, place: usize, text: &[u8])
+pub(crate) fn overwrite(items: &mut Vec<u8>, place: usize, text: &[u8])
     requires { place + length text.now ≤ vec_len items.old }
     ensures items { items.new.items ≡ spliced place (length text.now) text.now items.old.items }
     ensures capacity { vec_capacity items.new ≡ vec_capacity items.old }

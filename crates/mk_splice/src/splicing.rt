@@ -5,6 +5,7 @@ ghost use Rattle.mk_splice.specs.Rooms.{olds, news};
 ghost use Rattle.mk_splice.specs.Views.{splice_of};
 
 use crate::replacing::replace_within;
+use crate::texts::Text;
 use std::alloc::{AllocError, Global};
 
 /// A place in a text, the bytes that stood there and those that took their place.
@@ -60,6 +61,40 @@ pub fn make_again(text: &mut Vec<u8>, step: &[Splice]) -> Result<(), AllocError>
             Ok(())
         }
     }
+}
+
+/// Takes a step back in a text that has room for its old bytes, its last splice first.
+pub fn take_back_in(text: &mut Text, step: &[Splice])
+    requires goes { GoesBack (map splice_of step.now) text.old.bytes }
+    requires room { olds (map splice_of step.now) ≤ text.old.spare }
+    ensures bytes { text.new.bytes ≡ back_step (map splice_of step.now) text.old.bytes }
+    ensures spare { text.old.spare ≤ text.new.spare + olds (map splice_of step.now) }
+{
+    let mut left = step.len();
+    while 0 < left {
+        left -= 1;
+        let splice = &step[left];
+        text.replace_within(splice.place, splice.new.len(), &splice.old);
+    }
+}
+
+/// Makes a step again in a text that has room for its new bytes, its first splice first.
+pub fn make_again_in(text: &mut Text, step: &[Splice])
+    requires goes { GoesForth (map splice_of step.now) text.old.bytes }
+    requires room { news (map splice_of step.now) ≤ text.old.spare }
+    ensures bytes { text.new.bytes ≡ forth_step (map splice_of step.now) text.old.bytes }
+    ensures spare { text.old.spare ≤ text.new.spare + news (map splice_of step.now) }
+{
+    for splice in step {
+        text.replace_within(splice.place, splice.old.len(), &splice.new);
+    }
+}
+
+/// How many bytes taking a step back and making it again put in, where a number of 64 bits holds them.
+pub fn room_of(step: &[Splice]) -> Option<usize>
+    ensures { IfSome result (λ room. room ≡ olds (map splice_of step.now) + news (map splice_of step.now)) }
+{
+    room_back(step)?.checked_add(room_forth(step)?)
 }
 
 // How many bytes taking a step back puts in, where a number of 64 bits holds them.

@@ -7,14 +7,14 @@ use Rattle.mk_splice.proofs.fitting.fit_back.Goals as goal
 pub returns-then-not-branch-clause-err : goal.returns-then-not-branch-clause-err
 returns-then-not-branch-clause-err c =
     sym c.loop-left.invariant.same
-    ∙ all_back_stops c.args.steps.now c.loop-left.left c.index-steps-left.result c.deref.result.now c.loop-left.trial.items c.loop-left-test.true c.loop-left.invariant.within c.index-steps-left.is c.deref.ensures.value
-    (tried_none c.in_ok-try_back.field-0 c.try_back.new.text.items (step_taken_back (map splice_of c.deref.result.now) c.loop-left.trial.items) c.in_ok-try_back.ensures c.if-not-branch.true)
+    ∙ all_back_stops c.args.steps.now c.loop-left.left c.index-steps-left.result c.deref.result.now c.loop-left.trial.bytes c.loop-left-test.true c.loop-left.invariant.within c.index-steps-left.is c.deref.ensures.value
+    (tried_none c.in_ok-try_back.field-0 c.try_back.new.text.bytes (step_taken_back (map splice_of c.deref.result.now) c.loop-left.trial.bytes) c.in_ok-try_back.ensures c.if-not-branch.true)
 
 pub loop-left-preserved : goal.loop-left-preserved
 loop-left-preserved c = record {
   within = omega (arith, c.loop-left.invariant.within);
   same =
-      all_back_turn c.args.steps.now c.loop-left.left c.index-steps-left.result c.deref.result.now c.loop-left.trial.items c.try_back.new.text.items c.loop-left-test.true c.loop-left.invariant.within c.index-steps-left.is c.deref.ensures.value
-      (tried_all c.in_ok-try_back.field-0 c.try_back.new.text.items (step_taken_back (map splice_of c.deref.result.now) c.loop-left.trial.items) c.in_ok-try_back.ensures c.if-not-branch.false)
+      all_back_turn c.args.steps.now c.loop-left.left c.index-steps-left.result c.deref.result.now c.loop-left.trial.bytes c.try_back.new.text.bytes c.loop-left-test.true c.loop-left.invariant.within c.index-steps-left.is c.deref.ensures.value
+      (tried_all c.in_ok-try_back.field-0 c.try_back.new.text.bytes (step_taken_back (map splice_of c.deref.result.now) c.loop-left.trial.bytes) c.in_ok-try_back.ensures c.if-not-branch.false)
       ∙ c.loop-left.invariant.same;
 }

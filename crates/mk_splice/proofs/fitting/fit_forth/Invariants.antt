@@ -6,7 +6,7 @@ use Rattle.mk_splice.proofs.fitting.fit_forth.Given as goal
 abbrev pub invariant-loop-made : goal.invariant-loop-made
 invariant-loop-made l = record {
   within : l.made ≤ length l.steps;
-  same : all_made (l.made + 1) (steps_of (drop l.made l.steps)) l.trial.items ≡ all_made (l.done + 1) (steps_of (drop l.done l.steps)) l.text;
+  same : all_made (l.made + 1) (steps_of (drop l.made l.steps)) l.trial.bytes ≡ all_made (l.done + 1) (steps_of (drop l.done l.steps)) l.text;
 }
 
 abbrev pub decreases-loop-made : goal.decreases-loop-made

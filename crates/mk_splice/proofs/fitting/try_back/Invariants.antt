@@ -6,7 +6,7 @@ use Rattle.mk_splice.proofs.fitting.try_back.Given as goal
 abbrev pub invariant-loop-left : goal.invariant-loop-left
 invariant-loop-left l = record {
   within : l.left ≤ length l.step;
-  same : step_taken_back (map splice_of (take l.left l.step)) l.text.items ≡ step_taken_back (map splice_of l.step) l.fn.text.items;
+  same : step_taken_back (map splice_of (take l.left l.step)) l.text.bytes ≡ step_taken_back (map splice_of l.step) l.fn.text.bytes;
 }
 
 abbrev pub decreases-loop-left : goal.decreases-loop-left

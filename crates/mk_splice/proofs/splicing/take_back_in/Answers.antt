@@ -1,0 +1,27 @@
+use Rattle.std.proofs.Common.{◌-◌, ◌∙◌, ap, sym, arith, subst, length, map, take}
+use Rattle.mk_splice.specs.Splices.{back_step, GoesBack}
+use Rattle.mk_splice.specs.Views.{splice_of}
+use Rattle.mk_splice.proofs.Splicings.{last_back, back_so}
+use Rattle.mk_splice.proofs.splicing.take_back_in.Goals as goal
+
+pub replace_within-requires-clause-inside : goal.replace_within-requires-clause-inside
+replace_within-requires-clause-inside c =
+    let b = last_back c.args.step.now c.loop-left.left c.index-step-left.result c.loop-left.text.bytes c.loop-left-test.true c.loop-left.invariant.within c.index-step-left.is c.loop-left.invariant.goes in
+    omega (arith, b.stands.within, c.len.ensures, c.index-step-left.result.new.ok.0)
+
+pub replace_within-requires-clause-room : goal.replace_within-requires-clause-room
+replace_within-requires-clause-room c =
+    let b = last_back c.args.step.now c.loop-left.left c.index-step-left.result c.loop-left.text.bytes c.loop-left-test.true c.loop-left.invariant.within c.index-step-left.is c.loop-left.invariant.goes in
+    omega (arith, b.room, c.loop-left.invariant.room, ap length c.deref.ensures.value)
+
+pub loop-left-preserved : goal.loop-left-preserved
+loop-left-preserved c =
+    let b = last_back c.args.step.now c.loop-left.left c.index-step-left.result c.loop-left.text.bytes c.loop-left-test.true c.loop-left.invariant.within c.index-step-left.is c.loop-left.invariant.goes in
+    let text = back_so c.index-step-left.result c.loop-left.text.bytes c.replace_within.new.self.bytes c.deref.result.now c.len.result c.replace_within.ensures.bytes (c.len.ensures ∙ c.index-step-left.result.new.ok.0) c.deref.ensures.value in
+    record {
+      within = omega (arith, c.loop-left.invariant.within);
+      made = ap (back_step (map splice_of (take (c.loop-left.left - 1) c.args.step.now))) text ∙ (sym b.made ∙ c.loop-left.invariant.made);
+      goes = subst (GoesBack (map splice_of (take (c.loop-left.left - 1) c.args.step.now))) (sym text) b.goes;
+      room = omega (arith, b.room, c.loop-left.invariant.room, c.replace_within.ensures.spare, ap length c.deref.ensures.value);
+      spare = omega (arith, b.room, c.loop-left.invariant.spare, c.replace_within.ensures.spare, ap length c.deref.ensures.value);
+    }
