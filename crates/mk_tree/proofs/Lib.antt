@@ -31,3 +31,4 @@ pub mod Spliced
 pub mod EntityRead
 pub mod Planned
 pub mod PartsPlanned
+pub mod Stepped

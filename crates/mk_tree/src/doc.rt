@@ -1,5 +1,6 @@
 //! Documents: a text, and the tree that it is read as.
-ghost use Rattle.std.specs.Prelude.{◌≡◌, ◌+◌, false, length};
+ghost use Rattle.std.specs.Prelude.{◌≡◌, ◌+◌, false, length, IfOk};
+ghost use Rattle.mk_tree.specs.Layouts.{IsTreeOver};
 ghost use Rattle.mk_line.specs.Lines.{cut as lines_of};
 ghost use Rattle.mk_head.specs.Split.{option_line};
 ghost use Rattle.mk_tree.specs.Spans.{size};
@@ -10,6 +11,7 @@ use crate::node::Node;
 use crate::reading::read_entity;
 use crate::section::Section;
 use mk_line::{first_line, is_from_line};
+use mk_splice::Text;
 use std::alloc::{AllocError, Global};
 use std::marker::Model;
 
@@ -19,7 +21,7 @@ pub const LEVELS: u8 = 100;
 /// A text that was read, and the tree of its sections.
 #[derive(Drop)]
 pub struct Doc {
-    pub(crate) text: Vec<u8>,
+    pub(crate) text: Text,
     /// The line that a mailbox puts before a message, in bytes.
     pub(crate) envelope: usize,
     pub(crate) root: Node,
@@ -32,9 +34,9 @@ impl Model for Doc {
 
     ghost use Rattle.mk_tree.specs.Layouts.{IsTreeOver};
 
-    ghost view = { λ d. d.text.items };
+    ghost view = { λ d. d.text.bytes };
 
-    ghost invariant = { λ d. IsTreeOver d.root d.envelope d.text.items };
+    ghost invariant = { λ d. IsTreeOver d.root d.envelope d.text.bytes };
 }
 
 impl Doc {
@@ -47,11 +49,9 @@ impl Doc {
         ensures ok { IfOk result (λ d. d ≡ text.items) }
         ensures err { IfErr result (λ e. e.0.items ≡ text.items) }
     {
-        let message = behind_envelope(&text);
-        let envelope = text.len() - message.len();
-        match read_entity(alloc, message, 0, &[], false, LEVELS) {
-            Ok((root, _)) => Ok(Doc {
-                text,
+        match read_root(alloc, &text) {
+            Ok((envelope, root)) => Ok(Doc {
+                text: Text::new(text),
                 envelope,
                 root,
             }),
@@ -63,21 +63,21 @@ impl Doc {
     pub fn text(&self) -> &[u8]
         ensures { result.now ≡ self.now }
     {
-        &self.text
+        self.text.bytes()
     }
 
     /// The text, where the tree is done with.
     pub fn into_text(self) -> Vec<u8>
         ensures { result.items ≡ self }
     {
-        self.text
+        self.text.into_bytes()
     }
 
     /// The root of the sections: all of the text but the line that a mailbox puts before a message.
     pub fn root(&self) -> Section<'_>
         ensures { result ≡ root_of (tree self.now) }
     {
-        let (_, raw) = self.text.split_at(self.envelope);
+        let (_, raw) = self.text.bytes().split_at(self.envelope);
         Section {
             raw,
             node: &self.root,
@@ -102,6 +102,16 @@ impl Doc {
         }
         Some(section)
     }
+}
+
+/// The tree of a text: how many bytes the line takes that a mailbox puts before a message, and the root.
+pub(crate) fn read_root(alloc: Global, text: &[u8]) -> Result<(usize, Node), AllocError>
+    ensures { IfOk result (λ r. IsTreeOver r.1 r.0 text.now) }
+{
+    let message = behind_envelope(text);
+    let envelope = text.len() - message.len();
+    let (root, _) = read_entity(alloc, message, 0, &[], false, LEVELS)?;
+    Ok((envelope, root))
 }
 
 // What follows the line that a mailbox puts before a message, where it is there.

@@ -16,6 +16,7 @@ mod reading;
 mod section;
 mod shapes;
 mod splicing;
+mod stepping;
 
 pub use children::Children;
 pub use describing::{Described, describe};

@@ -13,7 +13,7 @@ use crate::doc::Doc;
 use crate::planning::{Plan, SectionChange, levels_below, plan_change};
 use crate::section::Section;
 use crate::shapes::Kind;
-use mk_splice::{replace, replace_within};
+use mk_splice::replace;
 use std::alloc::{AllocError, Global};
 
 /// A change of a section of a document.
@@ -120,7 +120,7 @@ impl Doc {
         ensures ok { OnOk result ((u : Document) → SectionBecomes path.now (Becomes change.entry) (tree self.old) u → self.new ≡ printed u) }
         ensures err { OnErr result (self.new ≡ self.old) }
     {
-        let alloc = *self.text.allocator();
+        let alloc = self.text.allocator();
         let left = levels_below(path.len() - 1);
         match self.section(path) {
             Some(section) => {
@@ -154,9 +154,9 @@ impl Doc {
         ensures err { OnErr result (self.new ≡ self.old) }
     {
         let Plan { place, count, own } = plan;
-        self.text.reserve(text.len().saturating_sub(count))?;
+        self.text.reserve(place, count, text.len())?;
         self.root.change(&path[1..], count, text.len(), own)?;
-        replace_within(&mut self.text, place, count, text);
+        self.text.replace_within(place, count, text);
         Ok(())
     }
 
@@ -172,7 +172,7 @@ impl Doc {
         requires { ChangesFields path.now place count text.now (tree self.now) }
         ensures { IfOk result (λ g. DigestsBelow path.now place count text.now (tree self.now) g) }
     {
-        let alloc = *self.text.allocator();
+        let alloc = self.text.allocator();
         match self.section(path) {
             Some(section) => digest_after(alloc, &section, place - section.start(), count, text),
             None => Ok(false),
