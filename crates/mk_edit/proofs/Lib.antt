@@ -1,3 +1,4 @@
+pub mod OneEdit
 pub mod Steps
 pub mod Moves
 pub mod Obeying
@@ -8,6 +9,7 @@ pub mod GroupMoves
 pub mod Leading
 pub mod FieldsMade
 pub mod SilentFields
+pub mod PassedNames
 pub mod PassedFields
 pub mod RootEdits
 pub mod Saved

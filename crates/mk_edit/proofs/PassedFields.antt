@@ -1,11 +1,10 @@
 -- Fields after others: the k-th of a name, what an edit puts in its place, and where the search goes on after it.
 use Rattle.std.proofs.Common.{◌≡◌, ◌+◌, ◌-◌, ◌<◌, ◌≤◌, ◌++◌, if◌then◌else◌, ℕ, zero, suc, Bool, true, false, not, Option, None, Some, Result, Ok, Err, List, [], ◌∷◌, Bor, IfSome, refl, ap, sym, ◌∙◌, subst, filter, length, drop, arith, inl, inr}
 use Rattle.std.proofs.lemmas.Bool.{cases_Bool}
-use Rattle.std.proofs.Math.Seq.{drop-append_seam}
 use Rattle.std.proofs.lemmas.List.{length-drop}
 use Rattle.std.specs.Option.{option_map}
-use Rattle.mk_line.specs.Lines.{TextLine, cut, text_of, AreLines}
-use Rattle.mk_line.proofs.Cuts.{cut_text, text_cut, text_append, lines_cut, lines_behind}
+use Rattle.mk_line.specs.Lines.{TextLine, cut}
+use Rattle.mk_line.proofs.Cuts.{text_cut, cut_rest}
 use Rattle.mk_head.specs.Fields.{continuations}
 use Rattle.mk_head.specs.Splits.{IsRun}
 use Rattle.mk_tree.specs.Spans.{size}
@@ -19,7 +18,7 @@ use Rattle.mk_decide.specs.Edits.{Refusal, BadName}
 use Rattle.mk_line.specs.Kinds.{is_name}
 use Rattle.mk_decide.specs.FieldEdits.{starts_named, behind_continuations, Found, found_behind, find, field_at, renamed}
 use Rattle.mk_decide.specs.FieldPuts.{LinePut, IsPut, name_put, put_unless, puts, removes, renames}
-use Rattle.mk_edit.specs.RootFields.{HasPassed, IsBehind}
+use Rattle.mk_edit.specs.RootFields.{IsBehind}
 use Rattle.mk_edit.specs.SilentEdits.{by_option, numbered}
 use Rattle.mk_decide.proofs.FieldPutFacts.{puts_is, puts_fit}
 use Rattle.mk_decide.proofs.Renaming.{renamed_start}
@@ -104,10 +103,8 @@ puts_later : (name : Bor (List ℕ)) (o : Option (Bor (List ℕ))) (before behin
 puts_later name None before behind k j e h = ap removes (field_later name.now before behind k j e h) ∙ removes_later before (field_at name.now j behind)
 puts_later name (Some to) before behind k j e h = ap (renames to.now) (field_later name.now before behind k j e h) ∙ renames_later before to.now (field_at name.now j behind)
 
-puts_behind : (edit : SilentEdit) (ls : List TextLine) (name : List ℕ) (bytes fields k : ℕ) → (h : HasPassed ls name bytes fields) → IsBehind name fields edit k → puts (numbered edit edit.k) ls ≡ later_puts h.before (puts (numbered edit k) h.behind)
-puts_behind edit ls name bytes fields k h b =
-    ap (puts (numbered edit edit.k)) (sym h.whole)
-    ∙ puts_later edit.name edit.to h.before h.behind edit.k k (b.number ∙ ap (λ n. n + k) (sym h.holds ∙ ap (λ x. length (filter (starts_named x) h.before)) b.named)) b.some
+puts_behind : (edit : SilentEdit) (ls : List TextLine) (bytes k : ℕ) → (b : IsBehind ls bytes edit k) → puts (numbered edit edit.k) ls ≡ later_puts b.before (puts (numbered edit k) b.behind)
+puts_behind edit ls bytes k b = ap (puts (numbered edit edit.k)) (sym b.whole) ∙ puts_later edit.name edit.to b.before b.behind edit.k k b.number b.some
 
 -- in memory
 later_is_put : (before : List TextLine) (bytes : ℕ) (r s : Put) (x : Result LinePut Refusal) → size before ≡ bytes → s.from ≡ bytes + r.from → s.count ≡ r.count → s.lines ≡ r.lines → s.kept ≡ r.kept → IsPut r x → IsPut s (later_puts before x)
@@ -119,29 +116,23 @@ later_is_put before bytes r s (Ok q) t from count lines kept m = record {
   kept = kept ∙ m.kept;
 }
 
-pub put_later : (edit : SilentEdit) (ls : List TextLine) (name : List ℕ) (bytes fields k : ℕ) (r s : Put) → (h : HasPassed ls name bytes fields) → IsBehind name fields edit k → s.from ≡ bytes + r.from → s.count ≡ r.count → s.lines ≡ r.lines → s.kept ≡ r.kept
-    → IsPut r (puts (numbered edit k) h.behind) → IsPut s (puts (numbered edit edit.k) ls)
-put_later edit ls name bytes fields k r s h b from count lines kept m =
-    subst (IsPut s) (sym (puts_behind edit ls name bytes fields k h b)) (later_is_put h.before bytes r s (puts (numbered edit k) h.behind) h.takes from count lines kept m)
+pub put_later : (edit : SilentEdit) (ls : List TextLine) (bytes k : ℕ) (r s : Put) → (b : IsBehind ls bytes edit k) → s.from ≡ bytes + r.from → s.count ≡ r.count → s.lines ≡ r.lines → s.kept ≡ r.kept
+    → IsPut r (puts (numbered edit k) b.behind) → IsPut s (puts (numbered edit edit.k) ls)
+put_later edit ls bytes k r s b from count lines kept m = subst (IsPut s) (sym (puts_behind edit ls bytes k b)) (later_is_put b.before bytes r s (puts (numbered edit k) b.behind) b.takes from count lines kept m)
 
 later_refused : (before : List TextLine) (o : Option Refusal) (x : Result LinePut Refusal) → IsRefusedBy o x → IsRefusedBy o (later_puts before x)
 later_refused before None x h = tt
 later_refused before (Some e) x h = ap (later_puts before) h
 
-pub refused_later : (edit : SilentEdit) (ls : List TextLine) (name : List ℕ) (bytes fields k : ℕ) (o : Option Refusal) → (h : HasPassed ls name bytes fields) → IsBehind name fields edit k → IsRefusedBy o (puts (numbered edit k) h.behind) → IsRefusedBy o (puts (numbered edit edit.k) ls)
-refused_later edit ls name bytes fields k o h b r = subst (IsRefusedBy o) (sym (puts_behind edit ls name bytes fields k h b)) (later_refused h.before o (puts (numbered edit k) h.behind) r)
+pub refused_later : (edit : SilentEdit) (ls : List TextLine) (bytes k : ℕ) (o : Option Refusal) → (b : IsBehind ls bytes edit k) → IsRefusedBy o (puts (numbered edit k) b.behind) → IsRefusedBy o (puts (numbered edit edit.k) ls)
+refused_later edit ls bytes k o b r = subst (IsRefusedBy o) (sym (puts_behind edit ls bytes k b)) (later_refused b.before o (puts (numbered edit k) b.behind) r)
 
 -- the text after the fields that were passed over
-passed_text : (text : List ℕ) (name : List ℕ) (bytes fields : ℕ) → (h : HasPassed (cut text) name bytes fields) → text ≡ text_of h.before ++ text_of h.behind
-passed_text text name bytes fields h = sym (text_cut text) ∙ (ap text_of (sym h.whole) ∙ text_append h.before h.behind)
+pub passed_within : (text : List ℕ) (bytes k : ℕ) (edit : SilentEdit) → IsBehind (cut text) bytes edit k → bytes ≤ length text
+passed_within text bytes k edit b = omega (arith, b.takes, ap length (text_cut text), ap size (sym b.whole), size_append b.before b.behind)
 
-pub passed_within : (text : List ℕ) (name : List ℕ) (bytes fields : ℕ) → HasPassed (cut text) name bytes fields → bytes ≤ length text
-passed_within text name bytes fields h = omega (arith, h.takes, ap length (text_cut text), ap size (sym h.whole), size_append h.before h.behind)
-
-pub behind_is : (text : List ℕ) (name : List ℕ) (bytes fields : ℕ) → (h : HasPassed (cut text) name bytes fields) → cut (drop bytes text) ≡ h.behind
-behind_is text name bytes fields h =
-    ap cut (ap (drop bytes) (passed_text text name bytes fields h) ∙ (ap (λ n. drop n (text_of h.before ++ text_of h.behind)) (sym h.takes) ∙ drop-append_seam (text_of h.before) (text_of h.behind)))
-    ∙ cut_text h.behind (lines_behind h.before h.behind (subst AreLines (sym h.whole) (lines_cut text)))
+pub behind_is : (text : List ℕ) (bytes k : ℕ) (edit : SilentEdit) → (b : IsBehind (cut text) bytes edit k) → cut (drop bytes text) ≡ b.behind
+behind_is text bytes k edit b = ap (λ n. cut (drop n text)) (sym b.takes) ∙ cut_rest text b.before b.behind (sym b.whole)
 
 -- where the search goes on
 counted_behind : (test : TextLine → Bool) (l : TextLine) (n k : ℕ) (o : Option Found) → (t : Bool) → test l ≡ t → k ≡ (if t then suc n else n) → IfSome o (λ f. length (filter test f.before) ≡ n) → IfSome (found_behind l o) (λ f. length (filter test f.before) ≡ k)
@@ -202,7 +193,7 @@ pub put_goes_on : (edit : SilentEdit) (ls : List TextLine) (q : LinePut) → IsR
 put_goes_on edit ls q r h = subst (GoOn edit.name.now edit.k) h (goes_on edit.name edit.k edit.to ls r)
 
 -- where it begins
-pub later_fits : (text : List ℕ) (name : List ℕ) (bytes fields : ℕ) (rest : List ℕ) (edit : FieldEdit) (r : Put) → HasPassed (cut text) name bytes fields → rest ≡ drop bytes text → IsPut r (puts edit (cut rest)) → bytes + r.from ≤ length text
-later_fits text name bytes fields rest edit r h e m =
-    let fit = puts_fit (cut rest) r (puts edit (cut rest)) (puts_is edit (cut rest)) m in
-    omega (arith, fit.within, ap length (text_cut rest), ap length e, length-drop bytes text, passed_within text name bytes fields h)
+pub later_fits : (text : List ℕ) (bytes k : ℕ) (edit : SilentEdit) (rest : List ℕ) (put : FieldEdit) (r : Put) → IsBehind (cut text) bytes edit k → rest ≡ drop bytes text → IsPut r (puts put (cut rest)) → bytes + r.from ≤ length text
+later_fits text bytes k edit rest put r b e m =
+    let fit = puts_fit (cut rest) r (puts put (cut rest)) (puts_is put (cut rest)) m in
+    omega (arith, fit.within, ap length (text_cut rest), ap length e, length-drop bytes text, passed_within text bytes k edit b)

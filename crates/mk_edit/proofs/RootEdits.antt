@@ -3,6 +3,7 @@
 use Rattle.std.proofs.Common.{◌≡◌, ◌+◌, ◌-◌, ◌≤◌, ◌++◌, if◌then◌else◌, ℕ, zero, suc, Bool, true, false, Option, None, Some, Result, Ok, Err, List, [], ◌∷◌, IfErr, refl, ap, sym, ◌∙◌, subst, length, take, drop, arith, length-append}
 use Rattle.std.proofs.Math.Seq.{take-append_seam, drop-append_seam}
 use Rattle.std.proofs.lemmas.List.{length-take-le}
+use Rattle.std.specs.Global.{Vec}
 use Rattle.mk_line.specs.Lines.{TextLine, cut, text_of}
 use Rattle.mk_line.proofs.Cuts.{cut_text, text_cut, text_append}
 use Rattle.mk_head.specs.Splits.{IsRun}
@@ -33,6 +34,7 @@ use Rattle.mk_decide.specs.Looks.{has_separator, ends_there}
 use Rattle.mk_edit.specs.Made.{IsMade}
 use Rattle.mk_decide.specs.Outcomes.{edited}
 use Rattle.mk_edit.specs.declared.silent_edits.SilentEdit.{SilentEdit}
+use Rattle.mk_edit.specs.FieldNames.{KnowsBefore}
 use Rattle.mk_edit.specs.RootFields.{root_in, lines_in, HasFields, HasPassed, IsHeld, Replaces}
 use Rattle.mk_edit.specs.SilentEdits.{numbered, IsSilent}
 use Rattle.mk_decide.proofs.FieldAnswers.{put_document, put_law, put_splice, answered_ok, answered_err}
@@ -173,9 +175,10 @@ left_fields text edit q e h k =
 -- what an edit makes of the root
 pub record IsReplaced (text : List ℕ) (edit : FieldEdit) (q : LinePut) (r : PlainSplice) : Type 0 where
   pub decided : IsDecided (plain_of (1 ∷ []) edit) text r
-  pub inside : r.count ≤ length (head_text (root_in text))
+  pub inside : size q.before + r.count ≤ length (head_text (root_in text))
   pub left : HasFields (spliced r.place r.count r.new text) (root_in text).start (length (head_text (root_in text)) - r.count + length r.new)
   pub lines : lines_in (spliced r.place r.count r.new text) ≡ lines_put q
+  pub stood : q.before ++ (q.old ++ q.after) ≡ lines_in text
 
 new_lines : (text : List ℕ) (edit : FieldEdit) (q : LinePut) → IsPutAt edit (root_in text) q → RootPut text edit q
     → lines_in (spliced (put_splice (root_in text) q).place (put_splice (root_in text) q).count (put_splice (root_in text) q).new text) ≡ lines_put q
@@ -195,6 +198,7 @@ replaces_put text edit q i e h o =
       inside = omega (arith, head_size text edit q h);
       left = left_fields text edit q e h k;
       lines = new_lines text edit q h k;
+      stood = (line_put edit (root_in text) q h).whole;
     }
 
 -- the fields of the root in its text
@@ -252,14 +256,15 @@ held_behind : (text : List ℕ) (edit : SilentEdit) (q : LinePut) (r : PlainSpli
     → r.place ≡ start + length (text_of q.before) → Replaces edit text start size r
 held_behind text edit q r start size h d b t p =
     let g = put_goes_on edit (lines_in text) q (root_run text) h in
+    let taken : length (text_of q.before) ≡ r.place - start = omega (arith, p) in
     record {
       decided = d.decided;
-      inside = omega (arith, d.inside, t);
+      inside = omega (arith, d.inside, t, taken);
       behind = omega (arith, p);
       counted = g.some;
-      left = record {
+      left = λ names known. record {
         fields = subst (λ n. HasFields (spliced r.place r.count r.new text) n (size - r.count + length r.new)) (sym b) (subst (λ n. HasFields (spliced r.place r.count r.new text) (root_in text).start (n - r.count + length r.new)) (sym t) d.left);
-        passed = record { before = q.before; behind = q.given ++ q.after; whole = sym d.lines; takes = omega (arith, p); holds = g.holds; run = g.run };
+        passed = record { before = q.before; behind = q.given ++ q.after; whole = sym d.lines; takes = taken; holds = g.holds; known = known q.before (q.old ++ q.after) d.stood taken; run = g.run };
       };
     }
 
@@ -307,5 +312,14 @@ made_root edit text x y old start size r h e o t =
     subst (λ z. IsMade plain z (record { place = r.place; old = old; new = r.new }) y) e (made_so plain text y r old h.decided o t)
 
 -- the fields of a document's root
-pub held_first : (doc text : List ℕ) (start size : ℕ) (name : List ℕ) (bytes fields : ℕ) → text ≡ doc → HasFields doc start size → HasPassed (lines_in doc) name bytes fields → IsHeld text start size name bytes fields
-held_first doc text start size name bytes fields t f k = subst (λ x. IsHeld x start size name bytes fields) (sym t) (record { fields = f; passed = k })
+pub held_first : (doc text : List ℕ) (start size : ℕ) (name : List ℕ) (bytes fields : ℕ) (names : Option (Vec (Vec ℕ))) → text ≡ doc → HasFields doc start size → HasPassed (lines_in doc) name bytes fields names → IsHeld text start size name bytes fields names
+held_first doc text start size name bytes fields names t f k = subst (λ x. IsHeld x start size name bytes fields names) (sym t) (record { fields = f; passed = k })
+
+-- the fields of the root after an edit
+pub held_made : (edit : SilentEdit) (text fields y name : List ℕ) (start size added : ℕ) (r : PlainSplice) (names : Option (Vec (Vec ℕ))) → Replaces edit text start size r → fields ≡ head_text (root_in text) → KnowsBefore (cut fields) (r.place - start) names
+    → y ≡ spliced r.place r.count r.new text → name ≡ edit.name.now → added ≡ length r.new → IsHeld y start (size - r.count + added) name (r.place - start) (edit.k - 1) names
+held_made edit text fields y name start size added r names h e k t n l =
+    let known : KnowsBefore (lines_in text) (r.place - start) names = subst (λ xs. KnowsBefore (cut xs) (r.place - start) names) e k in
+    subst (λ x. IsHeld x start (size - r.count + added) name (r.place - start) (edit.k - 1) names) (sym t)
+    (subst (λ x. IsHeld (spliced r.place r.count r.new text) start (size - r.count + added) x (r.place - start) (edit.k - 1) names) (sym n)
+    (subst (λ x. IsHeld (spliced r.place r.count r.new text) start (size - r.count + x) edit.name.now (r.place - start) (edit.k - 1) names) (sym l) (h.left names known)))

@@ -44,8 +44,8 @@ pub(crate) fn together(
     Ok((draft.read(alloc)?, splices))
 }
 
-// Why a group is refused of which this edit is.
-fn refused(index: usize, refusal: EditError) -> GroupError
+/// Why a group is refused of which this edit is.
+pub(crate) fn refused(index: usize, refusal: EditError) -> GroupError
     ensures { (r : Result History Refusal) → ((reason : Refusal) → refusal_of refusal ≡ Some reason → r ≡ Err (Member index reason)) → IsGroupRefusedBy result r }
 {
     if refusal.is_memory() {

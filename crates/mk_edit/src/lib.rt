@@ -9,6 +9,7 @@ mod drafts;
 mod errors;
 mod grouping;
 pub mod laws;
+mod names;
 mod passing;
 mod replies;
 mod root_fields;

@@ -1,16 +1,18 @@
 //! A field is looked for after those that were passed over before.
-ghost use Rattle.std.specs.Prelude.{◌≡◌, ◌&&◌, false, nat_lt, IfOk, IfErr, IfNone, IfSome};
+ghost use Rattle.std.specs.Prelude.{◌≡◌, ◌≤◌, ◌-◌, ◌&&◌, false, drop, length, nat_lt, take, IfOk, IfErr, IfNone, IfSome, List};
 ghost use Rattle.std.specs.Str.{bytes_eq};
-ghost use Rattle.mk_line.specs.Lines.{cut as lines_of};
+ghost use Rattle.mk_line.specs.Lines.{cut as lines_of, TextLine};
 ghost use Rattle.mk_head.specs.Splits.{IsRun};
 ghost use Rattle.mk_decide.specs.Answers.{refusal_of, IsRefusedBy};
 ghost use Rattle.mk_decide.specs.FieldPuts.{puts, IsPut};
+ghost use Rattle.mk_edit.specs.FieldNames.{is_lacked, IsKnown, KnowsBefore};
 ghost use Rattle.mk_edit.specs.RootFields.{HasPassed, IsBehind};
 ghost use Rattle.mk_edit.specs.SilentEdits.{numbered};
 
+use crate::names::{is_among, with_names};
 use crate::silent_edits::SilentEdit;
 use mk_decide::{EditError, Put, put_of};
-use std::alloc::Global;
+use std::alloc::{AllocError, Global};
 
 /// Fields at the start.
 #[derive(Debug, Drop)]
@@ -21,23 +23,37 @@ pub(crate) struct Passed {
     pub name: Vec<u8>,
     /// How many of them have it.
     pub fields: u32,
+    /// The names that they have, and maybe others. `None` where they aren't known.
+    pub names: Option<Vec<Vec<u8>>>,
 }
 
 impl Passed {
     ghost use Rattle.std.specs.Prelude.{◌≡◌, [], List};
     ghost use Rattle.mk_head.specs.Splits.{IsRun};
     ghost use Rattle.mk_line.specs.Lines.{TextLine};
+    ghost use Rattle.mk_edit.specs.FieldNames.{is_lacked};
     ghost use Rattle.mk_edit.specs.RootFields.{HasPassed};
     ghost use Rattle.std.specs.Prelude.{false};
 
+    // Whether it is known that none of them has this name.
+    fn has_none(&self, name: &[u8]) -> bool
+        ensures { result ≡ is_lacked self.now.names name.now }
+    {
+        match &self.names {
+            Some(names) => !is_among(names, name),
+            None => false,
+        }
+    }
+
     /// No field.
     pub(crate) fn none(alloc: Global) -> Passed
-        ensures { (ls : List TextLine) → IsRun false ls → HasPassed ls result.name.items result.bytes result.fields }
+        ensures { (ls : List TextLine) → IsRun false ls → HasPassed ls result.name.items result.bytes result.fields result.names }
     {
         Passed {
             bytes: 0,
             name: Vec::new(alloc),
             fields: 0,
+            names: Some(Vec::new(alloc)),
         }
     }
 }
@@ -50,33 +66,32 @@ pub(crate) fn put_behind(
     edit: &SilentEdit<'_>,
 ) -> Result<Put, EditError>
     requires run { IsRun false (lines_of fields.now) }
-    requires passed { HasPassed (lines_of fields.now) passed.now.name.items passed.now.bytes passed.now.fields }
+    requires passed { HasPassed (lines_of fields.now) passed.now.name.items passed.now.bytes passed.now.fields passed.now.names }
     ensures ok { IfOk result (λ r. IsPut r (puts (numbered edit.now edit.now.k) (lines_of fields.now))) }
     ensures err { IfErr result (λ e. IsRefusedBy (refusal_of e) (puts (numbered edit.now edit.now.k) (lines_of fields.now))) }
 {
     match number_behind(passed, edit) {
-        Some(k) => put_at(alloc, fields, passed, edit, k),
+        Some(k) => put_at(alloc, fields, passed.bytes, edit, k),
         None => put_of(alloc, fields, &edit.of_number(edit.k)),
     }
 }
 
-// The same for a field after those that were passed over, where its number is `k`.
+// The same where so many bytes of fields were passed over, and the field's number after them is `k`.
 fn put_at(
     alloc: Global,
     fields: &[u8],
-    passed: &Passed,
+    bytes: usize,
     edit: &SilentEdit<'_>,
     k: u32,
 ) -> Result<Put, EditError>
-    requires passed { HasPassed (lines_of fields.now) passed.now.name.items passed.now.bytes passed.now.fields }
-    requires behind { IsBehind passed.now.name.items passed.now.fields edit.now k }
+    requires { IsBehind (lines_of fields.now) bytes edit.now k }
     ensures ok { IfOk result (λ r. IsPut r (puts (numbered edit.now edit.now.k) (lines_of fields.now))) }
     ensures err { IfErr result (λ e. IsRefusedBy (refusal_of e) (puts (numbered edit.now edit.now.k) (lines_of fields.now))) }
 {
-    let (_, behind) = fields.split_at(passed.bytes);
+    let (_, behind) = fields.split_at(bytes);
     match put_of(alloc, behind, &edit.of_number(k)) {
         Ok(put) => Ok(Put {
-            from: passed.bytes + put.from,
+            from: bytes + put.from,
             count: put.count,
             lines: put.lines,
             kept: put.kept,
@@ -87,12 +102,50 @@ fn put_at(
 
 // The number of an edit's field among those of its name after the ones that were passed over. `None` where it isn't known.
 fn number_behind(passed: &Passed, edit: &SilentEdit<'_>) -> Option<u32>
-    ensures some { IfSome result (λ k. IsBehind passed.now.name.items passed.now.fields edit.now k) }
-    ensures none { IfNone result ((nat_lt passed.now.fields edit.now.k && bytes_eq passed.now.name.items edit.now.name.now) ≡ false) }
+    ensures some { (ls : List TextLine) → HasPassed ls passed.now.name.items passed.now.bytes passed.now.fields passed.now.names → IfSome result (λ k. IsBehind ls passed.now.bytes edit.now k) }
+    ensures same { IfNone result ((nat_lt passed.now.fields edit.now.k && bytes_eq passed.now.name.items edit.now.name.now) ≡ false) }
+    ensures other { IfNone result ((nat_lt 0 edit.now.k && is_lacked passed.now.names edit.now.name.now) ≡ false) }
 {
     if passed.fields < edit.k && passed.name.as_slice() == edit.name {
-        Some(edit.k - passed.fields)
-    } else {
-        None
+        return Some(edit.k - passed.fields);
     }
+    if 0 < edit.k && passed.has_none(edit.name) {
+        return Some(edit.k);
+    }
+    None
+}
+
+/// The names of the fields in the first `bytes` bytes, and maybe others, where those of the fields in the first `known`
+/// bytes are given. `None` where they aren't known.
+pub(crate) fn names_before(
+    alloc: Global,
+    fields: &[u8],
+    known: usize,
+    names: Option<Vec<Vec<u8>>>,
+    bytes: usize,
+) -> Result<Option<Vec<Vec<u8>>>, AllocError>
+    requires within { bytes ≤ length fields.now }
+    requires passed { IsKnown (lines_of fields.now) known names }
+    ensures { IfOk result (λ all. KnowsBefore (lines_of fields.now) bytes all) }
+{
+    match names {
+        Some(names) => {
+            if bytes < known {
+                return Ok(Some(names));
+            }
+            with_names(alloc, names, between(fields, known, bytes))
+        }
+        None => Ok(None),
+    }
+}
+
+// The bytes from one place to another.
+fn between(text: &[u8], from: usize, to: usize) -> &[u8]
+    requires order { from ≤ to }
+    requires within { to ≤ length text.now }
+    ensures { result.now ≡ take (to - from) (drop from text.now) }
+{
+    let (_, behind) = text.split_at(from);
+    let (here, _) = behind.split_at(to - from);
+    here
 }

@@ -10,11 +10,11 @@ ghost use Rattle.mk_decide.specs.Outcomes.{edited};
 ghost use Rattle.mk_edit.specs.RootFields.{lines_in, root_in, HasFields, HasPassed, Replaces};
 ghost use Rattle.mk_edit.specs.SilentEdits.{numbered, IsSilent};
 
-use crate::passing::{Passed, put_behind};
+use crate::passing::{Passed, names_before, put_behind};
 use crate::silent_edits::SilentEdit;
 use crate::stepping::read;
 use mk_decide::{EditError, Put, Replacement, has_separator, opens_early, splice_of};
-use mk_splice::{Splice, copied, replace};
+use mk_splice::{Splice, Text, copied};
 use mk_tree::Doc;
 use std::alloc::{AllocError, Global};
 use std::marker::Model;
@@ -22,7 +22,7 @@ use std::marker::Model;
 /// A text whose root has a separator after its fields.
 #[derive(Drop)]
 pub(crate) struct RootFields {
-    text: Vec<u8>,
+    text: Text,
     /// Where the fields begin, in bytes from 0.
     start: usize,
     /// How many bytes they take.
@@ -38,9 +38,9 @@ impl Model for RootFields {
 
     ghost use Rattle.mk_edit.specs.RootFields.{IsHeld};
 
-    ghost view = { λ f. f.text.items };
+    ghost view = { λ f. f.text.bytes };
 
-    ghost invariant = { λ f. IsHeld f.text.items f.start f.size f.passed.name.items f.passed.bytes f.passed.fields };
+    ghost invariant = { λ f. IsHeld f.text.bytes f.start f.size f.passed.name.items f.passed.bytes f.passed.fields f.passed.names };
 }
 
 impl RootFields {
@@ -62,7 +62,7 @@ impl RootFields {
     {
         match fields_place(&doc) {
             Some((start, size)) => Ok(RootFields {
-                text: doc.into_text(),
+                text: Text::new(doc.into_text()),
                 start,
                 size,
                 passed: Passed::none(alloc),
@@ -77,7 +77,7 @@ impl RootFields {
     {
         match fields_place(doc) {
             Some((start, size)) => Ok(Some(RootFields {
-                text: Vec::from_slice(alloc, doc.text())?,
+                text: Text::new(Vec::from_slice(alloc, doc.text())?),
                 start,
                 size,
                 passed: Passed::none(alloc),
@@ -94,20 +94,27 @@ impl RootFields {
     {
         let Replacement { place, count, new } = decide(
             alloc,
-            &self.text,
+            self.text.bytes(),
             self.start,
             self.size,
             &self.passed,
             edit,
         )?;
-        let old = copied(alloc, &self.text, place, count)?;
+        let old = copied(alloc, self.text.bytes(), place, count)?;
         let name = Vec::from_slice(alloc, edit.name)?;
-        replace(&mut self.text, place, count, &new)?;
+        let bytes = place - self.start;
+        let known = self.passed.bytes;
+        let names = self.passed.names.take();
+        let fields = fields_at(self.text.bytes(), self.start, self.size);
+        let names = names_before(alloc, fields, known, names, bytes)?;
+        self.text.reserve(place, count, new.len())?;
+        self.text.replace_within(place, count, &new);
         self.size = self.size - count + new.len();
         self.passed = Passed {
-            bytes: place - self.start,
+            bytes,
             name,
             fields: edit.k - 1,
+            names,
         };
         Ok(Splice { place, old, new })
     }
@@ -116,7 +123,7 @@ impl RootFields {
     pub(crate) fn read(self, alloc: Global) -> Result<Doc, AllocError>
         ensures { IfOk result (λ d. d ≡ self) }
     {
-        read(alloc, self.text)
+        read(alloc, self.text.into_bytes())
     }
 }
 
@@ -142,7 +149,7 @@ fn decide(
     edit: &SilentEdit<'_>,
 ) -> Result<Replacement, EditError>
     requires fields { HasFields text.now start size }
-    requires passed { HasPassed (lines_in text.now) passed.now.name.items passed.now.bytes passed.now.fields }
+    requires passed { HasPassed (lines_in text.now) passed.now.name.items passed.now.bytes passed.now.fields passed.now.names }
     requires silent { IsSilent edit.now }
     ensures ok { IfOk result (λ r. Replaces edit.now text.now start size (plain_splice r)) }
     ensures err { IfErr result (λ e. IsRefusedBy (refusal_of e) (edited (plain_of (1 ∷ []) (numbered edit.now edit.now.k)) (tree text.now))) }
@@ -165,7 +172,7 @@ fn put_in(
     edit: &SilentEdit<'_>,
 ) -> Result<Put, EditError>
     requires fields { HasFields text.now start size }
-    requires passed { HasPassed (lines_in text.now) passed.now.name.items passed.now.bytes passed.now.fields }
+    requires passed { HasPassed (lines_in text.now) passed.now.name.items passed.now.bytes passed.now.fields passed.now.names }
     ensures ok { IfOk result (λ r. IsPut r (puts (numbered edit.now edit.now.k) (lines_in text.now))) }
     ensures err { IfErr result (λ e. IsRefusedBy (refusal_of e) (edited (plain_of (1 ∷ []) (numbered edit.now edit.now.k)) (tree text.now))) }
 {

@@ -1,5 +1,5 @@
 //! A message under edit, and its history.
-ghost use Rattle.std.specs.Prelude.{◌≡◌, ◌+◌, ◌*◌, ◌≤◌, ℕ, Ok, Some, IfOk, IfErr, OnOk, OnErr, length, take, map};
+ghost use Rattle.std.specs.Prelude.{◌≡◌, ◌+◌, ◌*◌, ◌≤◌, ◌∷◌, [], ℕ, Ok, Some, IfOk, IfErr, OnOk, OnErr, length, take, map};
 ghost use Rattle.mk_tree.specs.Documents.{tree};
 ghost use Rattle.mk_decide.specs.Edits.{Do, Group, Undo, Redo};
 ghost use Rattle.mk_decide.specs.Outcomes.{edited};
@@ -20,9 +20,9 @@ ghost use Rattle.mk_edit.specs.History.{history_of};
 
 use crate::commands::Command;
 use crate::errors::{GroupError, LoadError};
-use crate::grouping::together;
+use crate::grouping::{refused, together};
 use crate::replies::{Reply, replied, replied_to_group};
-use crate::stepping::{change, made_again, put_step, taken_back};
+use crate::stepping::{change, put_step};
 use mk_decide::{Edit, EditError, Replacement, decide};
 use mk_line::Meter;
 use mk_splice::{Journal, Splice, copied, fit, print};
@@ -190,12 +190,38 @@ impl Session {
     pub fn group(&mut self, list: &[Edit], meter: &mut Meter) -> Result<(), GroupError>
         ensures { DoesGroup result (step (Group (map edit_of list.now)) self.old) self.old self.new }
     {
+        match list {
+            [] => return self.edit_nothing(),
+            [edit] => return self.edit_alone(edit, meter),
+            _ => {}
+        }
         let (doc, step) = together(*self.steps.allocator(), &self.doc, list, meter)?;
         self.steps.reserve(1)?;
         self.doc = doc;
         put_step(&mut self.steps, self.done, step);
         self.done += 1;
         Ok(())
+    }
+
+    // Makes a group of no edits.
+    fn edit_nothing(&mut self) -> Result<(), GroupError>
+        ensures { DoesGroup result (step (Group []) self.old) self.old self.new }
+    {
+        let none = Vec::new(*self.steps.allocator());
+        self.steps.reserve(1)?;
+        put_step(&mut self.steps, self.done, none);
+        self.done += 1;
+        Ok(())
+    }
+
+    // Makes the one edit of a group in place, without a copy of the document.
+    fn edit_alone(&mut self, edit: &Edit, meter: &mut Meter) -> Result<(), GroupError>
+        ensures { DoesGroup result (step (Group (edit_of edit.now ∷ [])) self.old) self.old self.new }
+    {
+        match self.edit(edit, meter) {
+            Ok(()) => Ok(()),
+            Err(error) => Err(refused(0, error)),
+        }
     }
 
     /// Takes the last step back.
@@ -205,12 +231,8 @@ impl Session {
         if self.done == 0 {
             return Err(EditError::NothingToUndo);
         }
-        let doc = taken_back(
-            *self.steps.allocator(),
-            &self.doc,
-            &self.steps[self.done - 1],
-        )?;
-        self.doc = doc;
+        let alloc = *self.steps.allocator();
+        self.doc.take_back(alloc, &self.steps[self.done - 1])?;
         self.done -= 1;
         Ok(())
     }
@@ -222,8 +244,8 @@ impl Session {
         if self.done == self.steps.len() {
             return Err(EditError::NothingToRedo);
         }
-        let doc = made_again(*self.steps.allocator(), &self.doc, &self.steps[self.done])?;
-        self.doc = doc;
+        let alloc = *self.steps.allocator();
+        self.doc.make_again(alloc, &self.steps[self.done])?;
         self.done += 1;
         Ok(())
     }

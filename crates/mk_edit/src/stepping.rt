@@ -2,7 +2,7 @@
 ghost use Rattle.std.specs.Prelude.{◌≡◌, ◌<◌, ◌++◌, ◌∷◌, [], ℕ, List, map, take, vec_len, vec_capacity, IfOk, IfErr, OnOk, OnErr};
 ghost use Rattle.mk_tree.specs.ChangeViews.{ChangesTo};
 ghost use Rattle.mk_tree.specs.Documents.{tree};
-ghost use Rattle.mk_splice.specs.Splices.{spliced, back_step, forth_step, GoesBack, GoesForth};
+ghost use Rattle.mk_splice.specs.Splices.{spliced};
 ghost use Rattle.mk_decide.specs.Answers.{refusal_of, IsRefusedBy};
 ghost use Rattle.mk_decide.specs.Decided.{IsDecided};
 ghost use Rattle.mk_decide.specs.Edits.{path_of};
@@ -13,7 +13,7 @@ ghost use Rattle.mk_splice.specs.Views.{splice_of};
 
 use mk_decide::{Edit, EditError, Replacement, decide};
 use mk_line::Meter;
-use mk_splice::{Splice, copied, make_again, take_back};
+use mk_splice::{Splice, copied};
 use mk_tree::{Change, Doc};
 use std::alloc::{AllocError, Global};
 
@@ -79,26 +79,6 @@ pub(crate) fn put_step(steps: &mut Vec<Vec<Splice>>, done: usize, step: Vec<Spli
 {
     steps.truncate(done);
     steps.push_reserved(step);
-}
-
-/// A document with a step taken back, read anew.
-pub(crate) fn taken_back(alloc: Global, doc: &Doc, step: &[Splice]) -> Result<Doc, AllocError>
-    requires { GoesBack (map splice_of step.now) doc.now }
-    ensures { IfOk result (λ d. d ≡ back_step (map splice_of step.now) doc.now) }
-{
-    let mut text = Vec::from_slice(alloc, doc.text())?;
-    take_back(&mut text, step)?;
-    read(alloc, text)
-}
-
-/// A document with a step made again, read anew.
-pub(crate) fn made_again(alloc: Global, doc: &Doc, step: &[Splice]) -> Result<Doc, AllocError>
-    requires { GoesForth (map splice_of step.now) doc.now }
-    ensures { IfOk result (λ d. d ≡ forth_step (map splice_of step.now) doc.now) }
-{
-    let mut text = Vec::from_slice(alloc, doc.text())?;
-    make_again(&mut text, step)?;
-    read(alloc, text)
 }
 
 /// A document read anew.

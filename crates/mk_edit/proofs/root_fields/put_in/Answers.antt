@@ -12,7 +12,7 @@ pub put_behind-requires-clause-run : goal.put_behind-requires-clause-run
 put_behind-requires-clause-run c = subst (λ xs. IsRun false (cut xs)) (sym c.fields_at.ensures) (root_run c.args.text.now)
 
 pub put_behind-requires-clause-passed : goal.put_behind-requires-clause-passed
-put_behind-requires-clause-passed c = subst (λ xs. HasPassed (cut xs) c.args.passed.now.name.items c.args.passed.now.bytes c.args.passed.now.fields) (sym c.fields_at.ensures) c.requires.passed
+put_behind-requires-clause-passed c = subst (λ xs. HasPassed (cut xs) c.args.passed.now.name.items c.args.passed.now.bytes c.args.passed.now.fields c.args.passed.now.names) (sym c.fields_at.ensures) c.requires.passed
 
 pub returns-clause-ok : goal.returns-clause-ok
 returns-clause-ok c = subst (λ xs. IfOk c.put_behind.result (λ r. IsPut r (puts (numbered c.args.edit.now c.args.edit.now.k) (cut xs)))) c.fields_at.ensures c.put_behind.ensures.ok
