@@ -19,6 +19,7 @@ mod named;
 mod names;
 mod parts;
 mod removals;
+mod rooms;
 mod sections;
 mod wraps;
 

@@ -50,9 +50,7 @@ impl Text {
     {
         let Text { mut items, start } = self;
         if start != 0 {
-            let size = items.len();
-            items.copy_within(start..size, 0);
-            items.truncate(size - start);
+            move_to_front(&mut items, start);
         }
         items
     }
@@ -70,10 +68,12 @@ impl Text {
         ensures fits { OnOk result (length self.old.bytes + (size - count) < 2 ^ 64) }
     {
         let more = size.saturating_sub(count);
+        self.fit(more);
         self.items.reserve(more)?;
         let len = self.items.len() - self.start;
-        if LARGE <= len && place < len / 2 && self.start < more {
-            self.start = widen(&mut self.items, self.start, more);
+        let room = len / 16 + LARGE / 16;
+        if LARGE <= len && place < len / 2 && self.start < more && more <= room {
+            self.start = widen(&mut self.items, self.start, room, more);
         }
         Ok(())
     }
@@ -83,7 +83,26 @@ impl Text {
         ensures same { self.new.bytes ≡ self.old.bytes }
         ensures room { OnOk result (size ≤ self.new.spare) }
     {
+        self.fit(size);
         self.items.reserve(size)
+    }
+
+    // Gives back room that the text and `more` bytes after it don't need: all of it that is before the text where they want
+    // it, and what is more than they take.
+    fn fit(&mut self, more: usize)
+        ensures { self.new.bytes ≡ self.old.bytes }
+    {
+        let size = self.items.len() - self.start;
+        let spare = self.items.capacity() - self.items.len();
+        let wanted = size.saturating_add(more);
+        let is_loose = wanted.saturating_add(LARGE) < self.items.capacity() / 2;
+        if is_loose || spare < more && size / 8 < self.start {
+            move_to_front(&mut self.items, self.start);
+            self.start = 0;
+        }
+        if is_loose {
+            self.items.shrink_to(wanted);
+        }
     }
 
     /// Puts `text` in the place of `count` bytes at `place`, where there is room.
@@ -113,9 +132,19 @@ impl Text {
     }
 }
 
-// Makes room before the text that begins at `start`, where there is memory, and answers where it begins then. The room for
-// `more` bytes after it stays.
-fn widen(items: &mut Vec<u8>, start: usize, more: usize) -> usize
+// Moves the text that begins at `start` to the front.
+fn move_to_front(items: &mut Vec<u8>, start: usize)
+    requires { start ≤ vec_len items.old }
+    ensures bytes { items.new.items ≡ drop start items.old.items }
+{
+    let size = items.len();
+    items.copy_within(start..size, 0);
+    items.truncate(size - start);
+}
+
+// Makes more room before the text that begins at `start`, where there is memory, and answers where it begins then. The room
+// for `more` bytes after it stays.
+fn widen(items: &mut Vec<u8>, start: usize, room: usize, more: usize) -> usize
     requires start { start ≤ vec_len items.old }
     requires room { vec_len items.old + more ≤ vec_capacity items.old }
     ensures start { result ≤ vec_len items.new }
@@ -123,7 +152,6 @@ fn widen(items: &mut Vec<u8>, start: usize, more: usize) -> usize
     ensures room { vec_len items.new + more ≤ vec_capacity items.new }
 {
     let size = items.len();
-    let room = (size - start) / 16 + LARGE / 16;
     let Some(wanted) = room.checked_add(more) else {
         return start;
     };
