@@ -1,5 +1,5 @@
 -- The value of a field by its lines, and among the fields one by one.
-use Rattle.std.proofs.Common.{◌≡◌, if◌then◌else◌, ℕ, Bool, true, false, Option, None, Some, List, [], ◌∷◌, refl, ap, sym, subst}
+use Rattle.std.proofs.Common.{◌≡◌, ℕ, Bool, true, false, Option, None, Some, List, [], ◌∷◌, refl, ap, sym, subst}
 use Rattle.mk_line.specs.Lines.{TextLine, AreLines, text_of, cut}
 use Rattle.mk_line.proofs.Cuts.{cut_text, lines_cut}
 use Rattle.mk_head.specs.Split.{is_start, fields_from, rest_from}
@@ -8,12 +8,10 @@ use Rattle.mk_head.specs.Unfolding.{value_in}
 use Rattle.mk_head.specs.Types.{field_value}
 use Rattle.mk_head.proofs.Splits.{fields_rest}
 use Rattle.mk_head.proofs.FieldRuns.{behind_more, more_behind}
+use Rattle.std.specs.Option.{is_some}
+use Rattle.mk_head.specs.declared.fields.Field.{Field}
+use Rattle.mk_tree.specs.inner.Said.{first_value, said_by, said_first}
 use Rattle.mk_tree.proofs.Heads.{lines_front}
-
--- the value of the first field of a name
-abbrev pub first_value : List ℕ → List FieldText → Option (List ℕ)
-first_value name [] = None
-first_value name (f ∷ fs) = if is_named name f then Some (value_in (cut f.raw)) else first_value name fs
 
 raw_lines : (l : TextLine) (ls : List TextLine) → AreLines (l ∷ ls) → cut (text_of (l ∷ continuations ls)) ≡ l ∷ continuations ls
 raw_lines l ls h = cut_text (l ∷ continuations ls) (lines_front (l ∷ continuations ls) (behind_more ls) (subst (λ xs. AreLines (l ∷ xs)) (sym (more_behind ls)) h))
@@ -29,3 +27,7 @@ value_first name (l ∷ ls) h = value_step name l ls (is_start l) (is_named name
 
 pub value_among : (name text : List ℕ) → field_value name (fields_from false (cut text)) ≡ first_value name (fields_of (fields_from false (cut text)))
 value_among name text = value_first name (fields_from false (cut text)) (lines_front (fields_from false (cut text)) (rest_from false (cut text)) (subst AreLines (sym (fields_rest false (cut text))) (lines_cut text)))
+
+pub said_by_found : (name : List ℕ) (found : Option Field) (fields : List FieldText) → is_some found ≡ true → said_by found ≡ said_first name found fields
+said_by_found name None fields h = cc
+said_by_found name (Some field) fields h = refl

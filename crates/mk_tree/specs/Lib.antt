@@ -18,3 +18,4 @@ pub mod Layouts
 pub mod Changed
 pub mod Splicing
 pub mod ChangeViews
+pub mod inner

@@ -1,18 +1,25 @@
 //! What fields say of a body (RFC 2045, 5.1, 5.2 and 6; RFC 2046, 5.1 and 5.2.1).
-ghost use Rattle.std.specs.Prelude.{◌≡◌, None, codes, false, true, not, IfOk, IfNone, IfSome};
+ghost use Rattle.std.specs.Prelude.{◌≡◌, ◌∷◌, List, None, codes, false, true, not, IfOk, IfNone, IfSome};
 ghost use Rattle.std.specs.Option.{option_map};
 ghost use Rattle.mk_line.specs.Lines.{cut as lines_of};
 ghost use Rattle.mk_head.specs.Split.{fields_from};
-ghost use Rattle.mk_head.specs.Types.{boundary_of, field_value, header_encoding};
+ghost use Rattle.mk_head.specs.Fields.{FieldText};
+ghost use Rattle.mk_head.specs.Types.{boundary_of, encoding_by as encoding_of_value, field_value, header_encoding};
 ghost use Rattle.mk_head.specs.ValueViews.{media_type_of};
+ghost use Rattle.mk_head.specs.Views.{field_view};
 ghost use Rattle.mk_tree.specs.Kinds.{kind, kind_of, has_boundary, has_return as holds_return, holds_message as is_message, is_identity as identity};
 ghost use Rattle.mk_tree.specs.Steps.{kind_described};
+ghost use Rattle.mk_tree.specs.inner.Said.{said_by, said_first};
 
-use mk_head::{ContentType, Encoding, content_type, each_field, encoding, unfold};
+use mk_head::{ContentType, Encoding, Field, content_type, each_field, encoding, unfold};
 use mk_line::trimmed;
 use std::alloc::{AllocError, Global};
 
 const CARRIAGE_RETURN: u8 = b'\r';
+
+const CONTENT_TYPE: &[u8] = b"Content-Type";
+
+const TRANSFER_ENCODING: &[u8] = b"Content-Transfer-Encoding";
 
 const MULTIPART: &[u8] = b"multipart";
 
@@ -37,24 +44,32 @@ pub enum Described {
 pub fn describe(alloc: Global, head: &[u8], digest: bool) -> Result<Described, AllocError>
     ensures { IfOk result (λ d. kind_described d ≡ kind (fields_from false (lines_of head.now)) digest) }
 {
-    match value_in(alloc, head, b"Content-Type")? {
-        Some(value) => {
-            let encoding = encoding_in(alloc, head)?;
+    let Said { media, encoding } = said_in(head);
+    match media {
+        Some(field) => {
+            let value = unfold(alloc, &field)?;
+            let encoding = encoding_by(alloc, encoding)?;
             describe_type(alloc, &content_type(alloc, &value)?, encoding)
         }
-        None => describe_untyped(alloc, head, digest),
+        None => describe_untyped(alloc, head, encoding, digest),
     }
 }
 
-// What fields without a content type say of a body, in a digest or not.
-fn describe_untyped(alloc: Global, head: &[u8], digest: bool) -> Result<Described, AllocError>
-    requires { field_value (codes "Content-Type") (fields_from false (lines_of head.now)) ≡ None }
+// What fields without a content type say of a body, by their transfer encoding, in a digest or not.
+fn describe_untyped(
+    alloc: Global,
+    head: &[u8],
+    said: Option<Field<'_>>,
+    digest: bool,
+) -> Result<Described, AllocError>
+    requires untyped { field_value (codes "Content-Type") (fields_from false (lines_of head.now)) ≡ None }
+    requires said { said_by said ≡ field_value (codes "Content-Transfer-Encoding") (fields_from false (lines_of head.now)) }
     ensures { IfOk result (λ d. kind_described d ≡ kind (fields_from false (lines_of head.now)) digest) }
 {
     if !digest {
         return Ok(Described::Leaf);
     }
-    let encoding = encoding_in(alloc, head)?;
+    let encoding = encoding_by(alloc, said)?;
     if is_identity(encoding) {
         Ok(Described::Message)
     } else {
@@ -125,11 +140,59 @@ fn is_identity(encoding: Encoding) -> bool
     }
 }
 
+// The first field of a content type and that of a transfer encoding.
+struct Said<'a> {
+    media: Option<Field<'a>>,
+    encoding: Option<Field<'a>>,
+}
+
+// What the fields at the start of a text say of their body, found in one pass over them.
+fn said_in(head: &[u8]) -> Said<'_>
+    ensures media { said_by result.media ≡ field_value (codes "Content-Type") (fields_from false (lines_of head.now)) }
+    ensures encoding { said_by result.encoding ≡ field_value (codes "Content-Transfer-Encoding") (fields_from false (lines_of head.now)) }
+{
+    let mut media = None;
+    let mut encoding = None;
+    for field in each_field(head) {
+        media = first_named(media, field, CONTENT_TYPE);
+        encoding = first_named(encoding, field, TRANSFER_ENCODING);
+        if media.is_some() && encoding.is_some() {
+            return Said { media, encoding };
+        }
+    }
+    Said { media, encoding }
+}
+
+// The field that was found, or the next one where it has the name.
+#[inline(always)]
+fn first_named<'a>(found: Option<Field<'a>>, next: Field<'a>, name: &[u8]) -> Option<Field<'a>>
+    ensures { (rest : List FieldText) → said_first name.now result rest ≡ said_first name.now found.entry (field_view next.entry ∷ rest) }
+{
+    match found {
+        Some(field) => Some(field),
+        None => if next.is_named(name) {
+            Some(next)
+        } else {
+            None
+        },
+    }
+}
+
+// The transfer encoding that a field says, and 7bit where there is none.
+fn encoding_by(alloc: Global, said: Option<Field<'_>>) -> Result<Encoding, AllocError>
+    ensures { IfOk result (λ e. e ≡ encoding_of_value (said_by said.entry)) }
+{
+    match said {
+        Some(field) => Ok(encoding(&unfold(alloc, &field)?)),
+        None => Ok(Encoding::Identity),
+    }
+}
+
 /// The transfer encoding that the fields at the start of a text say.
 pub(crate) fn encoding_in(alloc: Global, head: &[u8]) -> Result<Encoding, AllocError>
     ensures { IfOk result (λ e. e ≡ header_encoding (fields_from false (lines_of head.now))) }
 {
-    match value_in(alloc, head, b"Content-Transfer-Encoding")? {
+    match value_in(alloc, head, TRANSFER_ENCODING)? {
         Some(value) => Ok(encoding(&value)),
         None => Ok(Encoding::Identity),
     }

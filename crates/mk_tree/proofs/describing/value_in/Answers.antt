@@ -1,5 +1,6 @@
 use Rattle.std.proofs.Common.{ap, sym, ◌∙◌}
-use Rattle.mk_tree.proofs.FieldValues.{first_value, value_among}
+use Rattle.mk_tree.specs.inner.Said.{first_value}
+use Rattle.mk_tree.proofs.FieldValues.{value_among}
 use Rattle.mk_tree.proofs.describing.value_in.Goals as goal
 
 pub loop-field-init : goal.loop-field-init
