@@ -6,11 +6,11 @@ ghost use Rattle.mk_tree.specs.Sections.{body_text};
 ghost use Rattle.mk_tree.specs.Tree.{entity_head};
 ghost use Rattle.mk_decide.specs.Looks.{ends_before as ends_before_lines, ends_there as ends_at, has_separator as holds_separator, IsEnd, IsNext};
 
-use mk_line::{Line, Meter, is_continuation, is_from_line, line_at, line_count};
+use mk_line::{Line, Meter, is_continuation, is_from_line, line_at};
 use mk_tree::Section;
 use std::alloc::{AllocError, Global};
 
-/// A copy of lines, each of which counts as a look.
+/// A copy of lines, each of which is looked at once.
 pub(crate) fn copied_lines(
     alloc: Global,
     text: &[u8],
@@ -19,10 +19,18 @@ pub(crate) fn copied_lines(
     ensures copy { IfOk result (λ v. v.items ≡ text.now) }
     ensures most { meter.new ≤ meter.old + length (lines_of text.now) }
 {
-    for _ in 0..line_count(text) {
-        meter.tick();
+    let mut copy = Vec::with_capacity(alloc, text.len())?;
+    let mut place = 0;
+    'each: while place < text.len() {
+        match look(text, place, meter) {
+            Some((_, size)) => {
+                copy.extend_from_slice(&text[place..place + size])?;
+                place += size;
+            }
+            None => return Ok(copy),
+        }
     }
-    Vec::from_slice(alloc, text)
+    Ok(copy)
 }
 
 // The line at a place, and how many bytes it takes.
