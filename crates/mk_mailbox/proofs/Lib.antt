@@ -2,6 +2,8 @@ pub mod DateParts
 pub mod LineBytes
 pub mod MessageLines
 pub mod LinesGathered
+pub mod QuietLines
+pub mod FoundLines
 pub mod Intaking
 pub mod MailboxRuns
 pub mod PieceLaws

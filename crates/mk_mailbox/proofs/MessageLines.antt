@@ -11,7 +11,7 @@ use Rattle.mk_mailbox.specs.Mailboxes.{IsOpenInFront}
 use Rattle.mk_mailbox.specs.Pieces.{is_first, front, later, parted, mailbox_pieces}
 
 -- a line with its line feed, and what follows it
-cut_line : (before more : List ℕ) → has_line_feed before ≡ false → cut ((before ++ 10 ∷ []) ++ more) ≡ ended before ∷ cut more
+pub cut_line : (before more : List ℕ) → has_line_feed before ≡ false → cut ((before ++ 10 ∷ []) ++ more) ≡ ended before ∷ cut more
 cut_line [] more h = refl
 cut_line (byte ∷ bytes) more h =
     let f = or_parts (byte == 10) (has_line_feed bytes) h in

@@ -1,7 +1,9 @@
--- A message that is gathered line by line, as private contracts speak of it.
-use Rattle.std.specs.Prelude.{◌≡◌, ◌<◌, ◌≤◌, ◌++◌, ◌⊎◌, ℕ, Bool, true, false, List, [], ◌∷◌, map, length, take, drop}
+-- A message that is gathered by lines and by stretches of lines, as private contracts speak of it.
+use Rattle.std.specs.Prelude.{◌≡◌, ◌<◌, ◌≤◌, ◌++◌, ◌⊎◌, ℕ, Bool, true, false, not, List, [], ◌∷◌, map, length, take, drop, codes}
+use Rattle.std.specs.List.{list_all}
 use Rattle.mk_line.specs.Ascii.{line_feed}
-use Rattle.mk_line.specs.Lines.{cut, ended, has_line_feed, text_of}
+use Rattle.mk_line.specs.Kinds.{is_from_line}
+use Rattle.mk_line.specs.Lines.{TextLine, cut, ended, ends_open, has_line_feed, text_of}
 use Rattle.mk_mailbox.specs.declared.from_lines.FromLines.{FromLines}
 use Rattle.mk_mailbox.specs.Mailboxes.{IsOpenInFront, chunk_bytes}
 use Rattle.mk_mailbox.specs.Pieces.{front, later, mailbox_pieces}
@@ -28,6 +30,19 @@ pub record IsWholeLine (line content : List ℕ) : Type 0 where
 -- these whole lines belong to one message, whatever follows; the flag tells whether the last of them is empty
 abbrev pub IsOnePiece : FromLines → List ℕ → Bool → Type 0
 IsOnePiece way text behind_empty = (more : List ℕ) → (front_of way false (text ++ more) ≡ text ++ front_of way behind_empty more) × (later_of way false (text ++ more) ≡ later_of way behind_empty more)
+
+-- a line feed, and the first bytes of a From-line
+abbrev pub feed_and_from : List ℕ
+feed_and_from = line_feed ∷ codes "From "
+
+-- no line is a From-line
+abbrev pub none_from : List TextLine → Bool
+none_from ls = list_all (λ l. not (is_from_line l.content)) ls
+
+-- whole lines, or none, and no From-line is among them
+pub record AreQuiet (text : List ℕ) : Type 0 where
+  pub whole : ends_open text ≡ false
+  pub quiet : none_from (cut text) ≡ true
 
 -- the bytes before a place are whole lines of one message, and after it stands at most one line
 pub record IsGathered (way : FromLines) (bytes : List ℕ) (line : ℕ) (behind_empty : Bool) : Type 0 where

@@ -1,11 +1,13 @@
-//! A message of a mailbox, gathered line by line.
-ghost use Rattle.std.specs.Prelude.{◌≡◌, ◌≢◌, ◌++◌, [], ◌∷◌, ℕ, List, false, length, drop, take, IfOk, IfNone, MatchOption, OnErr, OnOk};
+//! A message of a mailbox, gathered by lines and by stretches of lines.
+ghost use Rattle.std.specs.Prelude.{◌≡◌, ◌≢◌, ◌<◌, ◌++◌, [], ◌∷◌, ℕ, List, true, false, length, drop, take, IfOk, IfNone, MatchOption, OnErr, OnOk};
 ghost use Rattle.mk_line.specs.Ascii.{carriage_return};
-ghost use Rattle.mk_line.specs.Lines.{ended, has_line_feed};
-ghost use Rattle.mk_mailbox.specs.Gathered.{IsGathered, IsLastSplit, IsOneLine, IsSplit, IsWholeLine};
+ghost use Rattle.mk_line.specs.Lines.{cut as lines_of, ended, ends_open as is_open_text, has_line_feed};
+ghost use Rattle.mk_mailbox.specs.Gathered.{AreQuiet, IsGathered, IsLastSplit, IsOneLine, IsSplit, IsWholeLine};
 ghost use Rattle.mk_mailbox.specs.Pieces.{is_first};
+ghost use Rattle.mk_mailbox.specs.Places.{ends_empty};
 
 use crate::from_lines::FromLines;
+use mk_line::ends_open;
 use std::alloc::{AllocError, Global};
 use std::mem;
 
@@ -59,6 +61,31 @@ impl Gathered {
         ensures same { self.new.from_lines ≡ self.old.from_lines }
     {
         self.bytes.extend_from_slice(bytes)
+    }
+
+    /// Whether no byte stands after the place.
+    pub(crate) fn is_between_lines(&self) -> bool
+        ensures { result ≡ true → self.now.line ≡ length self.now.bytes.items }
+    {
+        self.line == self.bytes.len()
+    }
+
+    /// Takes whole lines to the message. None of them can begin another.
+    pub(crate) fn take_stretch(&mut self, lines: &[u8]) -> Result<(), AllocError>
+        requires gathered { IsGathered self.old.from_lines self.old.bytes.items self.old.line self.old.behind_empty }
+        requires between { self.old.line ≡ length self.old.bytes.items }
+        requires quiet { AreQuiet lines.now }
+        requires some { 0 < length lines.now }
+        ensures gathered { IsGathered self.new.from_lines self.new.bytes.items self.new.line self.new.behind_empty }
+        ensures undecided { OnOk result (has_line_feed (drop self.new.line self.new.bytes.items) ≡ false) }
+        ensures ok { OnOk result (self.new.bytes.items ≡ self.old.bytes.items ++ lines.now) }
+        ensures err { OnErr result (self.new.bytes.items ≡ self.old.bytes.items) }
+        ensures same { self.new.from_lines ≡ self.old.from_lines }
+    {
+        self.bytes.extend_from_slice(lines)?;
+        self.line = self.bytes.len();
+        self.behind_empty = end_with_empty(lines);
+        Ok(())
     }
 
     /// Where the line has come to its end: takes it to the message, or gives the message before it.
@@ -156,6 +183,18 @@ fn content_of(bytes: &[u8]) -> &[u8]
     match before_return(bytes) {
         Some(content) => content,
         None => bytes,
+    }
+}
+
+// Whether the last of these whole lines is empty.
+fn end_with_empty(lines: &[u8]) -> bool
+    requires whole { is_open_text lines.now ≡ false }
+    requires some { 0 < length lines.now }
+    ensures { result ≡ ends_empty false (lines_of lines.now) }
+{
+    match lines {
+        [before @ .., _feed] => !ends_open(content_of(before)),
+        [] => false,
     }
 }
 

@@ -15,6 +15,7 @@ use crate::device::{CHUNK_BYTES, Fault, MOST_READS, Source};
 use crate::from_lines::FromLines;
 use crate::gathering::Gathered;
 use crate::mailbox::MailFault;
+use crate::stretches::Stretches;
 use memchr::memchr;
 use std::alloc::{AllocError, Global};
 
@@ -28,6 +29,7 @@ pub(crate) struct Intake {
     at: usize,
     filled: usize,
     ended: bool,
+    stretches: Stretches,
 }
 
 impl Intake {
@@ -44,6 +46,7 @@ impl Intake {
             at: 0,
             filled: 0,
             ended: false,
+            stretches: Stretches::new(),
         }
     }
 
@@ -104,6 +107,14 @@ impl Intake {
                 Some(piece) => return Ok(Some(piece)),
                 None => {}
             }
+            let stretch = take_stretch(
+                &mut self.gathered,
+                &self.chunk,
+                self.at,
+                self.filled,
+                &self.stretches,
+            )?;
+            self.at += stretch;
             if self.at == self.filled {
                 return Ok(None);
             }
@@ -172,6 +183,37 @@ fn make_room(chunk: &mut Vec<u8>) -> Result<(), AllocError>
     } else {
         Ok(())
     }
+}
+
+// Takes the whole lines before the next From-line from the chunk, and answers how many bytes they have. Takes none while a
+// line is gathered in part.
+fn take_stretch(
+    gathered: &mut Gathered,
+    chunk: &[u8],
+    at: usize,
+    filled: usize,
+    stretches: &Stretches,
+) -> Result<usize, AllocError>
+    requires gathered { IsGathered gathered.old.from_lines gathered.old.bytes.items gathered.old.line gathered.old.behind_empty }
+    requires undecided { has_line_feed (drop gathered.old.line gathered.old.bytes.items) ≡ false }
+    requires chunk { IsChunk chunk.now at filled }
+    ensures gathered { IsGathered gathered.new.from_lines gathered.new.bytes.items gathered.new.line gathered.new.behind_empty }
+    ensures undecided { OnOk result (has_line_feed (drop gathered.new.line gathered.new.bytes.items) ≡ false) }
+    ensures ok { IfOk result (λ count. gathered.new.bytes.items ++ unread chunk.now (at + count) filled ≡ gathered.old.bytes.items ++ unread chunk.now at filled) }
+    ensures within { IfOk result (λ count. at + count ≤ filled) }
+    ensures err { OnErr result (gathered.new.bytes.items ≡ gathered.old.bytes.items) }
+    ensures same { gathered.new.from_lines ≡ gathered.old.from_lines }
+{
+    if !gathered.is_between_lines() {
+        return Ok(0);
+    }
+    let rest = &chunk[at..filled];
+    let size = stretches.size(rest);
+    if size == 0 {
+        return Ok(0);
+    }
+    gathered.take_stretch(&rest[..size])?;
+    Ok(size)
 }
 
 // Takes the rest of a line from the chunk, or all that is there, and answers how many bytes that was.

@@ -9,6 +9,7 @@ mod intake;
 pub mod laws;
 mod mailbox;
 mod places;
+mod stretches;
 
 pub use device::{CHUNK_BYTES, Fault, MOST_READS, Sink, Source};
 pub use from_lines::FromLines;

@@ -1,0 +1,6 @@
+use Rattle.std.proofs.Common.{◌∙◌, ap, not}
+use Rattle.mk_mailbox.proofs.QuietLines.{stretch_last}
+use Rattle.mk_mailbox.proofs.gathering.end_with_empty.Goals as goal
+
+pub returns-in-len1-up : goal.returns-in-len1-up
+returns-in-len1-up c = ap not c.ends_open.ensures ∙ stretch_last c.args.lines.now c.content_of.result.now c.requires.some c.requires.whole c.content_of.ensures
