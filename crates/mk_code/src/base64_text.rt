@@ -90,8 +90,21 @@ pub(crate) fn decode(alloc: Global, text: &[u8]) -> Result<Vec<u8>, CodeError>
         }
     }
     match push_decoded(&mut out, &found) {
-        Ok(()) => Ok(out),
+        Ok(()) => {
+            give_back(&mut out);
+            Ok(out)
+        }
         Err(error) => Err(error),
+    }
+}
+
+// Gives back most of the room where few bytes came of a long text. A text of letters and line endings keeps its room, so that
+// its bytes aren't copied once more.
+fn give_back(out: &mut Vec<u8>)
+    ensures { out.new.items ≡ out.old.items }
+{
+    if (out.capacity() / 2).saturating_sub(out.len()) > BLOCK {
+        out.shrink_to_fit();
     }
 }
 

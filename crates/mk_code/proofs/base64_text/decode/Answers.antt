@@ -1,6 +1,6 @@
 use Rattle.std.proofs.Common.{[], List, ℕ, ap, sym, ◌∙◌, subst}
 use Rattle.std.specs.List.{filter}
-use Rattle.mk_code.specs.Base64Text.{is_letter}
+use Rattle.mk_code.specs.Base64Text.{IsBase64Of, is_letter}
 use Rattle.mk_code.specs.inner.Decoded.{HasDecoded, IsUndecoded}
 use Rattle.mk_code.proofs.Base64Blocks.{IsUnderWay, block_gathered, block_decoded, all_decoded, refused_groups, refused_end, not_begun, cut_in_two, emptied}
 use Rattle.mk_code.proofs.base64_text.decode.Goals as goal
@@ -21,7 +21,9 @@ each-preserved c =
 pub returns-in-Ok-push_decoded-clause-content : goal.returns-in-Ok-push_decoded-clause-content
 returns-in-Ok-push_decoded-clause-content c =
     let P : List ℕ → Type 0 = λ xs. HasDecoded c.each.out.items xs c.push_decoded.new.out.items [] in
-    all_decoded c.args.text.now c.each.out.items c.push_decoded.new.out.items c.each.found.items c.each.rest.now c.each.invariant (emptied c.each.rest.now c.is_empty.result c.is_empty.ensures c.each-test.false) (subst P c.deref.ensures.value c.in-Ok-push_decoded.ensures.ok)
+    let Q : List ℕ → Type 0 = λ xs. IsBase64Of c.args.text.now xs in
+    subst Q (sym c.give_back.ensures)
+    (all_decoded c.args.text.now c.each.out.items c.push_decoded.new.out.items c.each.found.items c.each.rest.now c.each.invariant (emptied c.each.rest.now c.is_empty.result c.is_empty.ensures c.each-test.false) (subst P c.deref.ensures.value c.in-Ok-push_decoded.ensures.ok))
 
 pub returns-in-Err-push_decoded-clause-refused : goal.returns-in-Err-push_decoded-clause-refused
 returns-in-Err-push_decoded-clause-refused c =
