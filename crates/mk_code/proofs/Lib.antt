@@ -14,6 +14,7 @@ pub mod QpSafe
 pub mod Contents
 pub mod WordParts
 pub mod Runs
+pub mod LastBlocks
 pub mod Pieces
 pub mod WordsKept
 pub mod WordsBack

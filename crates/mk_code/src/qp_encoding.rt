@@ -169,23 +169,27 @@ fn push_quiet(out: &mut Vec<u8>, column: usize, rest: &[u8]) -> Result<usize, Al
     Ok(size)
 }
 
-// How many quiet bytes stand at the start.
+// How many quiet bytes stand at the start. The last block goes back over bytes that were quiet.
 fn quiet_front(bytes: &[u8]) -> usize
     ensures front { result ≡ prefix_len quiet bytes.now }
     ensures within { result ≤ length bytes.now }
 {
+    if bytes.len() < LANES {
+        return last_quiet(bytes);
+    }
     let mut size = 0;
-    'each: while LANES <= bytes.len() - size {
+    'each: while LANES < bytes.len() - size {
         let run = quiet_at(bytes, size);
         size += run;
         if run < LANES {
             return size;
         }
     }
-    size + last_quiet(&bytes[size..])
+    let last = bytes.len() - LANES;
+    last + quiet_at(bytes, last)
 }
 
-// How many quiet bytes stand at the start, one by one.
+// How many quiet bytes stand at the start of few, one by one.
 fn last_quiet(bytes: &[u8]) -> usize
     ensures front { result ≡ prefix_len quiet bytes.now }
     ensures within { result ≤ length bytes.now }
