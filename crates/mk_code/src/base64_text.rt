@@ -1,10 +1,11 @@
 //! Base64 as a transfer encoding (RFC 2045, 6.8).
-ghost use Rattle.std.specs.Prelude.{◌≡◌, ◌≢◌, ◌<◌, ◌≤◌, ◌==◌, ◌++◌, ◌%◌, [], length, not, filter, take_while, IfOk, IfErr, OnOk};
+ghost use Rattle.std.specs.Prelude.{◌≡◌, ◌≢◌, ◌<◌, ◌≤◌, ◌==◌, ◌++◌, ◌%◌, [], length, not, filter, take, take_while, IfOk, IfErr, OnOk};
 ghost use Rattle.std.specs.List.{prefix_len};
 ghost use Rattle.base64.specs.GeneralPurpose.{encode_of};
 ghost use Rattle.base64.specs.Engines.{standard};
 ghost use Rattle.mk_line.specs.Ascii.{equals_sign};
-ghost use Rattle.mk_code.specs.Base64Text.{IsBase64Of, letters as letters_of, base64_encoded, is_letter as letter};
+ghost use Rattle.mk_code.specs.Base64Text.{IsBase64Of, letters as letters_of, base64_encoded, lined, is_letter as letter};
+ghost use Rattle.mk_code.specs.OutputLines.{widest};
 ghost use Rattle.mk_code.specs.Contents.{IsRefused};
 ghost use Rattle.mk_code.specs.inner.Decoded.{HasDecoded, IsUndecoded, IsUngrouped};
 ghost use Rattle.mk_head.specs.declared.encodings.Encoding.TheVariants.{Base64};
@@ -23,6 +24,11 @@ const WIDEST: usize = 76;
 
 /// How many bytes they stand for.
 const LINE_BYTES: usize = 57;
+
+/// How many lines are encoded at once, and their bytes.
+const LINES: usize = 32;
+
+const LINES_BYTES: usize = LINES * LINE_BYTES;
 
 /// The letters of a group, and the bytes that they stand for.
 const GROUP: usize = 4;
@@ -47,29 +53,56 @@ pub fn push_b64(text: &mut Vec<u8>, bytes: &[u8], eol: Ending) -> Result<(), All
     requires { eol ≢ Ending.Missing }
     ensures { OnOk result (text.new.items ≡ text.old.items ++ base64_encoded eol bytes.now) }
 {
-    let size = bytes.len() / 3 * 4;
-    text.reserve(size.saturating_add(size / WIDEST * 2))?;
     let ending = eol.bytes();
+    text.reserve(room(bytes, ending))?;
+    let mut letters = [0u8; LINES * WIDEST];
     let mut rest = bytes;
-    while rest.len() > LINE_BYTES {
-        let (line, more) = rest.split_at(LINE_BYTES);
-        push_letters(text, line)?;
+    while rest.len() > LINES_BYTES {
+        let (block, more) = rest.split_at(LINES_BYTES);
+        let size = write_letters(block, &mut letters);
+        push_lines(text, &letters[..size], ending)?;
         text.extend_from_slice(ending)?;
         rest = more;
     }
-    push_letters(text, rest)
+    let last = write_letters(rest, &mut letters);
+    push_lines(text, &letters[..last], ending)
 }
 
-// Appends the letters of one line.
-fn push_letters(text: &mut Vec<u8>, line: &[u8]) -> Result<(), AllocError>
-    requires { length line.now ≤ 57 }
-    ensures { OnOk result (text.new.items ≡ text.old.items ++ encode_of standard line.now) }
+// The length of the lines that bytes become, with the ending between two.
+fn room(bytes: &[u8], ending: &[u8]) -> usize
+    requires { length ending.now ≤ 2 }
+    ensures { result ≡ length (lined ending.now widest (encode_of standard bytes.now)) }
 {
-    let mut letters = [0u8; WIDEST];
-    match STANDARD.encode_slice(line, &mut letters) {
-        Ok(size) => text.extend_from_slice(&letters[..size]),
+    let letters = bytes.len().div_ceil(GROUP_BYTES) * GROUP;
+    let endings = letters.saturating_sub(1) / WIDEST;
+    letters + endings * ending.len()
+}
+
+// Writes the letters of up to `LINES` lines, and gives their count.
+fn write_letters(block: &[u8], letters: &mut [u8]) -> usize
+    requires few { length block.now ≤ 1824 }
+    requires room { length letters.old ≡ 2432 }
+    ensures within { result ≤ length letters.new }
+    ensures letters { take result letters.new ≡ encode_of standard block.now }
+{
+    match STANDARD.encode_slice(block, letters) {
+        Ok(size) => size,
         Err(_) => unreachable!(),
     }
+}
+
+// Appends letters in lines, with the ending between two.
+fn push_lines(text: &mut Vec<u8>, letters: &[u8], ending: &[u8]) -> Result<(), AllocError>
+    ensures { OnOk result (text.new.items ≡ text.old.items ++ lined ending.now widest letters.now) }
+{
+    let mut rest = letters;
+    while rest.len() > WIDEST {
+        let (line, more) = rest.split_at(WIDEST);
+        text.extend_from_slice(line)?;
+        text.extend_from_slice(ending)?;
+        rest = more;
+    }
+    text.extend_from_slice(rest)
 }
 
 /// The bytes whose encoding the letters before the first `=` are. They are decoded block by block, so that no second text of
