@@ -117,7 +117,7 @@ pub(crate) fn decode(alloc: Global, text: &[u8]) -> Result<Vec<u8>, CodeError>
     'each: while !rest.is_empty() {
         let (front, behind) = rest.split_at(BLOCK.min(rest.len()));
         gather(&mut found, front)?;
-        match decode_groups(alloc, &mut out, &mut found) {
+        match decode_groups(&mut out, &mut found) {
             Ok(()) => rest = behind,
             Err(error) => return Err(error),
         }
@@ -142,7 +142,7 @@ fn give_back(out: &mut Vec<u8>)
 }
 
 // Decodes the whole groups of letters, and leaves the others.
-fn decode_groups(alloc: Global, out: &mut Vec<u8>, found: &mut Vec<u8>) -> Result<(), CodeError>
+fn decode_groups(out: &mut Vec<u8>, found: &mut Vec<u8>) -> Result<(), CodeError>
     requires { length out.old.items % 3 ≡ 0 }
     ensures ok { OnOk result (HasDecoded out.old.items found.old.items out.new.items found.new.items) }
     ensures err { IfErr result (λ error. IsUngrouped found.old.items error) }
@@ -152,9 +152,9 @@ fn decode_groups(alloc: Global, out: &mut Vec<u8>, found: &mut Vec<u8>) -> Resul
     if let Err(error) = push_decoded(out, &found[..whole]) {
         return Err(error);
     }
-    let left = Vec::from_slice(alloc, &found[whole..])?;
-    found.clear();
-    found.extend_from_slice(&left)?;
+    let size = found.len();
+    found.copy_within(whole..size, 0);
+    found.truncate(size - whole);
     Ok(())
 }
 
