@@ -165,6 +165,9 @@ fn push_quiet(out: &mut Vec<u8>, column: usize, rest: &[u8]) -> Result<usize, Al
         .saturating_sub(column)
         .min(rest.len().saturating_sub(1));
     let size = quiet_front(&rest[..room]);
+    if size == 0 {
+        return Ok(0);
+    }
     out.extend_from_slice(&rest[..size])?;
     Ok(size)
 }
