@@ -14,6 +14,7 @@ pub mod PartsRead
 pub mod Heads
 pub mod FieldValues
 pub mod KindsSaid
+pub mod LeafTypes
 pub mod Slices
 pub mod Counting
 pub mod Endings

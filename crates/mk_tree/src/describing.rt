@@ -6,13 +6,14 @@ ghost use Rattle.mk_head.specs.Split.{fields_from};
 ghost use Rattle.mk_head.specs.Fields.{FieldText};
 ghost use Rattle.mk_head.specs.Types.{boundary_of, encoding_by as encoding_of_value, field_value, header_encoding};
 ghost use Rattle.mk_head.specs.ValueViews.{media_type_of};
+ghost use Rattle.mk_head.specs.Values.{unled};
 ghost use Rattle.mk_head.specs.Views.{field_view};
 ghost use Rattle.mk_tree.specs.Kinds.{kind, kind_of, has_boundary, has_return as holds_return, holds_message as is_message, is_identity as identity};
 ghost use Rattle.mk_tree.specs.Steps.{kind_described};
-ghost use Rattle.mk_tree.specs.inner.Said.{said_by, said_first};
+ghost use Rattle.mk_tree.specs.inner.Said.{begins_leaf, said_by, said_first};
 
 use mk_head::{ContentType, Encoding, Field, content_type, each_field, encoding, unfold};
-use mk_line::trimmed;
+use mk_line::{leading_blanks, trimmed};
 use std::alloc::{AllocError, Global};
 
 const CARRIAGE_RETURN: u8 = b'\r';
@@ -20,6 +21,11 @@ const CARRIAGE_RETURN: u8 = b'\r';
 const CONTENT_TYPE: &[u8] = b"Content-Type";
 
 const TRANSFER_ENCODING: &[u8] = b"Content-Transfer-Encoding";
+
+const OPENING: u8 = b'(';
+
+/// The first letter of the types that hold others, in lower case.
+const FIRST_OF_BOTH: u8 = b'm';
 
 const MULTIPART: &[u8] = b"multipart";
 
@@ -48,10 +54,30 @@ pub fn describe(alloc: Global, head: &[u8], digest: bool) -> Result<Described, A
     match media {
         Some(field) => {
             let value = unfold(alloc, &field)?;
+            if is_surely_leaf(&value) {
+                return Ok(Described::Leaf);
+            }
             let encoding = encoding_by(alloc, encoding)?;
             describe_type(alloc, &content_type(alloc, &value)?, encoding)
         }
         None => describe_untyped(alloc, head, encoding, digest),
+    }
+}
+
+// Whether the first byte of a content type tells that it is neither a multipart nor a message. Most types are read no further.
+fn is_surely_leaf(value: &[u8]) -> bool
+    ensures { result ≡ begins_leaf (unled value.now) }
+{
+    begins_as_leaf(&value[leading_blanks(value)..])
+}
+
+// The same for a content type that begins with no blank.
+fn begins_as_leaf(value: &[u8]) -> bool
+    ensures { result ≡ begins_leaf value.now }
+{
+    match value {
+        [byte, ..] => *byte != OPENING && byte.to_ascii_lowercase() != FIRST_OF_BOTH,
+        [] => true,
     }
 }
 

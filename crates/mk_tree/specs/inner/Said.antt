@@ -1,5 +1,7 @@
--- Fields of a name that are looked for one by one, as private contracts speak of them.
-use Rattle.std.specs.Prelude.{if◌then◌else◌, ℕ, Option, None, Some, List, [], ◌∷◌}
+-- Fields of a name that are looked for one by one, and the first byte of what one says, as private contracts speak of them.
+use Rattle.std.specs.Prelude.{◌==◌, ◌&&◌, if◌then◌else◌, ℕ, Bool, true, not, Option, None, Some, List, [], ◌∷◌}
+use Rattle.std.specs.Char.{to_ascii_lowercase}
+use Rattle.mk_line.specs.Ascii.{opening}
 use Rattle.mk_line.specs.Lines.{cut}
 use Rattle.mk_head.specs.declared.fields.Field.{Field}
 use Rattle.mk_head.specs.Fields.{FieldText, is_named}
@@ -19,3 +21,8 @@ first_value name (f ∷ fs) = if is_named name f then Some (value_in (cut f.raw)
 abbrev pub said_first : List ℕ → Option Field → List FieldText → Option (List ℕ)
 said_first name None fields = first_value name fields
 said_first name (Some field) fields = Some (value_in (cut field.raw.now))
+
+-- the first byte of a type that is neither a multipart nor a message, where no comment comes first
+abbrev pub begins_leaf : List ℕ → Bool
+begins_leaf [] = true
+begins_leaf (byte ∷ bytes) = not (byte == opening) && not (to_ascii_lowercase byte == 109)
