@@ -13,8 +13,8 @@ use Rattle.mk_tree.specs.Sections.{Placed, head_text, section_at, section_fields
 use Rattle.mk_tree.specs.Tree.{field_lines}
 use Rattle.mk_decide.proofs.FieldPlaces.{run_all}
 use Rattle.mk_decide.proofs.SectionSites.{head_cut, head_is_run, site}
-use Rattle.mk_mail.specs.Letters.{Work, fields_at, fields_in, names_at, others, respelling, respelt, same_name, then_do, those, with_first}
-use Rattle.mk_decide.specs.Edits.{PlainEdit}
+use Rattle.mk_mail.specs.Letters.{PlainPattern, Work, dropped, fields_at, fields_in, is_dropped, names_at, others, respelling, respelt, same_name, then_do, those, with_first}
+use Rattle.mk_decide.specs.Edits.{PlainEdit, RemoveField}
 use Rattle.mk_mailbox.proofs.Intaking.{true_or_false}
 
 -- the fields of a section are those of the lines of its head
@@ -149,3 +149,17 @@ edits_more f old now new done more x h n m =
 
 pub there_still : (p : List ℕ → Bool) (xs more : List (List ℕ)) (x : List ℕ) (t : Bool) → more ≡ xs ++ x ∷ [] → t ≡ list_any p xs → t ≡ true → t ≡ list_any p more
 there_still p xs more x t m e h = h ∙ sym (ap (list_any p) m ∙ (any_on p xs x ∙ ap (λ b. b || p x) (sym e ∙ h)))
+
+-- no patterns mean no name
+all_stay : (names : List (List ℕ)) → filter (λ own. not (is_dropped [] own)) names ≡ names
+all_stay [] = refl
+all_stay (own ∷ names) = ap (λ (ns : List (List ℕ)). own ∷ ns) (all_stay names)
+
+none_go : (names : List (List ℕ)) → filter (is_dropped []) names ≡ []
+none_go [] = refl
+none_go (own ∷ names) = none_go names
+
+pub none_dropped : (path : List ℕ) (w : Work) (ps : List PlainPattern) → ps ≡ [] → w ≡ then_do w (dropped path ps)
+none_dropped path w ps e =
+    sym (ap (λ qs. then_do w (dropped path qs)) e
+    ∙ (λ i. record { names = all_stay w.names i; edits = (ap (λ ns. w.edits ++ map (λ own. RemoveField path own 1) ns) (none_go w.names) ∙ append-nil w.edits) i }))

@@ -47,6 +47,9 @@ impl Filter {
     ) -> Result<(), AllocError>
         ensures { OnOk result (work_of self.new ≡ then_do (work_of self.old) (dropped path.now (map pattern_of drops.now))) }
     {
+        if drops.is_empty() {
+            return Ok(());
+        }
         let names = self.take_names();
         self.names = remove_dropped(path, names, &mut self.edits, drops)?;
         Ok(())
