@@ -71,7 +71,7 @@ both_true true b h = (refl, h)
 both_true false b h = absurd (cc)
 
 -- one more of a name, of which one was there, goes
-pub later_gone : (name : List ℕ) (xs : List (List ℕ)) (x : List ℕ) (t : Bool) → t ≡ list_any (same_name name) xs → (t && same_name name x) ≡ true → drop 1 (those name (xs ++ x ∷ [])) ≡ drop 1 (those name xs) ++ x ∷ []
+later_gone : (name : List ℕ) (xs : List (List ℕ)) (x : List ℕ) (t : Bool) → t ≡ list_any (same_name name) xs → (t && same_name name x) ≡ true → drop 1 (those name (xs ++ x ∷ [])) ≡ drop 1 (those name xs) ++ x ∷ []
 later_gone name xs x t e h =
     let b = both_true t (same_name name x) h in
     ap (drop 1) (filter-append (same_name name) xs (x ∷ []))
@@ -95,7 +95,7 @@ others_hit name xs x t = filter-append (λ own. not (same_name name own)) xs (x 
 others_miss : (name : List ℕ) (xs : List (List ℕ)) (x : List ℕ) → same_name name x ≡ false → others name (xs ++ x ∷ []) ≡ others name xs ++ x ∷ []
 others_miss name xs x n = filter-append (λ own. not (same_name name own)) xs (x ∷ []) ∙ ap (λ ys. others name xs ++ ys) (filter_hit (λ own. not (same_name name own)) x (ap not n))
 
-pub first_gone : (name : List ℕ) (xs : List (List ℕ)) (x : List ℕ) (t : Bool) → t ≡ list_any (same_name name) xs → (t && same_name name x) ≡ true → with_first name (xs ++ x ∷ []) ≡ with_first name xs
+first_gone : (name : List ℕ) (xs : List (List ℕ)) (x : List ℕ) (t : Bool) → t ≡ list_any (same_name name) xs → (t && same_name name x) ≡ true → with_first name (xs ++ x ∷ []) ≡ with_first name xs
 first_gone name xs x t e h = let b = both_true t (same_name name x) h in gone name xs x (sym e ∙ b.0) b.1
   where
     gone : (name : List ℕ) (xs : List (List ℕ)) (x : List ℕ) → list_any (same_name name) xs ≡ true → same_name name x ≡ true → with_first name (xs ++ x ∷ []) ≡ with_first name xs
@@ -143,11 +143,11 @@ rest_respelling path old new own o list all names rest n e h =
     (λ i. list ++ respelling path old new (n i) rest) ∙ (ap (λ ys. list ++ ys) (none_respelling path old new rest) ∙ ((λ i. list ++ respelling path old new (sym n i) (sym e i)) ∙ h))
 
 -- one edit more
-pub edits_more : (f : List ℕ → PlainEdit) (old now new : List PlainEdit) (done more : List (List ℕ)) (x : List ℕ) → now ≡ old ++ map f done → new ≡ now ++ f x ∷ [] → more ≡ done ++ x ∷ [] → new ≡ old ++ map f more
+edits_more : (f : List ℕ → PlainEdit) (old now new : List PlainEdit) (done more : List (List ℕ)) (x : List ℕ) → now ≡ old ++ map f done → new ≡ now ++ f x ∷ [] → more ≡ done ++ x ∷ [] → new ≡ old ++ map f more
 edits_more f old now new done more x h n m =
     n ∙ (ap (λ es. es ++ f x ∷ []) h ∙ (append_assoc old (map f done) (f x ∷ []) ∙ ap (λ es. old ++ es) (sym (map-append f done (x ∷ [])) ∙ ap (map f) (sym m))))
 
-pub there_still : (p : List ℕ → Bool) (xs more : List (List ℕ)) (x : List ℕ) (t : Bool) → more ≡ xs ++ x ∷ [] → t ≡ list_any p xs → t ≡ true → t ≡ list_any p more
+there_still : (p : List ℕ → Bool) (xs more : List (List ℕ)) (x : List ℕ) (t : Bool) → more ≡ xs ++ x ∷ [] → t ≡ list_any p xs → t ≡ true → t ≡ list_any p more
 there_still p xs more x t m e h = h ∙ sym (ap (list_any p) m ∙ (any_on p xs x ∙ ap (λ b. b || p x) (sym e ∙ h)))
 
 -- no patterns mean no name
@@ -163,3 +163,17 @@ pub none_dropped : (path : List ℕ) (w : Work) (ps : List PlainPattern) → ps 
 none_dropped path w ps e =
     sym (ap (λ qs. then_do w (dropped path qs)) e
     ∙ (λ i. record { names = all_stay w.names i; edits = (ap (λ ns. w.edits ++ map (λ own. RemoveField path own 1) ns) (none_go w.names) ∙ append-nil w.edits) i }))
+
+-- what stands after one more of a name, of which one was there, has gone
+pub record LaterGone (path name : List ℕ) (k : ℕ) (t : Bool) (list more : List (List ℕ)) (old new : List PlainEdit) : Type 0 where
+  pub there : t ≡ list_any (same_name name) more
+  pub names : list ≡ with_first name more
+  pub edits : new ≡ old ++ map (λ own. RemoveField path name k) (drop 1 (those name more))
+
+pub gone_on : (path name own : List ℕ) (k : ℕ) (t : Bool) (list xs more : List (List ℕ)) (old now new : List PlainEdit)
+    → more ≡ xs ++ own ∷ [] → (t && same_name name own) ≡ true → LaterGone path name k t list xs old now → new ≡ now ++ RemoveField path name k ∷ [] → LaterGone path name k t list more old new
+gone_on path name own k t list xs more old now new m h l n = record {
+  there = there_still (same_name name) xs more own t m l.there (both_true t (same_name name own) h).0;
+  names = l.names ∙ sym (ap (with_first name) m ∙ first_gone name xs own t l.there h);
+  edits = edits_more (λ own. RemoveField path name k) old now new (drop 1 (those name xs)) _ own l.edits n (ap (λ ns. drop 1 (those name ns)) m ∙ later_gone name xs own t l.there h);
+}

@@ -1,15 +1,17 @@
 -- Names and edits in memory as plain data, for private contracts.
 use Rattle.std.specs.Prelude.{ℕ, List, map}
-use Rattle.std.specs.Global.{Vec}
+use Rattle.std.specs.Cow.{cow_slice_items}
+use Rattle.std.specs.Global.{Global}
+use Rattle.std.specs.declared.borrow.CowSlice.{CowSlice}
 use Rattle.mk_decide.specs.declared.edits.Edit.{Edit}
 use Rattle.mk_decide.specs.Edits.{PlainEdit}
 use Rattle.mk_decide.specs.Views.{edit_of}
 use Rattle.mk_mail.specs.declared.filtering.Filter.{Filter}
 use Rattle.mk_mail.specs.Letters.{Work}
 
--- texts in memory as lists
-abbrev pub texts_of : List (Vec ℕ) → List (List ℕ)
-texts_of vs = map (λ v. v.items) vs
+-- names in memory as lists
+abbrev pub texts_of : List (CowSlice ℕ Global) → List (List ℕ)
+texts_of names = map cow_slice_items names
 
 -- edits in memory as plain edits
 abbrev pub plain_edits : List Edit → List PlainEdit

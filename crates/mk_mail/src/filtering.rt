@@ -1,36 +1,35 @@
 //! The fields of a section by their names, and the edits that letters make of them.
-ghost use Rattle.std.specs.Prelude.{◌≡◌, ◌≤◌, ◌++◌, Some, false, drop, filter, length, map, not, IfOk, OnOk};
-ghost use Rattle.std.specs.List.{list_all, list_any, prefix_len};
-ghost use Rattle.mk_line.specs.Lines.{cut, ending_bytes};
-ghost use Rattle.mk_head.specs.Fields.{fields_of};
-ghost use Rattle.mk_head.specs.Split.{fields_from};
+ghost use Rattle.std.specs.Prelude.{◌≡◌, ◌++◌, Some, false, drop, filter, map, not, IfOk, OnOk};
+ghost use Rattle.mk_line.specs.Lines.{ending_bytes};
 ghost use Rattle.mk_decide.specs.Edits.{AddField, RemoveField, RenameField};
 ghost use Rattle.mk_decide.specs.Views.{edit_of};
 ghost use Rattle.mk_mail.specs.LetterWork.{plain_edits, texts_of, work_of};
-ghost use Rattle.mk_mail.specs.Letters.{add_if_letter, added as added_field, added_full, dropped, first_letter, is_bare as bare, is_dropped as is_dropped_name, last_of, made_old, name_in, old_name, only_letter, others, prefixed_letter, removed_all, rename_letter, renamed_all as all_renamed, replaced, respelling, respelt, names_at, same_name, then_do, those, untouched, with_first};
+ghost use Rattle.mk_mail.specs.Letters.{add_if_letter, added as added_field, added_full, dropped, first_letter, is_dropped as is_dropped_name, last_of, old_name, only_letter, others, prefixed_letter, rename_letter, replaced, respelling, respelt, names_at, then_do, those, untouched, with_first};
 ghost use Rattle.mk_mail.specs.LetterViews.{bytes_in, pattern_of};
 
 use crate::field_names::{is_bare, name_of};
 use crate::patterns::{NamePattern, is_dropped, is_same};
+use crate::section_names::{has_name, names_of};
 use mk_edit::Edit;
-use mk_head::each_field;
 use mk_line::Ending;
 use mk_tree::Doc;
 use std::alloc::{AllocError, Global};
+use std::borrow::CowSlice;
 use std::mem;
 
 const OLD: &[u8; 4] = b"Old-";
 
-/// The names that the fields of a section have, and the edits that led to them.
+/// The names that the fields of a section have, and the edits that led to them. A name is borrowed from the section or from what is
+/// asked for, unless it is made here.
 #[derive(Drop)]
-pub(crate) struct Filter {
-    names: Vec<Vec<u8>>,
+pub(crate) struct Filter<'a> {
+    names: Vec<CowSlice<'a, u8>>,
     edits: Vec<Edit>,
 }
 
-impl Filter {
+impl<'a> Filter<'a> {
     /// The fields as they stand in the section at a path, none where there is no such section.
-    pub(crate) fn new(alloc: Global, doc: &Doc, path: &[u32]) -> Result<Filter, AllocError>
+    pub(crate) fn new(alloc: Global, doc: &'a Doc, path: &[u32]) -> Result<Filter<'a>, AllocError>
         ensures { IfOk result (λ f. work_of f ≡ untouched (names_at path.now doc.now)) }
     {
         Ok(Filter {
@@ -56,7 +55,12 @@ impl Filter {
     }
 
     /// Gives the fields of a name another.
-    pub(crate) fn rename(&mut self, path: &[u32], old: &[u8], new: &[u8]) -> Result<(), AllocError>
+    pub(crate) fn rename(
+        &mut self,
+        path: &[u32],
+        old: &[u8],
+        new: &'a [u8],
+    ) -> Result<(), AllocError>
         ensures { OnOk result (work_of self.new ≡ then_do (work_of self.old) (rename_letter path.now (old.now, new.now))) }
     {
         let names = self.take_names();
@@ -72,7 +76,7 @@ impl Filter {
     pub(crate) fn add_if(
         &mut self,
         path: &[u32],
-        field: &[u8],
+        field: &'a [u8],
         eol: Ending,
     ) -> Result<(), AllocError>
         ensures { OnOk result (work_of self.new ≡ then_do (work_of self.old) (add_if_letter path.now eol field.now)) }
@@ -85,12 +89,17 @@ impl Filter {
     }
 
     /// Adds a field after the others.
-    pub(crate) fn add(&mut self, path: &[u32], field: &[u8], eol: Ending) -> Result<(), AllocError>
+    pub(crate) fn add(
+        &mut self,
+        path: &[u32],
+        field: &'a [u8],
+        eol: Ending,
+    ) -> Result<(), AllocError>
         ensures { OnOk result (work_of self.new ≡ then_do (work_of self.old) (added_field path.now eol field.now)) }
     {
         let alloc = *self.names.allocator();
         self.edits.push(addition(alloc, path, field, eol)?)?;
-        self.names.push(Vec::from_slice(alloc, name_of(field))?)?;
+        self.names.push(CowSlice::Borrowed(name_of(field)))?;
         Ok(())
     }
 
@@ -98,7 +107,7 @@ impl Filter {
     pub(crate) fn prefix(
         &mut self,
         path: &[u32],
-        field: &[u8],
+        field: &'a [u8],
         eol: Ending,
     ) -> Result<(), AllocError>
         ensures { OnOk result (work_of self.new ≡ then_do (work_of self.old) (prefixed_letter path.now eol field.now)) }
@@ -112,7 +121,7 @@ impl Filter {
     pub(crate) fn replace(
         &mut self,
         path: &[u32],
-        field: &[u8],
+        field: &'a [u8],
         eol: Ending,
     ) -> Result<(), AllocError>
         ensures { OnOk result (work_of self.new ≡ then_do (work_of self.old) (only_letter path.now eol field.now)) }
@@ -137,7 +146,7 @@ impl Filter {
         path: &[u32],
         last: &Option<Vec<u8>>,
     ) -> Result<Vec<Edit>, AllocError>
-        ensures { IfOk result (λ edits. plain_edits edits.items ≡ (work_of self).edits ++ last_of path.now (bytes_in last.now) (work_of self).names) }
+        ensures { IfOk result (λ edits. plain_edits edits.items ≡ (work_of self.entry).edits ++ last_of path.now (bytes_in last.now) (work_of self.entry).names) }
     {
         match last {
             Some(name) => {
@@ -150,7 +159,7 @@ impl Filter {
     }
 
     // Adds a field that isn't bare.
-    fn add_full(&mut self, path: &[u32], field: &[u8], eol: Ending) -> Result<(), AllocError>
+    fn add_full(&mut self, path: &[u32], field: &'a [u8], eol: Ending) -> Result<(), AllocError>
         ensures { OnOk result (work_of self.new ≡ then_do (work_of self.old) (added_full path.now eol field.now)) }
     {
         if is_bare(field) {
@@ -160,7 +169,7 @@ impl Filter {
         }
     }
 
-    fn take_names(&mut self) -> Vec<Vec<u8>>
+    fn take_names(&mut self) -> Vec<CowSlice<'a, u8>>
         ensures names { texts_of result.items ≡ texts_of self.old.names.items }
         ensures edits { self.new.edits.items ≡ self.old.edits.items }
     {
@@ -169,39 +178,18 @@ impl Filter {
     }
 }
 
-// The names of the fields of the section at a path.
-fn names_of(alloc: Global, doc: &Doc, path: &[u32]) -> Result<Vec<Vec<u8>>, AllocError>
-    ensures { IfOk result (λ names. texts_of names.items ≡ names_at path.now doc.now) }
-{
-    match doc.section(path) {
-        Some(section) => names_in(alloc, section.head()),
-        None => Ok(Vec::new(alloc)),
-    }
-}
-
-// The names of the fields of a head.
-fn names_in(alloc: Global, head: &[u8]) -> Result<Vec<Vec<u8>>, AllocError>
-    ensures { IfOk result (λ names. texts_of names.items ≡ map (λ f. f.name) (fields_of (fields_from false (cut head.now)))) }
-{
-    let mut names = Vec::new(alloc);
-    for field in each_field(head) {
-        names.push(Vec::from_slice(alloc, field.name)?)?;
-    }
-    Ok(names)
-}
-
 // Removes the fields whose names patterns mean.
-fn remove_dropped(
+fn remove_dropped<'a>(
     path: &[u32],
-    names: Vec<Vec<u8>>,
+    names: Vec<CowSlice<'a, u8>>,
     edits: &mut Vec<Edit>,
     drops: &[NamePattern],
-) -> Result<Vec<Vec<u8>>, AllocError>
-    ensures names { IfOk result (λ r. texts_of r.items ≡ filter (λ own. not (is_dropped_name (map pattern_of drops.now) own)) (texts_of names.items)) }
-    ensures edits { OnOk result (plain_edits edits.new.items ≡ plain_edits edits.old.items ++ map (λ own. RemoveField path.now own 1) (filter (is_dropped_name (map pattern_of drops.now)) (texts_of names.items))) }
+) -> Result<Vec<CowSlice<'a, u8>>, AllocError>
+    ensures names { IfOk result (λ r. texts_of r.items ≡ filter (λ own. not (is_dropped_name (map pattern_of drops.now) own)) (texts_of names.entry.items)) }
+    ensures edits { OnOk result (plain_edits edits.new.items ≡ plain_edits edits.old.items ++ map (λ own. RemoveField path.now own 1) (filter (is_dropped_name (map pattern_of drops.now)) (texts_of names.entry.items))) }
 {
     let alloc = *names.allocator();
-    let mut list = Vec::new(alloc);
+    let mut list = Vec::with_capacity(alloc, names.len())?;
     for own in names {
         if is_dropped(drops, &own) {
             edits.push(removal(alloc, path, &own, 1)?)?;
@@ -213,22 +201,22 @@ fn remove_dropped(
 }
 
 // Gives the fields of a name another, which isn't the same.
-fn rename_all(
+fn rename_all<'a>(
     path: &[u32],
-    names: Vec<Vec<u8>>,
+    names: Vec<CowSlice<'a, u8>>,
     edits: &mut Vec<Edit>,
     old: &[u8],
-    new: &[u8],
-) -> Result<Vec<Vec<u8>>, AllocError>
-    ensures names { IfOk result (λ r. texts_of r.items ≡ replaced old.now (λ own. new.now) (texts_of names.items)) }
-    ensures edits { OnOk result (plain_edits edits.new.items ≡ plain_edits edits.old.items ++ map (λ own. RenameField path.now old.now 1 new.now) (those old.now (texts_of names.items))) }
+    new: &'a [u8],
+) -> Result<Vec<CowSlice<'a, u8>>, AllocError>
+    ensures names { IfOk result (λ r. texts_of r.items ≡ replaced old.now (λ own. new.now) (texts_of names.entry.items)) }
+    ensures edits { OnOk result (plain_edits edits.new.items ≡ plain_edits edits.old.items ++ map (λ own. RenameField path.now old.now 1 new.now) (those old.now (texts_of names.entry.items))) }
 {
     let alloc = *names.allocator();
-    let mut list = Vec::new(alloc);
+    let mut list = Vec::with_capacity(alloc, names.len())?;
     for own in names {
         if is_same(old, &own) {
             edits.push(renaming(alloc, path, old, 1, new)?)?;
-            list.push(Vec::from_slice(alloc, new)?)?;
+            list.push(CowSlice::Borrowed(new))?;
         } else {
             list.push(own)?;
         }
@@ -237,25 +225,25 @@ fn rename_all(
 }
 
 // Spells a name in another way, as far as numbers can name its fields.
-fn respell(
+fn respell<'a>(
     path: &[u32],
-    names: Vec<Vec<u8>>,
+    names: Vec<CowSlice<'a, u8>>,
     edits: &mut Vec<Edit>,
     old: &[u8],
-    new: &[u8],
-) -> Result<Vec<Vec<u8>>, AllocError>
-    ensures names { IfOk result (λ r. texts_of r.items ≡ respelt old.now new.now (Some 1) (texts_of names.items)) }
-    ensures edits { OnOk result (plain_edits edits.new.items ≡ plain_edits edits.old.items ++ respelling path.now old.now new.now (Some 1) (texts_of names.items)) }
+    new: &'a [u8],
+) -> Result<Vec<CowSlice<'a, u8>>, AllocError>
+    ensures names { IfOk result (λ r. texts_of r.items ≡ respelt old.now new.now (Some 1) (texts_of names.entry.items)) }
+    ensures edits { OnOk result (plain_edits edits.new.items ≡ plain_edits edits.old.items ++ respelling path.now old.now new.now (Some 1) (texts_of names.entry.items)) }
 {
     let alloc = *names.allocator();
-    let mut list = Vec::new(alloc);
+    let mut list = Vec::with_capacity(alloc, names.len())?;
     let mut next = Some(1u32);
     for own in names {
         match next {
             Some(k) => {
                 if is_same(old, &own) {
                     edits.push(renaming(alloc, path, old, k, new)?)?;
-                    list.push(Vec::from_slice(alloc, new)?)?;
+                    list.push(CowSlice::Borrowed(new))?;
                     next = k.checked_add(1);
                 } else {
                     list.push(own)?;
@@ -268,22 +256,22 @@ fn respell(
 }
 
 // Puts `Old-` before the names of the fields of a name.
-fn make_old(
+fn make_old<'a>(
     path: &[u32],
-    names: Vec<Vec<u8>>,
+    names: Vec<CowSlice<'a, u8>>,
     edits: &mut Vec<Edit>,
     name: &[u8],
-) -> Result<Vec<Vec<u8>>, AllocError>
-    ensures names { IfOk result (λ r. texts_of r.items ≡ replaced name.now old_name (texts_of names.items)) }
-    ensures edits { OnOk result (plain_edits edits.new.items ≡ plain_edits edits.old.items ++ map (λ own. RenameField path.now name.now 1 (old_name own)) (those name.now (texts_of names.items))) }
+) -> Result<Vec<CowSlice<'a, u8>>, AllocError>
+    ensures names { IfOk result (λ r. texts_of r.items ≡ replaced name.now old_name (texts_of names.entry.items)) }
+    ensures edits { OnOk result (plain_edits edits.new.items ≡ plain_edits edits.old.items ++ map (λ own. RenameField path.now name.now 1 (old_name own)) (those name.now (texts_of names.entry.items))) }
 {
     let alloc = *names.allocator();
-    let mut list = Vec::new(alloc);
+    let mut list = Vec::with_capacity(alloc, names.len())?;
     for own in names {
         if is_same(name, &own) {
             let old = behind_old(alloc, &own)?;
             edits.push(renaming(alloc, path, name, 1, &old)?)?;
-            list.push(old)?;
+            list.push(CowSlice::Owned(old))?;
         } else {
             list.push(own)?;
         }
@@ -292,17 +280,17 @@ fn make_old(
 }
 
 // Removes the fields of a name.
-fn remove_all(
+fn remove_all<'a>(
     path: &[u32],
-    names: Vec<Vec<u8>>,
+    names: Vec<CowSlice<'a, u8>>,
     edits: &mut Vec<Edit>,
     name: &[u8],
-) -> Result<Vec<Vec<u8>>, AllocError>
-    ensures names { IfOk result (λ r. texts_of r.items ≡ others name.now (texts_of names.items)) }
-    ensures edits { OnOk result (plain_edits edits.new.items ≡ plain_edits edits.old.items ++ map (λ own. RemoveField path.now name.now 1) (those name.now (texts_of names.items))) }
+) -> Result<Vec<CowSlice<'a, u8>>, AllocError>
+    ensures names { IfOk result (λ r. texts_of r.items ≡ others name.now (texts_of names.entry.items)) }
+    ensures edits { OnOk result (plain_edits edits.new.items ≡ plain_edits edits.old.items ++ map (λ own. RemoveField path.now name.now 1) (those name.now (texts_of names.entry.items))) }
 {
     let alloc = *names.allocator();
-    let mut list = Vec::new(alloc);
+    let mut list = Vec::with_capacity(alloc, names.len())?;
     for own in names {
         if is_same(name, &own) {
             edits.push(removal(alloc, path, name, 1)?)?;
@@ -314,18 +302,18 @@ fn remove_all(
 }
 
 // Removes the fields of a name but for one, each by the number `k`.
-fn remove_later(
+fn remove_later<'a>(
     path: &[u32],
-    names: Vec<Vec<u8>>,
+    names: Vec<CowSlice<'a, u8>>,
     edits: &mut Vec<Edit>,
     name: &[u8],
     k: u32,
-) -> Result<Vec<Vec<u8>>, AllocError>
-    ensures names { IfOk result (λ r. texts_of r.items ≡ with_first name.now (texts_of names.items)) }
-    ensures edits { OnOk result (plain_edits edits.new.items ≡ plain_edits edits.old.items ++ map (λ own. RemoveField path.now name.now k) (drop 1 (those name.now (texts_of names.items)))) }
+) -> Result<Vec<CowSlice<'a, u8>>, AllocError>
+    ensures names { IfOk result (λ r. texts_of r.items ≡ with_first name.now (texts_of names.entry.items)) }
+    ensures edits { OnOk result (plain_edits edits.new.items ≡ plain_edits edits.old.items ++ map (λ own. RemoveField path.now name.now k) (drop 1 (those name.now (texts_of names.entry.items)))) }
 {
     let alloc = *names.allocator();
-    let mut list = Vec::new(alloc);
+    let mut list = Vec::with_capacity(alloc, names.len())?;
     let mut is_there = false;
     for own in names {
         let same = is_same(name, &own);
@@ -380,15 +368,4 @@ fn behind_old(alloc: Global, name: &[u8]) -> Result<Vec<u8>, AllocError>
     let mut old = Vec::from_slice(alloc, OLD)?;
     old.extend_from_slice(name)?;
     Ok(old)
-}
-
-fn has_name(names: &[Vec<u8>], name: &[u8]) -> bool
-    ensures { result ≡ list_any (same_name name.now) (texts_of names.now) }
-{
-    for own in names {
-        if is_same(name, own) {
-            return true;
-        }
-    }
-    false
 }

@@ -124,10 +124,10 @@ pub fn field_edits_at(
 }
 
 // The work of `--rename`, where it is asked for; and so for each letter.
-fn rename(
-    filter: &mut Filter,
+fn rename<'a>(
+    filter: &mut Filter<'a>,
     path: &[u32],
-    names: &Option<(Vec<u8>, Vec<u8>)>,
+    names: &'a Option<(Vec<u8>, Vec<u8>)>,
 ) -> Result<(), AllocError>
     ensures { OnOk result (work_of filter.new ≡ letter (rename_letter path.now) (option_map (λ p. (p.0.items, p.1.items)) names.now) (work_of filter.old)) }
 {
@@ -137,10 +137,10 @@ fn rename(
     }
 }
 
-fn add_if(
-    filter: &mut Filter,
+fn add_if<'a>(
+    filter: &mut Filter<'a>,
     path: &[u32],
-    field: &Option<Vec<u8>>,
+    field: &'a Option<Vec<u8>>,
     eol: Ending,
 ) -> Result<(), AllocError>
     ensures { OnOk result (work_of filter.new ≡ letter (add_if_letter path.now eol) (bytes_in field.now) (work_of filter.old)) }
@@ -151,10 +151,10 @@ fn add_if(
     }
 }
 
-fn add(
-    filter: &mut Filter,
+fn add<'a>(
+    filter: &mut Filter<'a>,
     path: &[u32],
-    field: &Option<Vec<u8>>,
+    field: &'a Option<Vec<u8>>,
     eol: Ending,
 ) -> Result<(), AllocError>
     ensures { OnOk result (work_of filter.new ≡ letter (added path.now eol) (bytes_in field.now) (work_of filter.old)) }
@@ -165,10 +165,10 @@ fn add(
     }
 }
 
-fn prefix(
-    filter: &mut Filter,
+fn prefix<'a>(
+    filter: &mut Filter<'a>,
     path: &[u32],
-    field: &Option<Vec<u8>>,
+    field: &'a Option<Vec<u8>>,
     eol: Ending,
 ) -> Result<(), AllocError>
     ensures { OnOk result (work_of filter.new ≡ letter (prefixed_letter path.now eol) (bytes_in field.now) (work_of filter.old)) }
@@ -179,10 +179,10 @@ fn prefix(
     }
 }
 
-fn replace(
-    filter: &mut Filter,
+fn replace<'a>(
+    filter: &mut Filter<'a>,
     path: &[u32],
-    field: &Option<Vec<u8>>,
+    field: &'a Option<Vec<u8>>,
     eol: Ending,
 ) -> Result<(), AllocError>
     ensures { OnOk result (work_of filter.new ≡ letter (only_letter path.now eol) (bytes_in field.now) (work_of filter.old)) }
@@ -193,7 +193,11 @@ fn replace(
     }
 }
 
-fn keep_first(filter: &mut Filter, path: &[u32], name: &Option<Vec<u8>>) -> Result<(), AllocError>
+fn keep_first(
+    filter: &mut Filter<'_>,
+    path: &[u32],
+    name: &Option<Vec<u8>>,
+) -> Result<(), AllocError>
     ensures { OnOk result (work_of filter.new ≡ letter (first_letter path.now) (bytes_in name.now) (work_of filter.old)) }
 {
     match name {

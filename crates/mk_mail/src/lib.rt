@@ -8,6 +8,7 @@ mod filtering;
 pub mod laws;
 mod letters;
 mod patterns;
+mod section_names;
 
 pub use letters::{Letters, field_edits, field_edits_at};
 pub use mk_build::{Attach, AttachError, BuildError, attach, build, build_in_utf8};

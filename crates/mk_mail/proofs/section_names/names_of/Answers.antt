@@ -1,7 +1,7 @@
 use Rattle.std.proofs.Common.{◌≡◌, IfOk, subst}
 use Rattle.mk_mail.specs.LetterWork.{texts_of}
 use Rattle.mk_mail.proofs.FieldNames.{names_found}
-use Rattle.mk_mail.proofs.filtering.names_of.Goals as goal
+use Rattle.mk_mail.proofs.section_names.names_of.Goals as goal
 
 pub returns-in-Some : goal.returns-in-Some
 returns-in-Some c =
