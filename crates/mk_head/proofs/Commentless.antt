@@ -1,5 +1,5 @@
 -- A value without an opening parenthesis has no comment.
-use Rattle.std.proofs.Common.{◌≡◌, ◌==◌, ℕ, true, false, List, [], ◌∷◌, refl, ap, sym, ◌∙◌, inl, inr, None}
+use Rattle.std.proofs.Common.{◌≡◌, ◌==◌, ℕ, false, List, [], ◌∷◌, refl, ap, inl, inr, None}
 use Rattle.std.proofs.lemmas.Bool.{cases_Bool, or_parts}
 use Rattle.memchr.specs.Find.{IsFirstByte, is_byte}
 use Rattle.mk_line.specs.Parting.{has_byte}

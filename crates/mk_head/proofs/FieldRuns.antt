@@ -1,5 +1,5 @@
 -- One field after another: a field start, its continuations, and the fields after them.
-use Rattle.std.proofs.Common.{◌≡◌, ◌==◌, ◌||◌, ◌+◌, ◌≤◌, ◌<◌, if◌then◌else◌, ℕ, suc, zero, Bool, true, false, Option, None, Some, List, [], ◌∷◌, ◌++◌, refl, ap, sym, ◌∙◌, inl, inr, length, take, drop, get_or, arith, length-append, length-drop}
+use Rattle.std.proofs.Common.{◌≡◌, ◌==◌, ◌||◌, ◌+◌, ◌≤◌, ◌<◌, ℕ, suc, zero, Bool, true, false, Option, None, Some, List, [], ◌∷◌, ◌++◌, refl, ap, sym, ◌∙◌, inl, inr, length, take, drop, get_or, arith, length-append, length-drop}
 use Rattle.std.proofs.lemmas.Bool.{cases_Bool, eqb-true}
 use Rattle.mk_line.specs.Ascii.{is_blank, is_name_byte}
 use Rattle.mk_line.specs.Lines.{TextLine, cut, text_of, printed_line}
@@ -9,11 +9,7 @@ use Rattle.std.proofs.lemmas.List.{take_at, length-take-le}
 use Rattle.mk_line.proofs.Cuts.{text_append, text_apart, cut_rest, append_nil, length_cut}
 use Rattle.mk_head.specs.Split.{is_start, is_more, belongs, fields_from, rest_from}
 use Rattle.mk_head.specs.Fields.{continuations, name_of, field_text, fields_of, counted}
-
--- the lines after the continuations at the start
-abbrev pub behind_more : List TextLine → List TextLine
-behind_more [] = []
-behind_more (l ∷ ls) = if is_more l then behind_more ls else l ∷ ls
+pub use Rattle.mk_head.specs.Fields.{behind_more}
 
 pub more_behind : (ls : List TextLine) → continuations ls ++ behind_more ls ≡ ls
 more_behind [] = refl

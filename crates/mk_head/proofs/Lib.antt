@@ -6,3 +6,5 @@ pub mod Names
 pub mod Parts
 pub mod Apart
 pub mod Bytes
+pub mod FoldSizes
+pub mod NamedStarts

@@ -1,9 +1,9 @@
 -- The fields of a header (RFC 5322, 2.2 and 2.2.3).
-use Rattle.std.specs.Prelude.{◌&&◌, if◌then◌else◌, ℕ, Bool, false, Option, None, Some, List, [], ◌∷◌, suc, zero, length, take, filter}
+use Rattle.std.specs.Prelude.{◌≡◌, ◌&&◌, if◌then◌else◌, ℕ, Bool, true, false, Option, None, Some, List, [], ◌∷◌, suc, zero, length, take, filter}
 use Rattle.std.specs.List.{list_all, prefix_len}
 use Rattle.std.specs.Str.{bytes_eq, str_to_ascii_lowercase}
 use Rattle.mk_line.specs.Ascii.{is_name_byte}
-use Rattle.mk_line.specs.Lines.{TextLine, text_of}
+use Rattle.mk_line.specs.Lines.{TextLine, cut, text_of}
 use Rattle.mk_head.specs.Split.{Head, is_start, is_more, head_lines}
 
 -- a field: its name as it is spelt, and all its bytes
@@ -15,6 +15,11 @@ pub record FieldText : Type 0 where
 abbrev pub continuations : List TextLine → List TextLine
 continuations [] = []
 continuations (l ∷ ls) = if is_more l then l ∷ continuations ls else []
+
+-- the lines after them
+abbrev pub behind_more : List TextLine → List TextLine
+behind_more [] = []
+behind_more (l ∷ ls) = if is_more l then behind_more ls else l ∷ ls
 
 -- the name that a field start begins with
 abbrev pub name_of : TextLine → List ℕ
@@ -63,3 +68,11 @@ place_behind fields (Some l) = Some (length (text_of fields))
 -- a head as its fields and places
 abbrev pub header_view : Head → HeaderView
 header_view h = record { fields = fields_of h.fields; separator = place_behind h.fields h.separator; body = length (text_of (head_lines h)) }
+
+-- a text begins with a field, a field start and the continuations directly after it, and these bytes stand after the field
+pub record BeginsField (text rest : List ℕ) : Type 0 where
+  pub start : TextLine
+  pub more : List TextLine
+  pub lines : cut text ≡ start ∷ more
+  pub starts : is_start start ≡ true
+  pub behind : cut rest ≡ behind_more more

@@ -11,3 +11,4 @@ pub mod Matching
 pub mod Types
 pub mod Splits
 pub mod Laws
+pub mod inner

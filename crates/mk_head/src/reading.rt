@@ -4,11 +4,12 @@ ghost use Rattle.mk_line.specs.Lines.{cut as lines_of, text_of, printed_line};
 ghost use Rattle.std.specs.List.{list_all};
 ghost use Rattle.std.specs.Option.{option_map};
 ghost use Rattle.mk_head.specs.Split.{head_of, fields_from, is_more, rest_from, separator_of};
-ghost use Rattle.mk_head.specs.Fields.{continuations, fields_of, header_view, is_one_field};
+ghost use Rattle.mk_head.specs.Fields.{BeginsField, fields_of, header_view, is_one_field};
 ghost use Rattle.mk_head.specs.Views.{field_view};
 
 use crate::fields::{Field, Header};
-use mk_line::{Lines, cut, first_line, is_continuation, name_len};
+use crate::folds::folded_size;
+use mk_line::{Lines, cut, is_continuation, name_len};
 use std::alloc::{AllocError, Global};
 
 /// The header that a text begins with: the longest run of fields at the start, and the empty line after it, if one is there.
@@ -59,39 +60,23 @@ fn all_continue(lines: Lines<'_>) -> bool
     true
 }
 
-// The field at the start, and what follows it.
-pub(crate) fn first_field(text: &[u8]) -> Option<(Field<'_>, &[u8])>
+/// The field at the start of a text, and what follows it; `None` where no field begins there.
+pub fn first_field(text: &[u8]) -> Option<(Field<'_>, &[u8])>
     ensures none { IfNone result (fields_from false (lines_of text.now) ≡ []) }
+    ensures begins { IfSome result (λ r. BeginsField text.now r.1.now) }
     ensures field { IfSome result (λ r. fields_of (fields_from false (lines_of text.now)) ≡ field_view r.0 ∷ fields_of (fields_from false (lines_of r.1.now))) }
     ensures size { IfSome result (λ r. length (text_of (fields_from false (lines_of text.now))) + length r.1.now ≡ length text.now + length (text_of (fields_from false (lines_of r.1.now)))) }
     ensures rest { IfSome result (λ r. rest_from false (lines_of text.now) ≡ rest_from false (lines_of r.1.now)) }
     ensures less { IfSome result (λ r. length r.1.now < length text.now) }
 {
-    let first = cut(text).next()?;
-    let name = name_len(first.content)?;
-    let start = first.size();
-    let (_, behind) = text.split_at(start);
-    let (raw, rest) = text.split_at(start + continuations_size(behind));
+    // The name ends before its line does, so the end of that line isn't looked for.
+    let name = name_len(text)?;
+    let (raw, rest) = text.split_at(folded_size(text));
     let field = Field {
-        name: &first.content[..name],
+        name: &text[..name],
         raw,
     };
     Some((field, rest))
-}
-
-// How many bytes the continuations at the start take. The first byte of a line tells whether it is one, so the end of the
-// line after them isn't looked for.
-fn continuations_size(text: &[u8]) -> usize
-    ensures { result ≡ length (text_of (continuations (lines_of text.now))) }
-{
-    let mut rest = text;
-    'each: while is_continuation(rest) {
-        match first_line(rest) {
-            Some((_, behind)) => rest = behind,
-            None => break,
-        }
-    }
-    text.len() - rest.len()
 }
 
 // How many bytes the empty line at the start takes, if there is one.

@@ -6,7 +6,7 @@ use Rattle.std.proofs.lemmas.Bool.Decides.{eqb_tells}
 use Rattle.std.proofs.Math.Seq.{drop-length}
 use Rattle.std.proofs.lemmas.List.{take_rest}
 use Rattle.memchr.specs.Find.{FindsNeedle, OccursAt}
-use Rattle.mk_line.specs.Lines.{TextLine, text_of, ending_bytes, with_byte, onto_first, cut}
+use Rattle.mk_line.specs.Lines.{TextLine, text_of, ending_bytes, onto_first, cut}
 use Rattle.mk_line.proofs.Cuts.{text_cut}
 use Rattle.mk_tree.specs.Upto.{upto, beyond}
 use Rattle.std.specs.Borrow.{Bor}
@@ -81,7 +81,7 @@ abbrev later : List TextLine → List TextLine
 later [] = []
 later (l ∷ ls) = ls
 
-content_undashed : (xs : List ℕ) (l : TextLine) (ls : List TextLine) → xs ≡ text_of (l ∷ ls) → starts_with nat_eq xs dashes ≡ false → starts_with nat_eq l.content dashes ≡ false
+pub content_undashed : (xs : List ℕ) (l : TextLine) (ls : List TextLine) → xs ≡ text_of (l ∷ ls) → starts_with nat_eq xs dashes ≡ false → starts_with nat_eq l.content dashes ≡ false
 content_undashed xs l ls e h =
     elim (cases_Bool (starts_with nat_eq l.content dashes)) [
       | inl t ↦

@@ -33,3 +33,4 @@ pub mod EntityRead
 pub mod Planned
 pub mod PartsPlanned
 pub mod Stepped
+pub mod FieldsMarked

@@ -3,16 +3,18 @@ ghost use Rattle.std.specs.Prelude.{◌≡◌, ◌<◌, ◌+◌, ◌++◌, ◌�
 ghost use Rattle.mk_line.specs.Lines.{cut as lines_of};
 ghost use Rattle.mk_line.specs.Views.{line_of};
 ghost use Rattle.mk_line.specs.Marks.{mark};
-ghost use Rattle.mk_head.specs.Split.{belongs as is_of_fields, separator_of, body_of, option_line};
+ghost use Rattle.mk_head.specs.Split.{separator_of, body_of, option_line};
 ghost use Rattle.mk_tree.specs.Upto.{is_mark as marks, is_marked as marked, upto, beyond, fields_until, rest_until};
 ghost use Rattle.mk_tree.specs.Spans.{size};
 ghost use Rattle.mk_tree.specs.Nodes.{tail_of};
 ghost use Rattle.mk_tree.specs.Spans.{tail_sizes};
+ghost use Rattle.mk_tree.specs.inner.Marked.{first_marked};
 ghost use Rattle.mk_tree.specs.Steps.{boundaries_of, begins_part, behind_first, first_size, ended_by};
 
 use crate::dashes::{dashed_lines, to_dashed};
 use crate::node::Tail;
-use mk_line::{Line, Mark, first_line, is_continuation, is_delimiter, name_len, trimmed};
+use mk_head::first_field;
+use mk_line::{Line, Mark, first_line, is_delimiter, trimmed};
 use std::alloc::{AllocError, Global};
 
 const DASHES: &[u8; 2] = b"--";
@@ -57,26 +59,30 @@ fn is_marked(line: &Line<'_>, opened: &[&[u8]]) -> bool
     false
 }
 
-// Whether the line belongs to a header, where a field stands before it or not.
-fn belongs(line: &Line<'_>, inside: bool) -> bool
-    ensures { result ≡ is_of_fields inside (line_of line.now) }
+// Whether the first line is a mark of an open boundary.
+fn begins_marked(text: &[u8], opened: &[&[u8]]) -> bool
+    ensures { result ≡ first_marked (boundaries_of opened.now) (lines_of text.now) }
 {
-    name_len(line.content).is_some() || (inside && is_continuation(line.content))
+    if !text.starts_with(DASHES) {
+        return false;
+    }
+    match first_line(text) {
+        Some((line, _)) => is_marked(&line, opened),
+        None => false,
+    }
 }
 
-/// What follows the fields at the start, up to a mark.
+/// What follows the fields at the start, up to a mark. A continuation begins with a blank, so only a field start can be one.
 pub(crate) fn skip_fields<'a>(text: &'a [u8], opened: &[&[u8]]) -> &'a [u8]
     ensures fields { length text.now ≡ size (fields_until (boundaries_of opened.now) false (lines_of text.now)) + length result.now }
     ensures rest { rest_until (boundaries_of opened.now) false (lines_of text.now) ≡ lines_of result.now }
 {
     let mut rest = text;
-    let mut inside = false;
-    'each: while let Some((line, behind)) = first_line(rest) {
-        if is_marked(&line, opened) || !belongs(&line, inside) {
+    'each: while let Some((_, behind)) = first_field(rest) {
+        if begins_marked(rest, opened) {
             break;
         }
         rest = behind;
-        inside = true;
     }
     rest
 }

@@ -1,5 +1,4 @@
-use Rattle.std.proofs.Common.{◌≡◌, ◌∷◌, [], false, ℕ, List, None, Some, sym, ◌∙◌, ap, subst, nat_eq}
-use Rattle.std.specs.List.{starts_with}
+use Rattle.std.proofs.Common.{ℕ, List, None, Some, sym, ◌∙◌, ap, subst}
 use Rattle.memchr.specs.Find.{FindsNeedle}
 use Rattle.mk_line.specs.Lines.{cut}
 use Rattle.mk_tree.specs.Upto.{beyond}

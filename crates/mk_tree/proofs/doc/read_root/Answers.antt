@@ -1,6 +1,6 @@
 use Rattle.std.proofs.Common.{ap, sym, ◌∙◌, arith, false}
 use Rattle.mk_line.specs.Lines.{cut as lines_of}
-use Rattle.mk_tree.specs.Documents.{levels, tree}
+use Rattle.mk_tree.specs.Documents.{levels}
 use Rattle.mk_tree.specs.Spans.{span_of}
 use Rattle.mk_tree.specs.Tree.{read}
 use Rattle.mk_tree.proofs.Descent.{upto_none}

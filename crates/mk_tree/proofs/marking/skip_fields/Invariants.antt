@@ -9,8 +9,8 @@ abbrev pub invariant-each : goal.invariant-each
 invariant-each l =
     let bs = boundaries_of l.opened in
     record {
-      size : size (fields_until bs false (lines_of l.text)) + length l.rest ≡ length l.text + size (fields_until bs l.inside (lines_of l.rest));
-      rest : rest_until bs false (lines_of l.text) ≡ rest_until bs l.inside (lines_of l.rest);
+      size : size (fields_until bs false (lines_of l.text)) + length l.rest ≡ length l.text + size (fields_until bs false (lines_of l.rest));
+      rest : rest_until bs false (lines_of l.text) ≡ rest_until bs false (lines_of l.rest);
     }
 
 abbrev pub decreases-each : goal.decreases-each

@@ -1,9 +1,3 @@
-use Rattle.std.proofs.Common.{◌≡◌, [], List, Bor, ℕ, length, sym, ◌∙◌, ap, subst, arith}
-use Rattle.mk_line.specs.Lines.{cut}
-use Rattle.mk_line.proofs.Cuts.{text_cut}
-use Rattle.mk_tree.specs.Spans.{size}
-use Rattle.mk_tree.specs.Upto.{upto, beyond}
-use Rattle.mk_tree.specs.Steps.{boundaries_of}
 use Rattle.mk_tree.proofs.DashedLines.{none_opened, whole_upto, none_left}
 use Rattle.mk_tree.proofs.marking.skip_unmarked.Goals as goal
 

@@ -1,0 +1,76 @@
+//! Where a field ends: at a line feed that no blank follows. Thirty-two places are tested at a time, so a folded field is passed
+//! over by one search, and its lines aren't looked for one by one.
+ghost use Rattle.std.specs.Prelude.{◌≡◌, ◌==◌, ◌+◌, ◌<◌, ◌≤◌, if◌then◌else◌, length, drop};
+ghost use Rattle.std.specs.Int.{w64, trailing_zeros};
+ghost use Rattle.mk_line.specs.Lines.{cut as lines_of, text_of};
+ghost use Rattle.mk_head.specs.inner.Folds.{fold_size, folded};
+
+use mk_line::is_continuation;
+use std::simd::prelude::*;
+
+/// How many places are tested at once.
+const LANES: usize = 32;
+
+const LINE_FEED: u8 = b'\n';
+
+const SPACE: u8 = b' ';
+
+const TAB: u8 = b'\t';
+
+/// How many bytes the first line takes, with the continuations directly after it.
+pub(crate) fn folded_size(text: &[u8]) -> usize
+    ensures size { result ≡ length (text_of (folded (lines_of text.now))) }
+    ensures within { result ≤ length text.now }
+{
+    let mut size = 0;
+    'each: while LANES < text.len() - size {
+        let run = folded_at(text, size);
+        if run < LANES {
+            return size + run + 1;
+        }
+        size += LANES;
+    }
+    size + last_folded(&text[size..])
+}
+
+// How many of the thirty-two places come before the first line feed that no blank follows.
+#[inline(always)]
+fn folded_at(text: &[u8], at: usize) -> usize
+    requires { at + 32 < length text.now }
+    ensures ends { result < 32 → fold_size (drop at text.now) ≡ result + 1 }
+    ensures goes_on { result ≡ 32 → fold_size (drop at text.now) ≡ 32 + fold_size (drop (at + 32) text.now) }
+    ensures few { result ≤ 32 }
+{
+    let bytes = u8x32::from_slice(&text[at..]);
+    let next = u8x32::from_slice(&text[at + 1..]);
+    let feeds = bytes.simd_eq(u8x32::splat(LINE_FEED));
+    let others = next.simd_ne(u8x32::splat(SPACE)) & next.simd_ne(u8x32::splat(TAB));
+    first_set((feeds & others).to_bitmask())
+}
+
+// How many lanes come before the first that is marked.
+#[inline(always)]
+fn first_set(mask: u64) -> usize
+    ensures { result ≡ (if mask == 0 then 32 else trailing_zeros w64 mask) }
+{
+    if mask == 0 {
+        LANES
+    } else {
+        mask.trailing_zeros() as usize
+    }
+}
+
+// The same of the last places, one by one.
+fn last_folded(text: &[u8]) -> usize
+    ensures size { result ≡ fold_size text.now }
+    ensures within { result ≤ length text.now }
+{
+    let mut rest = text;
+    'each: while let Some((byte, behind)) = rest.split_first() {
+        if *byte == LINE_FEED && !is_continuation(behind) {
+            return text.len() - behind.len();
+        }
+        rest = behind;
+    }
+    text.len()
+}
