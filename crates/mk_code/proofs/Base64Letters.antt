@@ -7,6 +7,7 @@ use Rattle.std.proofs.lemmas.List.Sums.{take_while-cons}
 use Rattle.std.specs.List.{filter, prefix_len, take_while}
 use Rattle.mk_line.specs.Parting.{has_byte}
 use Rattle.mk_code.specs.Base64Text.{is_letter}
+use Rattle.mk_code.specs.inner.Strays.{is_stray}
 use Rattle.mk_line.specs.Ascii.{equals_sign}
 
 -- what comes before the first `=`
@@ -42,3 +43,15 @@ pub letters_alone : (text run rest : List ℕ) (n : ℕ) → n ≡ prefix_len is
 letters_alone text run rest n e f g none =
     let empty : rest ≡ [] = nil_from_length rest (omega arith) in
     letters_parted text run rest n e f g ∙ rw empty refl
+
+strays_passed : (text : List ℕ) → filter is_letter (drop (prefix_len is_stray text) text) ≡ filter is_letter text
+strays_passed [] = refl
+strays_passed (x ∷ xs) =
+    elim (cases_Bool (is_letter x)) [
+      | inl h ↦ rw (h, h) refl
+      | inr h ↦ rw (h, one-add (prefix_len is_stray xs)) (strays_passed xs)
+    ]
+
+-- what follows the stray bytes at the start has all the letters
+pub letters_behind : (text : List ℕ) (n : ℕ) → n ≡ prefix_len is_stray text → filter is_letter (take (length text - n) (drop n text)) ≡ filter is_letter text
+letters_behind text n e = ap (filter is_letter) (take_rest text n ∙ ap (λ k. drop k text) e) ∙ strays_passed text

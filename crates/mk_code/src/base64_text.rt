@@ -8,10 +8,11 @@ ghost use Rattle.mk_code.specs.Base64Text.{IsBase64Of, letters as letters_of, ba
 ghost use Rattle.mk_code.specs.OutputLines.{widest};
 ghost use Rattle.mk_code.specs.Contents.{IsRefused};
 ghost use Rattle.mk_code.specs.inner.Decoded.{HasDecoded, IsUndecoded, IsUngrouped};
+ghost use Rattle.mk_code.specs.inner.Strays.{is_stray};
 ghost use Rattle.mk_head.specs.declared.encodings.Encoding.TheVariants.{Base64};
 
 use crate::decoding::CodeError;
-use crate::lanes::{LANES, letters_at};
+use crate::lanes::{LANES, letters_at, strays_at};
 use base64::DecodeAllocError;
 use base64::engine::general_purpose::{STANDARD, STANDARD_NO_PAD};
 use mk_line::{Ending, split_at_first};
@@ -202,7 +203,7 @@ fn before_equals(text: &[u8]) -> &[u8]
     }
 }
 
-// The letters at the start, and what follows the byte after them.
+// The letters at the start, and what follows the stray bytes after them.
 fn split_letters(text: &[u8]) -> (&[u8], &[u8])
     requires { 0 < length text.now }
     ensures letters { filter letter text.now ≡ result.0.now ++ filter letter result.1.now }
@@ -210,9 +211,44 @@ fn split_letters(text: &[u8]) -> (&[u8], &[u8])
 {
     let (run, rest) = text.split_at(letter_front(text));
     match rest {
-        [_, behind @ ..] => (run, behind),
+        [_, behind @ ..] => (run, behind_strays(behind)),
         [] => (run, rest),
     }
+}
+
+// What follows the stray bytes at the start. Most often none is there, so the first byte is looked at by itself.
+fn behind_strays(text: &[u8]) -> &[u8]
+    ensures letters { filter letter result.now ≡ filter letter text.now }
+    ensures less { length result.now ≤ length text.now }
+{
+    match text {
+        [byte, ..] if !is_letter(*byte) => &text[stray_front(text)..],
+        _ => text,
+    }
+}
+
+// How many bytes that are no letters stand at the start.
+fn stray_front(text: &[u8]) -> usize
+    ensures front { result ≡ prefix_len is_stray text.now }
+    ensures within { result ≤ length text.now }
+{
+    let mut size = 0;
+    'each: while LANES <= text.len() - size {
+        let run = strays_at(text, size);
+        size += run;
+        if run < LANES {
+            return size;
+        }
+    }
+    size + last_strays(&text[size..])
+}
+
+// The same, one by one.
+fn last_strays(text: &[u8]) -> usize
+    ensures front { result ≡ prefix_len is_stray text.now }
+    ensures within { result ≤ length text.now }
+{
+    text.iter().take_while(|byte| !is_letter(**byte)).count()
 }
 
 // How many letters stand at the start.

@@ -4,6 +4,7 @@ ghost use Rattle.std.specs.Prelude.{◌≡◌, ◌==◌, ◌+◌, ◌≤◌, if�
 ghost use Rattle.std.specs.Int.{w64, trailing_zeros};
 ghost use Rattle.std.specs.List.{prefix_len};
 ghost use Rattle.mk_code.specs.Base64Text.{is_letter as letter};
+ghost use Rattle.mk_code.specs.inner.Strays.{is_stray};
 ghost use Rattle.mk_code.specs.QuotedPrintable.{is_quiet as quiet};
 
 use std::simd::prelude::*;
@@ -37,6 +38,22 @@ pub(crate) fn letters_at(text: &[u8], at: usize) -> usize
         & from_slash.simd_ge(u8x16::splat(11))
         & bytes.simd_ne(u8x16::splat(b'+'));
     first_set(stops.to_bitmask())
+}
+
+/// How many bytes that are no letters of base64 come first of the sixteen bytes at a place.
+#[inline(always)]
+pub(crate) fn strays_at(text: &[u8], at: usize) -> usize
+    requires { at + 16 ≤ length text.now }
+    ensures front { result ≡ prefix_len is_stray (take 16 (drop at text.now)) }
+    ensures few { result ≤ 16 }
+{
+    let bytes = u8x16::from_slice(&text[at..]);
+    let from_a = (bytes | u8x16::splat(0x20)) - u8x16::splat(b'a');
+    let from_slash = bytes - u8x16::splat(b'/');
+    let letters = from_a.simd_lt(u8x16::splat(26))
+        | from_slash.simd_lt(u8x16::splat(11))
+        | bytes.simd_eq(u8x16::splat(b'+'));
+    first_set(letters.to_bitmask())
 }
 
 /// How many bytes that stand for themselves in quoted-printable come first of the sixteen bytes at a place.

@@ -1,3 +1,4 @@
+use Rattle.std.proofs.Common.{◌++◌, ap, sym, ◌∙◌}
 use Rattle.mk_code.proofs.Base64Letters.{letters_alone, letters_parted}
 use Rattle.mk_code.proofs.base64_text.split_letters.Goals as goal
 
@@ -8,3 +9,4 @@ returns-in-empty-clause-letters c =
 pub returns-in-len1-up-clause-letters : goal.returns-in-len1-up-clause-letters
 returns-in-len1-up-clause-letters c =
     letters_parted c.args.text.now c.split_at.result.0.now c.split_at.result.1.now c.letter_front.result c.letter_front.ensures.front c.split_at.ensures.front c.split_at.ensures.back
+    ∙ ap (λ xs. c.split_at.result.0.now ++ xs) (sym c.behind_strays.ensures.letters)

@@ -1,0 +1,14 @@
+use Rattle.std.proofs.Common.{arith}
+use Rattle.mk_code.specs.inner.Strays.{is_stray}
+use Rattle.mk_line.proofs.LaneRuns.{block_ends, block_passed}
+use Rattle.mk_code.proofs.base64_text.stray_front.Goals as goal
+
+pub returns-then-run-lt-LANES-clause-front : goal.returns-then-run-lt-LANES-clause-front
+returns-then-run-lt-LANES-clause-front c =
+    block_ends is_stray c.args.text.now c.each.size c.strays_at-run.result c.each.invariant.front (omega arith) c.strays_at-run.ensures.front (omega arith)
+
+pub each-preserved : goal.each-preserved
+each-preserved c = record {
+  front = block_passed is_stray c.args.text.now c.each.size c.strays_at-run.result c.each.invariant.front (omega arith) c.strays_at-run.ensures.front (omega arith);
+  within = omega arith;
+}
