@@ -21,3 +21,4 @@ pub mod WordsBack
 pub mod Characters
 mod Vectors
 pub mod NoReturns
+pub mod WholeLines

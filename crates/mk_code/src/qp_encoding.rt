@@ -1,5 +1,5 @@
 //! Encoding as quoted-printable (RFC 2045, 6.7).
-ghost use Rattle.std.specs.Prelude.{◌≡◌, ◌≢◌, ◌<◌, ◌≤◌, ◌+◌, ◌-◌, ◌==◌, ◌++◌, ◌∷◌, [], ℕ, List, length, take, drop, IfOk, OnOk, IfSome, MatchOption};
+ghost use Rattle.std.specs.Prelude.{◌≡◌, ◌≢◌, ◌<◌, ◌≤◌, ◌+◌, ◌-◌, ◌==◌, ◌++◌, ◌∷◌, [], ℕ, List, true, length, take, drop, IfOk, OnOk, IfSome, MatchOption};
 ghost use Rattle.std.specs.List.{prefix_len};
 ghost use Rattle.mk_line.specs.Ascii.{is_blank as blank};
 ghost use Rattle.mk_line.specs.Lines.{is_nil};
@@ -78,6 +78,9 @@ fn split_at_crlf(bytes: &[u8]) -> Option<(&[u8], &[u8])>
 fn push_packed(out: &mut Vec<u8>, line: &[u8], eol: &[u8]) -> Result<(), AllocError>
     ensures { OnOk result (out.new.items ≡ out.old.items ++ packed eol.now 0 line.now) }
 {
+    if stands_whole(line) {
+        return out.extend_from_slice(line);
+    }
     let mut rest = line;
     let mut column = 0;
     while let Some((byte, more)) = rest.split_first() {
@@ -88,6 +91,19 @@ fn push_packed(out: &mut Vec<u8>, line: &[u8], eol: &[u8]) -> Result<(), AllocEr
         rest = &more[copied..];
     }
     Ok(())
+}
+
+// Whether a logical line stands for itself on one output line, as most lines of a text do; one or no byte isn't looked at.
+fn stands_whole(line: &[u8]) -> bool
+    ensures { result ≡ true → (eol : List ℕ) → packed eol 0 line.now ≡ line.now }
+{
+    let [first, .., last] = line else {
+        return false;
+    };
+    if line.len() > WIDEST || is_guarded(*first) || is_blank(*last) {
+        return false;
+    }
+    quiet_front(line) == line.len()
 }
 
 // Ends the output line by a soft break where a byte's form doesn't fit on it, and says at which column the
