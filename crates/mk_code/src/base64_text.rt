@@ -235,10 +235,10 @@ fn stray_front(text: &[u8]) -> usize
     let mut size = 0;
     'each: while LANES <= text.len() - size {
         let run = strays_at(text, size);
-        size += run;
         if run < LANES {
-            return size;
+            return size + run;
         }
+        size += LANES;
     }
     size + last_strays(&text[size..])
 }
@@ -259,10 +259,10 @@ pub(crate) fn letter_front(text: &[u8]) -> usize
     let mut size = 0;
     'each: while LANES <= text.len() - size {
         let run = letters_at(text, size);
-        size += run;
         if run < LANES {
-            return size;
+            return size + run;
         }
+        size += LANES;
     }
     size + last_letters(&text[size..])
 }

@@ -199,10 +199,10 @@ fn quiet_front(bytes: &[u8]) -> usize
     let mut size = 0;
     'each: while LANES < bytes.len() - size {
         let run = quiet_at(bytes, size);
-        size += run;
         if run < LANES {
-            return size;
+            return size + run;
         }
+        size += LANES;
     }
     let last = bytes.len() - LANES;
     last + quiet_at(bytes, last)

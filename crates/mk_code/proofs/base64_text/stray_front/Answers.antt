@@ -1,4 +1,4 @@
-use Rattle.std.proofs.Common.{arith}
+use Rattle.std.proofs.Common.{◌≡◌, ◌∙◌, sym, refl, arith}
 use Rattle.mk_code.specs.inner.Strays.{is_stray}
 use Rattle.mk_line.proofs.LaneRuns.{block_ends, block_passed}
 use Rattle.mk_code.proofs.base64_text.stray_front.Goals as goal
@@ -9,6 +9,8 @@ returns-then-run-lt-LANES-clause-front c =
 
 pub each-preserved : goal.each-preserved
 each-preserved c = record {
-  front = block_passed is_stray c.args.text.now c.each.size c.strays_at-run.result c.each.invariant.front (omega arith) c.strays_at-run.ensures.front (omega arith);
+  front =
+      let all : c.strays_at-run.result ≡ 16 = omega arith in
+      block_passed is_stray c.args.text.now c.each.size 16 c.each.invariant.front (omega arith) (sym all ∙ c.strays_at-run.ensures.front) refl;
   within = omega arith;
 }

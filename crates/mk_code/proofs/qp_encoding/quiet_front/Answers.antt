@@ -1,4 +1,4 @@
-use Rattle.std.proofs.Common.{arith}
+use Rattle.std.proofs.Common.{◌≡◌, ◌∙◌, sym, refl, arith}
 use Rattle.mk_code.specs.QuotedPrintable.{is_quiet}
 use Rattle.mk_line.proofs.LaneRuns.{block_ends, block_passed}
 use Rattle.mk_code.proofs.LastBlocks.{last_block}
@@ -10,7 +10,9 @@ returns-then-run-lt-LANES-clause-front c =
 
 pub each-preserved : goal.each-preserved
 each-preserved c = record {
-  front = block_passed is_quiet c.args.bytes.now c.each.size c.quiet_at-run.result c.each.invariant.front (omega arith) c.quiet_at-run.ensures.front (omega arith);
+  front =
+      let all : c.quiet_at-run.result ≡ 16 = omega arith in
+      block_passed is_quiet c.args.bytes.now c.each.size 16 c.each.invariant.front (omega arith) (sym all ∙ c.quiet_at-run.ensures.front) refl;
   within = omega arith;
 }
 
