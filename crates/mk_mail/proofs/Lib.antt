@@ -13,3 +13,4 @@ pub mod MailChains
 pub mod FilteredMail
 pub mod RoundsMade
 pub mod SectionsApart
+pub mod LackedNames

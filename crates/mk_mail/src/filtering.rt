@@ -289,6 +289,9 @@ fn remove_all<'a>(
     ensures names { IfOk result (λ r. texts_of r.items ≡ others name.now (texts_of names.entry.items)) }
     ensures edits { OnOk result (plain_edits edits.new.items ≡ plain_edits edits.old.items ++ map (λ own. RemoveField path.now name.now 1) (those name.now (texts_of names.entry.items))) }
 {
+    if !has_name(&names, name) {
+        return Ok(names);
+    }
     let alloc = *names.allocator();
     let mut list = Vec::with_capacity(alloc, names.len())?;
     for own in names {
