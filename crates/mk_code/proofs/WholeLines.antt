@@ -1,12 +1,11 @@
 -- A logical line that stands for itself on one output line.
-use Rattle.std.proofs.Common.{◌≡◌, ◌==◌, ◌<◌, ◌≤◌, ◌+◌, ◌-◌, ℕ, suc, zero, Bool, true, false, not, List, [], ◌∷◌, ◌++◌, refl, ap, sym, ◌∙◌, length, length-append, get_or, arith, inl, inr}
+use Rattle.std.proofs.Common.{◌≡◌, ◌==◌, ◌<◌, ◌≤◌, ◌+◌, ◌-◌, ℕ, suc, zero, true, false, List, [], ◌∷◌, ◌++◌, refl, ap, sym, ◌∙◌, length, length-append, get_or, arith, inl, inr}
 use Rattle.std.proofs.lemmas.Bool.{cases_Bool, and_parts, le-leb, ne_eqb}
 use Rattle.std.specs.Prelude.{nat_le}
 use Rattle.std.specs.List.{prefix_len, list_all}
-use Rattle.std.proofs.lemmas.List.Sums.{prefix_len-le-length}
 use Rattle.mk_line.specs.Ascii.{is_blank}
 use Rattle.mk_line.specs.Lines.{is_nil}
-use Rattle.mk_code.specs.QuotedPrintable.{form, is_guarded, is_quiet, packed}
+use Rattle.mk_code.specs.QuotedPrintable.{is_guarded, is_quiet, packed}
 use Rattle.mk_code.proofs.Packing.{packed_run}
 
 all_quiet : (xs : List ℕ) → prefix_len is_quiet xs ≡ length xs → list_all is_quiet xs ≡ true

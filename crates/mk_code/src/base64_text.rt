@@ -11,7 +11,7 @@ ghost use Rattle.mk_code.specs.inner.Decoded.{HasDecoded, IsUndecoded, IsUngroup
 ghost use Rattle.mk_code.specs.inner.Strays.{is_stray};
 ghost use Rattle.mk_head.specs.declared.encodings.Encoding.TheVariants.{Base64};
 
-use crate::decoding::CodeError;
+use crate::decoding::{CodeError, with_room};
 use crate::lanes::{LANES, letters_at, strays_at};
 use base64::DecodeAllocError;
 use base64::engine::general_purpose::{STANDARD, STANDARD_NO_PAD};
@@ -108,12 +108,13 @@ fn push_lines(text: &mut Vec<u8>, letters: &[u8], ending: &[u8]) -> Result<(), A
 
 /// The bytes whose encoding the letters before the first `=` are. They are decoded block by block, so that no second text of
 /// letters is kept.
-pub(crate) fn decode(alloc: Global, text: &[u8]) -> Result<Vec<u8>, CodeError>
+pub(crate) fn decode(memory: Vec<u8>, text: &[u8]) -> Result<Vec<u8>, CodeError>
     ensures content { IfOk result (λ bytes. IsBase64Of text.now bytes.items) }
     ensures refused { IfErr result (λ error. IsRefused Base64 text.now error) }
 {
+    let alloc = *memory.allocator();
     let mut rest = before_equals(text);
-    let mut out = Vec::with_capacity(alloc, rest.len() / GROUP * GROUP_BYTES + 2 * GROUP_BYTES)?;
+    let mut out = with_room(memory, rest.len() / GROUP * GROUP_BYTES + 2 * GROUP_BYTES)?;
     let mut found = Vec::with_capacity(alloc, GROUP + BLOCK.min(rest.len()))?;
     'each: while !rest.is_empty() {
         let (front, behind) = rest.split_at(BLOCK.min(rest.len()));

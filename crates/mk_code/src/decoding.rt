@@ -1,5 +1,5 @@
 //! Decoding the content of a part by its transfer encoding (RFC 2045, 6).
-ghost use Rattle.std.specs.Prelude.{◌≡◌, IfOk, IfErr, Err};
+ghost use Rattle.std.specs.Prelude.{◌≡◌, [], IfOk, IfErr, Err};
 ghost use Rattle.mk_code.specs.Contents.{IsContent, IsRefused};
 ghost use Rattle.mk_code.specs.declared.decoding.CodeError.TheVariants.{Memory};
 
@@ -37,10 +37,41 @@ pub fn decode(alloc: Global, encoding: Encoding, text: &[u8]) -> Result<Vec<u8>,
     ensures refused { IfErr result (λ error. IsRefused encoding text.now error) }
     ensures unknown { encoding ≡ Encoding.Other → result ≡ Err CodeError.UnknownEncoding }
 {
+    decode_in(Vec::new(alloc), encoding, text)
+}
+
+/// Does the same in memory that is there already, whatever bytes it holds: its room is taken as far as the content wants it,
+/// and the rest is given back. After an error it is gone.
+pub fn decode_in(memory: Vec<u8>, encoding: Encoding, text: &[u8]) -> Result<Vec<u8>, CodeError>
+    ensures content { IfOk result (λ bytes. IsContent encoding text.now bytes.items) }
+    ensures refused { IfErr result (λ error. IsRefused encoding text.now error) }
+    ensures unknown { encoding ≡ Encoding.Other → result ≡ Err CodeError.UnknownEncoding }
+{
     match encoding {
-        Encoding::Identity => Ok(Vec::from_slice(alloc, text)?),
-        Encoding::Qp => Ok(qp_decoding::decode(alloc, text)?),
-        Encoding::Base64 => base64_text::decode(alloc, text),
+        Encoding::Identity => Ok(copied(memory, text)?),
+        Encoding::Qp => Ok(qp_decoding::decode(memory, text)?),
+        Encoding::Base64 => base64_text::decode(memory, text),
         Encoding::Other => Err(CodeError::UnknownEncoding),
     }
+}
+
+fn copied(memory: Vec<u8>, text: &[u8]) -> Result<Vec<u8>, AllocError>
+    ensures { IfOk result (λ copy. copy.items ≡ text.now) }
+{
+    let mut copy = with_room(memory, text.len())?;
+    copy.extend_from_slice(text)?;
+    Ok(copy)
+}
+
+/// Memory without bytes, and with room for so many. Where it has more than twice that room, the rest is given back.
+pub(crate) fn with_room(memory: Vec<u8>, size: usize) -> Result<Vec<u8>, AllocError>
+    ensures { IfOk result (λ room. room.items ≡ []) }
+{
+    let mut room = memory;
+    room.clear();
+    if room.capacity() / 2 > size {
+        room.shrink_to(size);
+    }
+    room.reserve_exact(size)?;
+    Ok(room)
 }

@@ -1,6 +1,6 @@
 //! Transfer encodings and encoded words of Internet messages (RFC 2045, 6.7 and 6.8; RFC 2047).
 //!
-//! Only `decode` refuses; the other calls fail only when memory runs out.
+//! Only `decode` and `decode_in` refuse; the other calls fail only when memory runs out.
 #![tactic(auto)]
 
 mod base64_fronts;
@@ -16,7 +16,7 @@ mod words_encoding;
 
 pub use base64_fronts::decode_front;
 pub use base64_text::{b64_encode, push_b64};
-pub use decoding::{CodeError, decode};
+pub use decoding::{CodeError, decode, decode_in};
 pub use mk_head::Encoding;
 pub use qp_encoding::{push_qp, qp_encode};
 pub use words_decoding::words_decode;

@@ -3,8 +3,9 @@ ghost use Rattle.std.specs.Prelude.{◌≡◌, ◌<◌, ◌++◌, ◌≤◌, tru
 ghost use Rattle.mk_line.specs.Marks.{trimmed};
 ghost use Rattle.mk_code.specs.QuotedPrintable.{qp_decoded, unquoted, pair_at, is_hex_digit as hex_digit, digit_value as value_of};
 
+use crate::decoding::with_room;
 use mk_line::{cut, split_at_first, trimmed};
-use std::alloc::{AllocError, Global};
+use std::alloc::AllocError;
 
 const EQUALS: u8 = b'=';
 
@@ -12,10 +13,10 @@ const EQUALS: u8 = b'=';
 const DIGITS: usize = 2;
 
 /// What the text stands for.
-pub(crate) fn decode(alloc: Global, text: &[u8]) -> Result<Vec<u8>, AllocError>
+pub(crate) fn decode(memory: Vec<u8>, text: &[u8]) -> Result<Vec<u8>, AllocError>
     ensures { IfOk result (λ bytes. bytes.items ≡ qp_decoded text.now) }
 {
-    let mut out = Vec::with_capacity(alloc, text.len())?;
+    let mut out = with_room(memory, text.len())?;
     for line in cut(text) {
         push_line(&mut out, line.content, line.ending.bytes())?;
     }

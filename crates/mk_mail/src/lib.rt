@@ -14,7 +14,7 @@ pub use letters::{Letters, field_edits, field_edits_at};
 pub use mk_build::{Attach, AttachError, BuildError, attach, build, build_in_utf8};
 pub use mk_mailbox::{Fault, FromLines, MailFault, Mailbox, Place, Sink, Source};
 pub use mk_view::{
-    ExtractError, Leaf, NameForm, content, extract, leaves, leaves_in, list, names, numbered,
-    push_path, push_type,
+    ExtractError, Leaf, NameForm, content, content_in, extract, leaves, leaves_in, list, names,
+    numbered, push_path, push_type,
 };
 pub use patterns::NamePattern;

@@ -16,8 +16,9 @@ use crate::saying::{report_exists, report_undecoded, say_stored};
 use crate::showing::read_doc;
 use mk_mailbox::{Fault, Sink, Source};
 use mk_transfer::{Cause, Status, Stop, give_up, reading, send, writing};
-use mk_view::{ExtractError, Leaf, NameForm, content, numbered};
+use mk_view::{ExtractError, Leaf, NameForm, content_in, numbered};
 use std::alloc::{AllocError, Global};
+use std::mem;
 
 /// How many names are tried for a leaf: its own, and that with the numbers from 1 on after it.
 const MOST_TRIES: u64 = 100;
@@ -267,17 +268,19 @@ fn unpack_all<O: Sink, E: Sink, F: Folder>(
         (failures (O.failures out.new) (E.failures err.new) (F.failures dir.new))) }
 {
     let mut refused = false;
+    let mut memory = Vec::new(alloc);
     for leaf in leaves {
-        refused |= unpack_leaf(alloc, manner, &leaf, out, err, dir)?;
+        refused |= unpack_leaf(alloc, manner, &leaf, &mut memory, out, err, dir)?;
     }
     Ok(refused)
 }
 
-// Unpacks one leaf. Answers whether it was reported.
+// Unpacks one leaf, by way of memory in which the next can stand. Answers whether it was reported.
 fn unpack_leaf<O: Sink, E: Sink, F: Folder>(
     alloc: Global,
     manner: Manner,
     leaf: &Leaf<'_>,
+    memory: &mut Vec<u8>,
     out: &mut O,
     err: &mut E,
     dir: &mut F,
@@ -299,7 +302,7 @@ fn unpack_leaf<O: Sink, E: Sink, F: Folder>(
         (failures (O.failures out.old) (E.failures err.old) (F.failures dir.old))
         (failures (O.failures out.new) (E.failures err.new) (F.failures dir.new))) }
 {
-    let text = match content(alloc, &leaf.section) {
+    let text = match content_in(mem::replace(memory, Vec::new(alloc)), &leaf.section) {
         Ok(text) => text,
         Err(ExtractError::Memory) => return Err(Stop::Memory),
         Err(reason) => {
@@ -307,7 +310,9 @@ fn unpack_leaf<O: Sink, E: Sink, F: Folder>(
             return Ok(true);
         }
     };
-    match put_free(alloc, dir, &leaf.name, &text, manner.over)? {
+    let put = put_free(alloc, dir, &leaf.name, &text, manner.over)?;
+    *memory = text;
+    match put {
         Some(target) => {
             say_stored(alloc, out, manner.report, leaf, &target)?;
             Ok(false)

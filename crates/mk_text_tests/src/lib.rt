@@ -16,6 +16,8 @@ mod memory;
 #[cfg(test)]
 mod params;
 #[cfg(test)]
+mod rooms;
+#[cfg(test)]
 mod types;
 #[cfg(test)]
 mod words;

@@ -2,7 +2,7 @@
 //! `checks/refuse` runs each test here with each growth refused in turn. Tests of the same calls beside these want the
 //! answer at the first call.
 use mk_code::{
-    CodeError, Encoding, b64_encode, decode, decode_front, push_b64, push_qp, qp_encode,
+    CodeError, Encoding, b64_encode, decode, decode_front, decode_in, push_b64, push_qp, qp_encode,
     words_decode, words_encode,
 };
 use mk_head::{content_type, header, push_multipart_type, unfold, without_endings};
@@ -163,6 +163,20 @@ fn memory_decode(rt: HostRuntime) {
     for (encoding, text, wanted) in ENCODED {
         let found = match decode(rt.alloc(), encoding, text) {
             Err(CodeError::Memory) => decode(rt.alloc(), encoding, text),
+            found => found,
+        };
+        match found {
+            Ok(content) => assert!(rt; wanted == Ok(content.as_slice())),
+            Err(error) => assert!(rt; wanted == Err(error)),
+        }
+    }
+}
+
+#[test]
+fn memory_decode_in(rt: HostRuntime) {
+    for (encoding, text, wanted) in ENCODED {
+        let found = match decode_in(Vec::new(rt.alloc()), encoding, text) {
+            Err(CodeError::Memory) => decode_in(Vec::new(rt.alloc()), encoding, text),
             found => found,
         };
         match found {

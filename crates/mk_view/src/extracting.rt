@@ -4,7 +4,7 @@ ghost use Rattle.mk_tree.specs.Documents.{tree};
 ghost use Rattle.mk_tree.specs.Sections.{section_at};
 ghost use Rattle.mk_view.specs.Extracts.{IsContentOf, IsExtract, IsExtractRefused, IsRefusedOf, extract_reason};
 
-use mk_code::{CodeError, decode};
+use mk_code::{CodeError, Encoding, decode_in};
 use mk_tree::{Doc, Kind, Section};
 use std::alloc::Global;
 use thiserror::Error;
@@ -44,23 +44,31 @@ pub fn content(alloc: Global, section: &Section<'_>) -> Result<Vec<u8>, ExtractE
     ensures content { IfOk result (λ bytes. IsExtract (Some section.now) bytes.items) }
     ensures refused { IfErr result (λ error. IsExtractRefused (Some section.now) error) }
 {
-    match content_of(alloc, section) {
+    content_in(Vec::new(alloc), section)
+}
+
+/// The same in memory that is there already, whatever bytes it holds. After an error it is gone.
+pub fn content_in(memory: Vec<u8>, section: &Section<'_>) -> Result<Vec<u8>, ExtractError>
+    ensures content { IfOk result (λ bytes. IsExtract (Some section.now) bytes.items) }
+    ensures refused { IfErr result (λ error. IsExtractRefused (Some section.now) error) }
+{
+    match content_of(memory, section) {
         Ok(bytes) => Ok(bytes),
         Err(error) => Err(extract_error(error)),
     }
 }
 
 // The content of a section, decoded where it is a leaf.
-fn content_of(alloc: Global, section: &Section<'_>) -> Result<Vec<u8>, CodeError>
+fn content_of(memory: Vec<u8>, section: &Section<'_>) -> Result<Vec<u8>, CodeError>
     ensures content { IfOk result (λ bytes. IsContentOf section.now bytes.items) }
     ensures refused { IfErr result (λ error. IsRefusedOf section.now error) }
 {
     match section.kind() {
         Kind::Leaf => {
-            let encoding = section.encoding(alloc)?;
-            decode(alloc, encoding, section.content())
+            let encoding = section.encoding(*memory.allocator())?;
+            decode_in(memory, encoding, section.content())
         }
-        Kind::Multi | Kind::Message => Ok(Vec::from_slice(alloc, section.content())?),
+        Kind::Multi | Kind::Message => { decode_in(memory, Encoding::Identity, section.content()) }
     }
 }
 

@@ -10,7 +10,7 @@ mod text_names;
 mod typing;
 mod writing;
 
-pub use extracting::{ExtractError, content, extract};
+pub use extracting::{ExtractError, content, content_in, extract};
 pub use giving::numbered;
 pub use listing::list;
 pub use naming::said_name;

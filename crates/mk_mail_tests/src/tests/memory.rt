@@ -4,7 +4,7 @@ use super::calls::read;
 use mk_line::Ending;
 use mk_mail::{
     Attach, AttachError, BuildError, ExtractError, NameForm, attach, build, build_in_utf8, content,
-    extract, leaves_in, list, names, numbered, push_path, push_type,
+    content_in, extract, leaves_in, list, names, numbered, push_path, push_type,
 };
 use mk_tree::Doc;
 use mk_view::{media_type, said_name, text_name};
@@ -79,6 +79,22 @@ fn memory_content(rt: HostRuntime) {
     let section = doc.section(&[1, 2]).expect(&rt, "a section");
     let bytes = match content(rt.alloc(), &section) {
         Err(ExtractError::Memory) => content(rt.alloc(), &section),
+        bytes => bytes,
+    };
+    match bytes {
+        Ok(bytes) => assert_eq!(rt; bytes.as_slice(), b"hi".as_slice()),
+        Err(_) => assert!(rt; false, "memory"),
+    }
+}
+
+#[test]
+fn memory_content_in(rt: HostRuntime) {
+    let Ok(doc) = mixed(rt.alloc()) else {
+        return;
+    };
+    let section = doc.section(&[1, 2]).expect(&rt, "a section");
+    let bytes = match content_in(Vec::new(rt.alloc()), &section) {
+        Err(ExtractError::Memory) => content_in(Vec::new(rt.alloc()), &section),
         bytes => bytes,
     };
     match bytes {

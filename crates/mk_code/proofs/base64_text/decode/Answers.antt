@@ -1,12 +1,12 @@
-use Rattle.std.proofs.Common.{[], List, ℕ, ap, sym, ◌∙◌, subst}
+use Rattle.std.proofs.Common.{[], List, ℕ, ap, sym, subst}
 use Rattle.std.specs.List.{filter}
 use Rattle.mk_code.specs.Base64Text.{IsBase64Of, is_letter}
 use Rattle.mk_code.specs.inner.Decoded.{HasDecoded, IsUndecoded}
-use Rattle.mk_code.proofs.Base64Blocks.{IsUnderWay, block_gathered, block_decoded, all_decoded, refused_groups, refused_end, not_begun, cut_in_two, emptied}
+use Rattle.mk_code.proofs.Base64Blocks.{block_gathered, block_decoded, all_decoded, refused_groups, refused_end, not_begun, cut_in_two, emptied}
 use Rattle.mk_code.proofs.base64_text.decode.Goals as goal
 
 pub each-init : goal.each-init
-each-init c = not_begun c.args.text.now c.in_ok-out.out.items c.in_ok-found.found.items c.before_equals-rest.result.now c.in_ok-out.ensures.items c.in_ok-found.ensures.items (ap (filter is_letter) c.before_equals-rest.ensures)
+each-init c = not_begun c.args.text.now c.in_ok-out.out.items c.in_ok-found.found.items c.before_equals-rest.result.now c.in_ok-out.ensures c.in_ok-found.ensures.items (ap (filter is_letter) c.before_equals-rest.ensures)
 
 pub returns-in-Err-clause-refused : goal.returns-in-Err-clause-refused
 returns-in-Err-clause-refused c =

@@ -36,11 +36,11 @@ returns-in_err-report_undecoded-in-Err g c =
       well = tt;
     })
 
-pub returns-in-Some-clause-all : goal.returns-in-Some-clause-all
-returns-in-Some-clause-all g c =
+pub returns-in_ok-say_stored-in-Some-clause-all : goal.returns-in_ok-say_stored-in-Some-clause-all
+returns-in_ok-say_stored-in-Some-clause-all g c =
     let leaf = leaf_view c.args.leaf.now in
     let content = c.in-Ok.ensures.content in
-    let put = rw (c.deref-2.ensures.value, c.deref-3.ensures.value, c.in-Some.is) at c.in_ok-target.ensures.put in
+    let put = rw (c.deref-2.ensures.value, c.deref-3.ensures.value, c.in-Some.is) at c.in_ok-put.ensures.put in
     let sent = rw c.deref-in-Some.ensures.value at c.in_ok-say_stored-in-Some.ensures in
     λ t here. UnpackedAll-one c.args.manner t leaf _ false _ _ (stored-leaf c.args.manner t leaf _ _ _ _ (rw here content) put) (rw here sent.whole) (Appends-nil _) refl
 
@@ -49,12 +49,12 @@ returns-in_err-say_stored-in-Some-clause-some g c =
     let from = err_from_is_err_and c.from_residual-in_err-say_stored-in-Some.result c.from_residual-in_err-say_stored-in-Some.ensures.1 in
     let leaf = leaf_view c.args.leaf.now in
     let content = c.in-Ok.ensures.content in
-    let put = rw (c.deref-2.ensures.value, c.deref-3.ensures.value, c.in-Some.is) at c.in_ok-target.ensures.put in
+    let put = rw (c.deref-2.ensures.value, c.deref-3.ensures.value, c.in-Some.is) at c.in_ok-put.ensures.put in
     let stopped = rw c.deref-in-Some.ensures.value at c.in_err-say_stored-in-Some.ensures in
     rw from.1 (λ t here. UnpackedSome-one c.args.manner t leaf _ _ _ (stored-leaf c.args.manner t leaf _ _ _ _ (rw here content) put) (rw here stopped.front) (AppendsFront-none _ _))
 
-pub returns-clause-all : goal.returns-clause-all
-returns-clause-all g c =
+pub returns-in_ok-report_exists-in-None-clause-all : goal.returns-in_ok-report_exists-in-None-clause-all
+returns-in_ok-report_exists-in-None-clause-all g c =
     let leaf = leaf_view c.args.leaf.now in
     let content = c.in-Ok.ensures.content in
     let none = rw c.deref-2.ensures.value at (c.put_free.ensures.full (search rules)) in
@@ -70,10 +70,10 @@ returns-in_err-report_exists-in-None-clause-some g c =
     let stopped = rw c.deref-in-None.ensures.value at c.in_err-report_exists-in-None.ensures in
     rw from.1 (λ t here. UnpackedSome-one c.args.manner t leaf _ _ _ (crowded-leaf c.args.manner t leaf c.in-Ok.text.items _ _ (rw here content) none) (AppendsFront-none _ _) stopped.front)
 
-pub returns-in_err-target-clause-some : goal.returns-in_err-target-clause-some
-returns-in_err-target-clause-some g c =
-    let from = err_from_is_err_and c.from_residual-in_err-target.result c.from_residual-in_err-target.ensures.1 in
+pub returns-in_err-put-clause-some : goal.returns-in_err-put-clause-some
+returns-in_err-put-clause-some g c =
+    let from = err_from_is_err_and c.from_residual-in_err-put.result c.from_residual-in_err-put.ensures.1 in
     let leaf = leaf_view c.args.leaf.now in
     let content = c.in-Ok.ensures.content in
-    let stopped = rw (c.deref-2.ensures.value, c.deref-3.ensures.value) at c.in_err-target.ensures.stopped in
+    let stopped = rw (c.deref-2.ensures.value, c.deref-3.ensures.value) at c.in_err-put.ensures.stopped in
     rw from.1 (λ t here. UnpackedSome-none c.args.manner t leaf _ _ _ _ (front-leaf c.args.manner.over t leaf _ _ _ (rw here content) stopped))
