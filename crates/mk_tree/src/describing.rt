@@ -214,6 +214,30 @@ fn encoding_by(alloc: Global, said: Option<Field<'_>>) -> Result<Encoding, Alloc
     }
 }
 
+// The value of a field that was found.
+fn value_of(alloc: Global, said: Option<Field<'_>>) -> Result<Option<Vec<u8>>, AllocError>
+    ensures { IfOk result (λ v. option_map (λ b. b.items) v ≡ said_by said.entry) }
+{
+    match said {
+        Some(field) => Ok(Some(unfold(alloc, &field)?)),
+        None => Ok(None),
+    }
+}
+
+/// The value of the first content type at the start of a text and the transfer encoding there, found in one pass.
+pub(crate) fn content_fields_in(
+    alloc: Global,
+    head: &[u8],
+) -> Result<(Option<Vec<u8>>, Encoding), AllocError>
+    ensures media { IfOk result (λ r. option_map (λ b. b.items) r.0 ≡ field_value (codes "Content-Type") (fields_from false (lines_of head.now))) }
+    ensures encoding { IfOk result (λ r. r.1 ≡ header_encoding (fields_from false (lines_of head.now))) }
+{
+    let Said { media, encoding } = said_in(head);
+    let value = value_of(alloc, media)?;
+    let encoding = encoding_by(alloc, encoding)?;
+    Ok((value, encoding))
+}
+
 /// The transfer encoding that the fields at the start of a text say.
 pub(crate) fn encoding_in(alloc: Global, head: &[u8]) -> Result<Encoding, AllocError>
     ensures { IfOk result (λ e. e ≡ header_encoding (fields_from false (lines_of head.now))) }

@@ -4,7 +4,7 @@ ghost use Rattle.mk_line.specs.Lines.{cut as lines_of, text_of};
 ghost use Rattle.mk_tree.specs.Sections.{unended as unended_lines};
 
 use crate::children::Children;
-use crate::describing::{encoding_in, value_in};
+use crate::describing::{content_fields_in, encoding_in, value_in};
 use crate::node::Node;
 use crate::shapes::Kind;
 use mk_head::{Encoding, Field, Fields, each_field};
@@ -43,7 +43,7 @@ impl<'a> Model for Section<'a> {
 }
 
 impl<'a> Section<'a> {
-    ghost use Rattle.std.specs.Prelude.{◌≡◌, ◌<◌, ◌+◌, ◌^◌, length, IfOk};
+    ghost use Rattle.std.specs.Prelude.{◌≡◌, ◌<◌, ◌+◌, ◌^◌, codes, length, IfOk};
     ghost use Rattle.std.specs.Option.{option_map};
     ghost use Rattle.mk_line.specs.Lines.{text_of};
     ghost use Rattle.mk_head.specs.Fields.{counted, find_field};
@@ -229,6 +229,16 @@ impl<'a> Section<'a> {
     {
         let (head, _) = self.raw.split_at(self.node.fields);
         encoding_in(alloc, head)
+    }
+
+    /// The value of its first Content-Type field, and its transfer encoding as `encoding` gives it: what `value` and `encoding`
+    /// say in two passes over its fields, in one.
+    pub fn content_fields(&self, alloc: Global) -> Result<(Option<Vec<u8>>, Encoding), AllocError>
+        ensures media { IfOk result (λ r. option_map (λ bytes. bytes.items) r.0 ≡ field_value (codes "Content-Type") (field_lines self.now.entity)) }
+        ensures encoding { IfOk result (λ r. r.1 ≡ header_encoding (field_lines self.now.entity)) }
+    {
+        let (head, _) = self.raw.split_at(self.node.fields);
+        content_fields_in(alloc, head)
     }
 
     /// The sections directly below it, in order: the parts of a multipart, or the one message of a message.

@@ -205,6 +205,9 @@ fn what_fields_say(rt: HostRuntime) -> Result<(), Fail> {
     same(&rt, &value.expect(&rt, "a value"), b" s t");
     assert!(rt; root.value(alloc, b"date")?.is_none());
     assert_eq!(rt; root.encoding(alloc)?, Encoding::Base64);
+    let (value, encoding) = root.content_fields(alloc)?;
+    assert!(rt; value.is_none());
+    assert_eq!(rt; encoding, Encoding::Base64);
     match describe(
         alloc,
         b"Content-Type: multipart/digest; boundary=b\n",

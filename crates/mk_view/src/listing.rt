@@ -7,7 +7,7 @@ ghost use Rattle.mk_tree.specs.Sections.{body_lines, body_text};
 ghost use Rattle.mk_view.specs.Listed.{Listed, listed_from};
 ghost use Rattle.mk_view.specs.Listing.{encoding_name as name_of_encoding, kind_name as name_of_kind, line_counts, listing, listing_line, nature, places};
 
-use crate::typing::push_type;
+use crate::typing::push_said_type;
 use crate::writing::{push_column, push_number_column, push_path};
 use mk_head::Encoding;
 use mk_line::line_count;
@@ -128,8 +128,9 @@ fn push_nature(alloc: Global, lines: &mut Vec<u8>, section: &Section<'_>) -> Res
 {
     push_column(lines, kind_name(section.kind()))?;
     lines.push(SPACE)?;
-    push_type(alloc, lines, section)?;
-    push_column(lines, encoding_name(section.encoding(alloc)?))
+    let (value, encoding) = section.content_fields(alloc)?;
+    push_said_type(alloc, lines, value, section.default_message())?;
+    push_column(lines, encoding_name(encoding))
 }
 
 fn push_places(lines: &mut Vec<u8>, section: &Section<'_>) -> Result<(), AllocError>

@@ -1,6 +1,7 @@
 //! What the fields of a section say of it (RFC 2045, 5.1, 5.2 and 6).
 ghost use Rattle.std.specs.Prelude.{◌≡◌, ◌++◌, [], IfOk, OnOk};
-ghost use Rattle.mk_head.specs.Types.{default_type as type_by_default};
+ghost use Rattle.std.specs.Option.{option_map};
+ghost use Rattle.mk_head.specs.Types.{default_type as type_by_default, type_by};
 ghost use Rattle.mk_head.specs.ValueViews.{media_type_of};
 ghost use Rattle.mk_view.specs.Listing.{type_of, type_text};
 
@@ -14,7 +15,24 @@ const SLASH: u8 = b'/';
 pub fn push_type(alloc: Global, text: &mut Vec<u8>, section: &Section<'_>) -> Result<(), AllocError>
     ensures { OnOk result (text.new.items ≡ text.old.items ++ type_text (type_of section.now)) }
 {
-    let media = media_type(alloc, section)?;
+    push_media(text, &media_type(alloc, section)?)
+}
+
+/// The same of the value of a Content-Type field, or none, in a digest or not.
+pub(crate) fn push_said_type(
+    alloc: Global,
+    text: &mut Vec<u8>,
+    value: Option<Vec<u8>>,
+    digest: bool,
+) -> Result<(), AllocError>
+    ensures { OnOk result (text.new.items ≡ text.old.items ++ type_text (type_by digest (option_map (λ bytes. bytes.items) value))) }
+{
+    push_media(text, &said_type(alloc, value, digest)?)
+}
+
+fn push_media(text: &mut Vec<u8>, media: &ContentType) -> Result<(), AllocError>
+    ensures { OnOk result (text.new.items ≡ text.old.items ++ type_text (media_type_of media.now)) }
+{
     text.extend_from_slice(&media.main)?;
     text.push(SLASH)?;
     text.extend_from_slice(&media.sub)
@@ -24,9 +42,17 @@ pub fn push_type(alloc: Global, text: &mut Vec<u8>, section: &Section<'_>) -> Re
 pub fn media_type(alloc: Global, section: &Section<'_>) -> Result<ContentType, AllocError>
     ensures { IfOk result (λ media. media_type_of media ≡ type_of section.now) }
 {
-    match section.value(alloc, b"Content-Type")? {
+    let value = section.value(alloc, b"Content-Type")?;
+    said_type(alloc, value, section.default_message())
+}
+
+// The content type of the value of a field, or none.
+fn said_type(alloc: Global, value: Option<Vec<u8>>, digest: bool) -> Result<ContentType, AllocError>
+    ensures { IfOk result (λ media. media_type_of media ≡ type_by digest (option_map (λ bytes. bytes.items) value)) }
+{
+    match value {
         Some(value) => content_type(alloc, &value),
-        None => default_type(alloc, section.default_message()),
+        None => default_type(alloc, digest),
     }
 }
 

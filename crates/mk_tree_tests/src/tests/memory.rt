@@ -74,6 +74,24 @@ fn memory_encoding(rt: HostRuntime) {
 }
 
 #[test]
+fn memory_content_fields(rt: HostRuntime) {
+    let Ok(doc) = document(
+        rt.alloc(),
+        b"Content-Type: a/b;\n c=d\nContent-Transfer-Encoding: base64\n\naGk=\n",
+    ) else {
+        return;
+    };
+    let root = doc.root();
+    let (value, encoding) = match root.content_fields(rt.alloc()) {
+        Ok(said) => said,
+        Err(_) => root.content_fields(rt.alloc()).expect(&rt, "memory"),
+    };
+    let value = value.expect(&rt, "a value");
+    assert_eq!(rt; value.as_slice(), b" a/b; c=d".as_slice());
+    assert_eq!(rt; encoding, Encoding::Base64);
+}
+
+#[test]
 fn memory_describe(rt: HostRuntime) {
     let head = b"Content-Type: multipart/digest; boundary=b\n";
     let described = match describe(rt.alloc(), head, false) {
