@@ -9,9 +9,11 @@ pub mod GroupMoves
 pub mod Leading
 pub mod FieldsMade
 pub mod SilentFields
+pub mod Gaps
 pub mod PassedNames
 pub mod PassedFields
 pub mod RootEdits
+pub mod GapFields
 pub mod Saved
 pub mod Loadings
 pub mod SavedJournals

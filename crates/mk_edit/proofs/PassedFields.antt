@@ -1,7 +1,6 @@
 -- Fields after others: the k-th of a name, what an edit puts in its place, and where the search goes on after it.
 use Rattle.std.proofs.Common.{◌≡◌, ◌+◌, ◌-◌, ◌<◌, ◌≤◌, ◌++◌, if◌then◌else◌, ℕ, zero, suc, Bool, true, false, not, Option, None, Some, Result, Ok, Err, List, [], ◌∷◌, Bor, IfSome, refl, ap, sym, ◌∙◌, subst, filter, length, drop, arith, inl, inr}
 use Rattle.std.proofs.lemmas.Bool.{cases_Bool}
-use Rattle.std.proofs.lemmas.List.{length-drop}
 use Rattle.std.specs.Option.{option_map}
 use Rattle.mk_line.specs.Lines.{TextLine, cut}
 use Rattle.mk_line.proofs.Cuts.{text_cut, cut_rest}
@@ -128,9 +127,6 @@ pub refused_later : (edit : SilentEdit) (ls : List TextLine) (bytes k : ℕ) (o 
 refused_later edit ls bytes k o b r = subst (IsRefusedBy o) (sym (puts_behind edit ls bytes k b)) (later_refused b.before o (puts (numbered edit k) b.behind) r)
 
 -- the text after the fields that were passed over
-pub passed_within : (text : List ℕ) (bytes k : ℕ) (edit : SilentEdit) → IsBehind (cut text) bytes edit k → bytes ≤ length text
-passed_within text bytes k edit b = omega (arith, b.takes, ap length (text_cut text), ap size (sym b.whole), size_append b.before b.behind)
-
 pub behind_is : (text : List ℕ) (bytes k : ℕ) (edit : SilentEdit) → (b : IsBehind (cut text) bytes edit k) → cut (drop bytes text) ≡ b.behind
 behind_is text bytes k edit b = ap (λ n. cut (drop n text)) (sym b.takes) ∙ cut_rest text b.before b.behind (sym b.whole)
 
@@ -193,7 +189,7 @@ pub put_goes_on : (edit : SilentEdit) (ls : List TextLine) (q : LinePut) → IsR
 put_goes_on edit ls q r h = subst (GoOn edit.name.now edit.k) h (goes_on edit.name edit.k edit.to ls r)
 
 -- where it begins
-pub later_fits : (text : List ℕ) (bytes k : ℕ) (edit : SilentEdit) (rest : List ℕ) (put : FieldEdit) (r : Put) → IsBehind (cut text) bytes edit k → rest ≡ drop bytes text → IsPut r (puts put (cut rest)) → bytes + r.from ≤ length text
-later_fits text bytes k edit rest put r b e m =
-    let fit = puts_fit (cut rest) r (puts put (cut rest)) (puts_is put (cut rest)) m in
-    omega (arith, fit.within, ap length (text_cut rest), ap length e, length-drop bytes text, passed_within text bytes k edit b)
+pub put_inside : (text : List ℕ) (put : FieldEdit) (r : Put) → IsPut r (puts put (cut text)) → r.from ≤ length text
+put_inside text put r m =
+    let fit = puts_fit (cut text) r (puts put (cut text)) (puts_is put (cut text)) m in
+    omega (arith, fit.within, ap length (text_cut text))

@@ -1,17 +1,19 @@
 -- An edit of the root's fields that says nothing of its body is accepted where no open line would stand before another, and
 -- the fields stand where they stood.
-use Rattle.std.proofs.Common.{◌≡◌, ◌+◌, ◌-◌, ◌≤◌, ◌++◌, if◌then◌else◌, ℕ, zero, suc, Bool, true, false, Option, None, Some, Result, Ok, Err, List, [], ◌∷◌, IfErr, refl, ap, sym, ◌∙◌, subst, length, take, drop, arith, length-append}
+use Rattle.std.proofs.Common.{◌≡◌, ◌+◌, ◌-◌, ◌≤◌, ◌<◌, ◌++◌, if◌then◌else◌, ℕ, zero, suc, Bool, true, false, Option, None, Some, Result, Ok, Err, List, [], ◌∷◌, IfErr, refl, ap, sym, ◌∙◌, subst, length, take, drop, arith, length-append}
 use Rattle.std.proofs.Math.Seq.{take-append_seam, drop-append_seam}
+use Rattle.std.proofs.lemmas.Bool.{ltb-true}
 use Rattle.std.proofs.lemmas.List.{length-take-le}
 use Rattle.std.specs.Global.{Vec}
 use Rattle.mk_line.specs.Lines.{TextLine, cut, text_of}
 use Rattle.mk_line.proofs.Cuts.{cut_text, text_cut, text_append}
+use Rattle.mk_head.specs.Split.{option_line}
 use Rattle.mk_head.specs.Splits.{IsRun}
 use Rattle.mk_tree.specs.Kinds.{Kind, Leaf, Message, Multi, kind, kind_at, is_digest}
 use Rattle.mk_tree.specs.Tree.{Entity, leaf, message, multi, entity_head, field_lines, with_fields}
 use Rattle.mk_tree.specs.Documents.{Document, IsStable, levels, tree}
-use Rattle.mk_tree.specs.Sections.{Placed, root_of, head_text, body_text}
-use Rattle.mk_tree.specs.Places.{below, placed}
+use Rattle.mk_tree.specs.Sections.{Placed, root_of, head_text, body_text, body_lines}
+use Rattle.mk_tree.specs.Places.{below, placed, lines_after}
 use Rattle.mk_tree.specs.Reading.{IsWellRead}
 use Rattle.mk_tree.specs.Spans.{size}
 use Rattle.mk_splice.specs.Splices.{spliced}
@@ -229,8 +231,22 @@ root_run text = head_is_run text (1 ∷ []) (root_in text) (root_site text)
 pub root_within : (text : List ℕ) (start size : ℕ) → HasFields text start size → start + size ≤ length text
 root_within text start size h = omega (arith, h.begins, h.takes, head_within text (1 ∷ []) (root_in text) (root_site text))
 
+-- a byte follows them
+pub root_ends : (text : List ℕ) (start size : ℕ) → HasFields text start size → start + size < length text
+root_ends text start taken h =
+    let p = root_in text in
+    let s = root_site text in
+    let front = front_lines text (1 ∷ []) p s in
+    let rest = rest_lines text (1 ∷ []) p s in
+    let own = option_line (entity_head p.entity).separator in
+    let begins : start ≡ size front = h.begins ∙ ap (λ (x : Placed). x.start) s.placed_is in
+    let all : length text ≡ size (front ++ (field_lines p.entity ++ rest)) = sym (ap length (text_cut text)) ∙ ap size (site_lines text (1 ∷ []) p s) in
+    let some : 0 < size own = ltb-true 0 (size own) h.separated in
+    omega (arith, begins, h.takes, all, some, size_append front (field_lines p.entity ++ rest), size_append (field_lines p.entity) rest, size_append (own ++ body_lines p.entity) (lines_after s.around), size_append own (body_lines p.entity))
+
 -- what is put in memory
 pub record RootFit (text : List ℕ) (start : ℕ) (r : Put) : Type 0 where
+  pub before_end : start + r.from < length text
   pub within : start + r.from + r.count ≤ length text
   pub stays : r.kept ≤ r.count
   pub kept : r.kept ≤ length r.lines.items
@@ -239,7 +255,13 @@ pub root_fit : (text : List ℕ) (start size : ℕ) (edit : FieldEdit) (r : Put)
 root_fit text start size edit r h m =
     let fields = cut (head_text (root_in text)) in
     let fit = puts_fit fields r (puts edit fields) (puts_is edit fields) m in
-    record { within = omega (arith, fit.within, ap length (text_cut (head_text (root_in text))), root_within text start size h, h.takes); stays = fit.stays; kept = fit.kept }
+    let long = ap length (text_cut (head_text (root_in text))) in
+    record {
+      before_end = omega (arith, fit.within, long, root_ends text start size h, h.takes);
+      within = omega (arith, fit.within, long, root_within text start size h, h.takes);
+      stays = fit.stays;
+      kept = fit.kept;
+    }
 
 splice_is : (w : PlainSplice) (place count : ℕ) (new : List ℕ) → w.place ≡ place → w.count ≡ count → w.new ≡ new → record { place = place; count = count; new = new } ≡ w
 splice_is w place count new p c n = λ i. record { place = sym p i; count = sym c i; new = sym n i }

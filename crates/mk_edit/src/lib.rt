@@ -7,6 +7,7 @@
 mod commands;
 mod drafts;
 mod errors;
+mod gapped;
 mod grouping;
 pub mod laws;
 mod names;

@@ -1,5 +1,5 @@
 //! A field is looked for after those that were passed over before.
-ghost use Rattle.std.specs.Prelude.{◌≡◌, ◌≤◌, ◌-◌, ◌&&◌, false, drop, length, nat_lt, take, IfOk, IfErr, IfNone, IfSome, List};
+ghost use Rattle.std.specs.Prelude.{◌≡◌, ◌≤◌, ◌<◌, ◌+◌, ◌^◌, ◌&&◌, ℕ, false, drop, length, nat_lt, IfOk, IfErr, IfNone, IfSome, List};
 ghost use Rattle.std.specs.Str.{bytes_eq};
 ghost use Rattle.mk_line.specs.Lines.{cut as lines_of, TextLine};
 ghost use Rattle.mk_head.specs.Splits.{IsRun};
@@ -58,37 +58,21 @@ impl Passed {
     }
 }
 
-/// What an edit puts among fields, of which some were passed over.
-pub(crate) fn put_behind(
+/// What an edit puts among fields, of which those after the first `bytes` bytes are given. The field's number is `k` among
+/// these.
+pub(crate) fn put_at(
     alloc: Global,
-    fields: &[u8],
-    passed: &Passed,
-    edit: &SilentEdit<'_>,
-) -> Result<Put, EditError>
-    requires run { IsRun false (lines_of fields.now) }
-    requires passed { HasPassed (lines_of fields.now) passed.now.name.items passed.now.bytes passed.now.fields passed.now.names }
-    ensures ok { IfOk result (λ r. IsPut r (puts (numbered edit.now edit.now.k) (lines_of fields.now))) }
-    ensures err { IfErr result (λ e. IsRefusedBy (refusal_of e) (puts (numbered edit.now edit.now.k) (lines_of fields.now))) }
-{
-    match number_behind(passed, edit) {
-        Some(k) => put_at(alloc, fields, passed.bytes, edit, k),
-        None => put_of(alloc, fields, &edit.of_number(edit.k)),
-    }
-}
-
-// The same where so many bytes of fields were passed over, and the field's number after them is `k`.
-fn put_at(
-    alloc: Global,
-    fields: &[u8],
+    behind: &[u8],
     bytes: usize,
     edit: &SilentEdit<'_>,
     k: u32,
 ) -> Result<Put, EditError>
-    requires { IsBehind (lines_of fields.now) bytes edit.now k }
-    ensures ok { IfOk result (λ r. IsPut r (puts (numbered edit.now edit.now.k) (lines_of fields.now))) }
-    ensures err { IfErr result (λ e. IsRefusedBy (refusal_of e) (puts (numbered edit.now edit.now.k) (lines_of fields.now))) }
+    requires run { IsRun false (lines_of behind.now) }
+    requires room { bytes + length behind.now < 2 ^ 64 }
+    ensures ok { (fields : List ℕ) → behind.now ≡ drop bytes fields → IsBehind (lines_of fields) bytes edit.now k → IfOk result (λ r. IsPut r (puts (numbered edit.now edit.now.k) (lines_of fields))) }
+    ensures behind { IfOk result (λ r. bytes ≤ r.from) }
+    ensures err { (fields : List ℕ) → behind.now ≡ drop bytes fields → IsBehind (lines_of fields) bytes edit.now k → IfErr result (λ e. IsRefusedBy (refusal_of e) (puts (numbered edit.now edit.now.k) (lines_of fields))) }
 {
-    let (_, behind) = fields.split_at(bytes);
     match put_of(alloc, behind, &edit.of_number(k)) {
         Ok(put) => Ok(Put {
             from: bytes + put.from,
@@ -100,8 +84,8 @@ fn put_at(
     }
 }
 
-// The number of an edit's field among those of its name after the ones that were passed over. `None` where it isn't known.
-fn number_behind(passed: &Passed, edit: &SilentEdit<'_>) -> Option<u32>
+/// The number of an edit's field among those of its name after the ones that were passed over. `None` where it isn't known.
+pub(crate) fn number_behind(passed: &Passed, edit: &SilentEdit<'_>) -> Option<u32>
     ensures some { (ls : List TextLine) → HasPassed ls passed.now.name.items passed.now.bytes passed.now.fields passed.now.names → IfSome result (λ k. IsBehind ls passed.now.bytes edit.now k) }
     ensures same { IfNone result ((nat_lt passed.now.fields edit.now.k && bytes_eq passed.now.name.items edit.now.name.now) ≡ false) }
     ensures other { IfNone result ((nat_lt 0 edit.now.k && is_lacked passed.now.names edit.now.name.now) ≡ false) }
@@ -116,36 +100,25 @@ fn number_behind(passed: &Passed, edit: &SilentEdit<'_>) -> Option<u32>
 }
 
 /// The names of the fields in the first `bytes` bytes, and maybe others, where those of the fields in the first `known`
-/// bytes are given. `None` where they aren't known.
+/// bytes are given, and the fields after these. `None` where they aren't known.
 pub(crate) fn names_before(
     alloc: Global,
-    fields: &[u8],
+    behind: &[u8],
     known: usize,
     names: Option<Vec<Vec<u8>>>,
     bytes: usize,
 ) -> Result<Option<Vec<Vec<u8>>>, AllocError>
-    requires within { bytes ≤ length fields.now }
-    requires passed { IsKnown (lines_of fields.now) known names }
-    ensures { IfOk result (λ all. KnowsBefore (lines_of fields.now) bytes all) }
+    requires { bytes ≤ known + length behind.now }
+    ensures { (fields : List ℕ) → behind.now ≡ drop known fields → IsKnown (lines_of fields) known names → IfOk result (λ all. KnowsBefore (lines_of fields) bytes all) }
 {
     match names {
         Some(names) => {
             if bytes < known {
                 return Ok(Some(names));
             }
-            with_names(alloc, names, between(fields, known, bytes))
+            let (here, _) = behind.split_at(bytes - known);
+            with_names(alloc, names, here)
         }
         None => Ok(None),
     }
-}
-
-// The bytes from one place to another.
-fn between(text: &[u8], from: usize, to: usize) -> &[u8]
-    requires order { from ≤ to }
-    requires within { to ≤ length text.now }
-    ensures { result.now ≡ take (to - from) (drop from text.now) }
-{
-    let (_, behind) = text.split_at(from);
-    let (here, _) = behind.split_at(to - from);
-    here
 }

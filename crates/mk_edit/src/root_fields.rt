@@ -1,20 +1,22 @@
 //! Removals and renamings of fields of the root that say nothing of its body: they are made in the text alone.
-ghost use Rattle.std.specs.Prelude.{◌≡◌, ◌∷◌, [], IfOk, IfErr, IfSome};
-ghost use Rattle.mk_line.specs.Lines.{cut as lines_of};
+ghost use Rattle.std.specs.Prelude.{◌≡◌, ◌≤◌, ◌+◌, ◌∷◌, [], drop, length, IfOk, IfErr, IfSome};
 ghost use Rattle.mk_tree.specs.Documents.{tree};
 ghost use Rattle.mk_tree.specs.Sections.{head_text};
 ghost use Rattle.mk_decide.specs.Answers.{refusal_of, IsRefusedBy};
 ghost use Rattle.mk_decide.specs.FieldPuts.{plain_of, puts, IsPut};
 ghost use Rattle.mk_decide.specs.LocalAnswers.{plain_splice};
 ghost use Rattle.mk_decide.specs.Outcomes.{edited};
-ghost use Rattle.mk_edit.specs.RootFields.{lines_in, root_in, HasFields, HasPassed, Replaces};
+ghost use Rattle.mk_edit.specs.RootFields.{lines_in, root_in, HasFields, Replaces};
 ghost use Rattle.mk_edit.specs.SilentEdits.{numbered, IsSilent};
+ghost use Rattle.mk_edit.specs.inner.Gaps.{without_gap};
+ghost use Rattle.mk_edit.specs.inner.GapFields.{IsHeldInParts};
 
-use crate::passing::{Passed, names_before, put_behind};
+use crate::gapped::GapText;
+use crate::passing::{Passed, names_before, number_behind, put_at};
 use crate::silent_edits::SilentEdit;
 use crate::stepping::read;
-use mk_decide::{EditError, Put, Replacement, has_separator, opens_early, splice_of};
-use mk_splice::{Splice, Text, copied};
+use mk_decide::{EditError, Put, Replacement, has_separator, opens_early, put_of, splice_of};
+use mk_splice::{Splice, copied};
 use mk_tree::Doc;
 use std::alloc::{AllocError, Global};
 use std::marker::Model;
@@ -22,7 +24,8 @@ use std::marker::Model;
 /// A text whose root has a separator after its fields.
 #[derive(Drop)]
 pub(crate) struct RootFields {
-    text: Text,
+    /// With its gap where the last edit was made, or at the front.
+    text: GapText,
     /// Where the fields begin, in bytes from 0.
     start: usize,
     /// How many bytes they take.
@@ -36,11 +39,12 @@ impl Model for RootFields {
 
     ghost Value = { List ℕ };
 
-    ghost use Rattle.mk_edit.specs.RootFields.{IsHeld};
+    ghost use Rattle.mk_edit.specs.inner.Gaps.{without_gap};
+    ghost use Rattle.mk_edit.specs.inner.GapFields.{IsHeldInParts};
 
-    ghost view = { λ f. f.text.bytes };
+    ghost view = { λ f. without_gap f.text };
 
-    ghost invariant = { λ f. IsHeld f.text.bytes f.start f.size f.passed.name.items f.passed.bytes f.passed.fields f.passed.names };
+    ghost invariant = { λ f. IsHeldInParts f.text f.start f.size f.passed.name.items f.passed.bytes f.passed.fields f.passed.names };
 }
 
 impl RootFields {
@@ -62,7 +66,7 @@ impl RootFields {
     {
         match fields_place(&doc) {
             Some((start, size)) => Ok(RootFields {
-                text: Text::new(doc.into_text()),
+                text: GapText::new(doc.into_text()),
                 start,
                 size,
                 passed: Passed::none(alloc),
@@ -77,7 +81,7 @@ impl RootFields {
     {
         match fields_place(doc) {
             Some((start, size)) => Ok(Some(RootFields {
-                text: Text::new(Vec::from_slice(alloc, doc.text())?),
+                text: GapText::new(Vec::from_slice(alloc, doc.text())?),
                 start,
                 size,
                 passed: Passed::none(alloc),
@@ -94,21 +98,21 @@ impl RootFields {
     {
         let Replacement { place, count, new } = decide(
             alloc,
-            self.text.bytes(),
+            &mut self.text,
             self.start,
             self.size,
             &self.passed,
             edit,
         )?;
-        let old = copied(alloc, self.text.bytes(), place, count)?;
+        let here = place - self.text.front_len();
+        let old = copied(alloc, self.text.rest(), here, count)?;
         let name = Vec::from_slice(alloc, edit.name)?;
         let bytes = place - self.start;
         let known = self.passed.bytes;
         let names = self.passed.names.take();
-        let fields = fields_at(self.text.bytes(), self.start, self.size);
+        let fields = fields_behind(&self.text, self.start, self.size, known);
         let names = names_before(alloc, fields, known, names, bytes)?;
-        self.text.reserve(place, count, new.len())?;
-        self.text.replace_within(place, count, &new);
+        self.text.replace(place, count, &new)?;
         self.size = self.size - count + new.len();
         self.passed = Passed {
             bytes,
@@ -139,52 +143,72 @@ fn fields_place(doc: &Doc) -> Option<(usize, usize)>
     }
 }
 
-// What an edit replaces in a text whose root's fields take `size` bytes at `start`, or the first reason against it.
+// What an edit replaces in a text whose root's fields take `size` bytes at `start`, or the first reason against it. The gap
+// goes to the front where the field isn't known to stand after it.
 fn decide(
     alloc: Global,
-    text: &[u8],
+    text: &mut GapText,
     start: usize,
     size: usize,
     passed: &Passed,
     edit: &SilentEdit<'_>,
 ) -> Result<Replacement, EditError>
-    requires fields { HasFields text.now start size }
-    requires passed { HasPassed (lines_in text.now) passed.now.name.items passed.now.bytes passed.now.fields passed.now.names }
+    requires held { IsHeldInParts text.old start size passed.now.name.items passed.now.bytes passed.now.fields passed.now.names }
     requires silent { IsSilent edit.now }
-    ensures ok { IfOk result (λ r. Replaces edit.now text.now start size (plain_splice r)) }
-    ensures err { IfErr result (λ e. IsRefusedBy (refusal_of e) (edited (plain_of (1 ∷ []) (numbered edit.now edit.now.k)) (tree text.now))) }
+    ensures same { without_gap text.new ≡ without_gap text.old }
+    ensures front { length text.new.front ≤ length text.old.front }
+    ensures behind { IfOk result (λ r. length text.new.front ≤ r.place) }
+    ensures ok { IfOk result (λ r. Replaces edit.now (without_gap text.old) start size (plain_splice r)) }
+    ensures err { IfErr result (λ e. IsRefusedBy (refusal_of e) (edited (plain_of (1 ∷ []) (numbered edit.now edit.now.k)) (tree (without_gap text.old)))) }
 {
     let put = put_in(alloc, text, start, size, passed, edit)?;
+    let front = text.front_len();
     let place = start + put.from;
-    if opens_early(text, place, put.count, &put.lines) {
+    let here = place - front;
+    if opens_early(text.rest(), here, put.count, &put.lines) {
         return Err(EditError::OpenLine);
     }
     Ok(splice_of(place, put))
 }
 
-// What an edit puts among the root's fields.
+// What an edit puts among the root's fields. The field is looked for after those that were passed over, or among all.
 fn put_in(
     alloc: Global,
-    text: &[u8],
+    text: &mut GapText,
     start: usize,
     size: usize,
     passed: &Passed,
     edit: &SilentEdit<'_>,
 ) -> Result<Put, EditError>
-    requires fields { HasFields text.now start size }
-    requires passed { HasPassed (lines_in text.now) passed.now.name.items passed.now.bytes passed.now.fields passed.now.names }
-    ensures ok { IfOk result (λ r. IsPut r (puts (numbered edit.now edit.now.k) (lines_in text.now))) }
-    ensures err { IfErr result (λ e. IsRefusedBy (refusal_of e) (edited (plain_of (1 ∷ []) (numbered edit.now edit.now.k)) (tree text.now))) }
+    requires { IsHeldInParts text.old start size passed.now.name.items passed.now.bytes passed.now.fields passed.now.names }
+    ensures same { without_gap text.new ≡ without_gap text.old }
+    ensures front { length text.new.front ≤ length text.old.front }
+    ensures behind { IfOk result (λ r. length text.new.front ≤ start + r.from) }
+    ensures ok { IfOk result (λ r. IsPut r (puts (numbered edit.now edit.now.k) (lines_in (without_gap text.old)))) }
+    ensures err { IfErr result (λ e. IsRefusedBy (refusal_of e) (edited (plain_of (1 ∷ []) (numbered edit.now edit.now.k)) (tree (without_gap text.old)))) }
 {
-    put_behind(alloc, fields_at(text, start, size), passed, edit)
+    match number_behind(passed, edit) {
+        Some(k) => {
+            let fields = fields_behind(text, start, size, passed.bytes);
+            put_at(alloc, fields, passed.bytes, edit, k)
+        }
+        None => {
+            text.put_back();
+            let fields = fields_behind(text, start, size, 0);
+            put_of(alloc, fields, &edit.of_number(edit.k))
+        }
+    }
 }
 
-// The root's fields, which take `size` bytes at `start`.
-fn fields_at(text: &[u8], start: usize, size: usize) -> &[u8]
-    requires { HasFields text.now start size }
-    ensures { result.now ≡ head_text (root_in text.now) }
+// The root's fields, which take `size` bytes at `start`, after the first `bytes` bytes of them.
+fn fields_behind(text: &GapText, start: usize, size: usize, bytes: usize) -> &[u8]
+    requires fields { HasFields (without_gap text.now) start size }
+    requires within { bytes ≤ size }
+    requires front { length text.now.front ≤ start + bytes }
+    ensures { result.now ≡ drop bytes (head_text (root_in (without_gap text.now))) }
 {
-    let (_, behind) = text.split_at(start);
-    let (fields, _) = behind.split_at(size);
+    let front = text.front_len();
+    let (_, behind) = text.rest().split_at(start + bytes - front);
+    let (fields, _) = behind.split_at(size - bytes);
     fields
 }

@@ -1,7 +1,10 @@
 use Rattle.std.proofs.Common.{◌∙◌}
 use Rattle.mk_edit.specs.RootFields.{lines_in}
-use Rattle.mk_edit.proofs.RootEdits.{held_first, root_run}
+use Rattle.mk_edit.proofs.GapFields.{gap_first}
+use Rattle.mk_edit.proofs.RootEdits.{root_run}
 use Rattle.mk_edit.proofs.root_fields.RootFields.of.Goals as goal
 
 pub invariant_of-result : goal.invariant_of-result
-invariant_of-result c = held_first c.args.doc c.new.result.bytes c.in-Some.start c.in-Some.size c.none.result.name.items c.none.result.bytes c.none.result.fields c.none.result.names (c.new.ensures.bytes ∙ c.into_text.ensures) c.in-Some.ensures (c.none.ensures (lines_in c.args.doc) (root_run c.args.doc))
+invariant_of-result c =
+    gap_first c.args.doc c.new.result c.in-Some.start c.in-Some.size c.none.result.name.items c.none.result.bytes c.none.result.fields c.none.result.names c.new.ensures.front (c.new.ensures.rest ∙ c.into_text.ensures) c.in-Some.ensures
+    (c.none.ensures (lines_in c.args.doc) (root_run c.args.doc))

@@ -1,0 +1,46 @@
+-- Bytes moved over a gap, and others written after it.
+use Rattle.std.proofs.Common.{◌≡◌, ◌+◌, ◌-◌, ◌≤◌, ◌++◌, ℕ, List, ap, sym, ◌∙◌, length, take, drop, arith, length-drop}
+use Rattle.std.proofs.lemmas.List.{take_at, drop_at, drop-drop, length-take-le, take-append-drop}
+use Rattle.std.proofs.lemmas.List.Edits.{drop-paste, length-paste}
+use Rattle.std.proofs.Math.Seq.{take-add}
+use lib.Seq.{paste}
+use Rattle.std.specs.List.{copy_within}
+use Rattle.mk_splice.specs.Splices.{spliced}
+
+-- bytes copied to where they are
+pub copied_nowhere : (from count to : ℕ) (x : List ℕ) → from ≡ to → x ≡ copy_within x from (from + count) to
+copied_nowhere from count to x e =
+    let whole : x ≡ paste x from (drop from x) count =
+    sym (take-append-drop (from + count) x) ∙ ap (λ xs. xs ++ drop (from + count) x) (take-add from count x) in
+    whole ∙ (ap (λ n. paste x n (drop from x) count) e ∙ ap (paste x to (drop from x)) (omega arith))
+
+-- what stands after the moved bytes stays
+drop_later : (n m : ℕ) (x y : List ℕ) → n ≤ m → drop n x ≡ drop n y → drop m x ≡ drop m y
+drop_later n m x y h e =
+    let same : m ≡ n + (m - n) = omega arith in
+    ap (λ k. drop k x) same ∙ (sym (drop-drop (m - n) n x) ∙ (ap (drop (m - n)) e ∙ (drop-drop (m - n) n y ∙ ap (λ k. drop k y) (sym same))))
+
+pub written_behind : (front rest count to : ℕ) (text x y z : List ℕ) → z ≡ spliced to (length text) text y → y ≡ copy_within x rest (rest + count) front → front ≤ rest → front + count ≤ to → rest + count ≤ to + length text → to + length text ≤ length x
+    → drop to z ≡ text ++ drop (to + length text) x
+written_behind front rest count to text x y z e f order behind moved within =
+    let copied : y ≡ paste x front (drop rest x) count = f ∙ ap (paste x front (drop rest x)) (omega arith) in
+    let before : front ≤ length x = omega arith in
+    let there : count ≤ length (drop rest x) = omega (arith, length-drop rest x) in
+    let long : length y ≡ length x = ap length copied ∙ length-paste x front (drop rest x) count (omega arith) there in
+    let stays : drop (front + count) y ≡ drop (front + count) x = ap (drop (front + count)) copied ∙ drop-paste x front (drop rest x) count before there in
+    ap (drop to) e
+    ∙ (drop_at (take to y) (text ++ drop (to + length text) y) to (length-take-le to y (omega arith))
+    ∙ ap (λ xs. text ++ xs) (drop_later (front + count) (to + length text) y x (omega arith) stays))
+
+-- the text then
+pub gap_spliced : (front from place count rest to : ℕ) (text y z f r : List ℕ) → f ≡ take front y → r ≡ drop rest y → length f ≡ front → place ≡ front + from → to + length text ≡ rest + from + count
+    → take (front + from) z ≡ take front y ++ take from (drop rest y) → drop to z ≡ text ++ drop (to + length text) y → take place z ++ drop to z ≡ spliced place count text (f ++ r)
+gap_spliced front from place count rest to text y z f r first second long at end before behind =
+    let whole = f ++ r in
+    let seam : drop front whole ≡ r = drop_at f r front long in
+    let taken : take place whole ≡ take front y ++ take from (drop rest y) =
+    ap (λ n. take n whole) at ∙ (take-add front from whole ∙ (ap (λ xs. xs ++ take from (drop front whole)) (take_at f r front long ∙ first) ∙ ap (λ xs. take front y ++ take from xs) (seam ∙ second))) in
+    let left : drop (place + count) whole ≡ drop (to + length text) y =
+    ap (λ n. drop n whole) (omega (arith, at)) ∙ (sym (drop-drop (from + count) front whole) ∙ (ap (drop (from + count)) (seam ∙ second) ∙ (drop-drop (from + count) rest y ∙ ap (λ n. drop n y) (omega (arith, end))))) in
+    ap (λ xs. xs ++ drop to z) (ap (λ n. take n z) at ∙ (before ∙ sym taken))
+    ∙ ap (λ xs. take place whole ++ xs) (behind ∙ ap (λ xs. text ++ xs) (sym left))
