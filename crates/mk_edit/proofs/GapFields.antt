@@ -69,10 +69,6 @@ opens_there text t rest place front count lines e r f h k =
     ap (λ (xs : List ℕ). opens_at xs (place - front) count lines) r
     ∙ (ap (λ n. opens_at t.rest (place - n) count lines) f ∙ (opens_gap t place count lines h (omega (arith, k, ap length e)) ∙ ap (λ (xs : List ℕ). opens_at xs place count lines) e))
 
--- the gap at the front
-pub parts_back : (old new : Gapped) → ◌≡◌ {A = List ℕ} new.front [] → new.rest ≡ without_gap old → without_gap new ≡ without_gap old
-parts_back old new f r = ap (λ xs. xs ++ new.rest) f ∙ r
-
 -- the fields of a document's root
 pub gap_first : (doc : List ℕ) (t : Gapped) (start size : ℕ) (name : List ℕ) (bytes fields : ℕ) (names : Option (Vec (Vec ℕ))) → ◌≡◌ {A = List ℕ} t.front [] → t.rest ≡ doc → HasFields doc start size → HasPassed (lines_in doc) name bytes fields names
     → IsHeldInParts t start size name bytes fields names

@@ -1,6 +1,6 @@
 -- Bytes moved over a gap, and others written after it.
-use Rattle.std.proofs.Common.{◌≡◌, ◌+◌, ◌-◌, ◌≤◌, ◌++◌, ℕ, List, ap, sym, ◌∙◌, length, take, drop, arith, length-drop}
-use Rattle.std.proofs.lemmas.List.{take_at, drop_at, drop-drop, length-take-le, take-append-drop}
+use Rattle.std.proofs.Common.{◌≡◌, ◌+◌, ◌-◌, ◌≤◌, ◌++◌, ℕ, List, ap, sym, ◌∙◌, length, take, drop, append_assoc, arith, length-drop}
+use Rattle.std.proofs.lemmas.List.{take_at, take-append-le, take-take, drop_at, drop-drop, length-take-le, take-append-drop}
 use Rattle.std.proofs.lemmas.List.Edits.{drop-paste, length-paste}
 use Rattle.std.proofs.Math.Seq.{take-add}
 use lib.Seq.{paste}
@@ -44,3 +44,15 @@ gap_spliced front from place count rest to text y z f r first second long at end
     ap (λ n. drop n whole) (omega (arith, at)) ∙ (sym (drop-drop (from + count) front whole) ∙ (ap (drop (from + count)) (seam ∙ second) ∙ (drop-drop (from + count) rest y ∙ ap (λ n. drop n y) (omega (arith, end))))) in
     ap (λ xs. xs ++ drop to z) (ap (λ n. take n z) at ∙ (before ∙ sym taken))
     ∙ ap (λ xs. take place whole ++ xs) (behind ∙ ap (λ xs. text ++ xs) (sym left))
+
+-- a gap that goes back over some bytes
+pub gap_back : (place count to : ℕ) (x z : List ℕ) → z ≡ copy_within x place (place + count) to → place ≤ to → to + count ≤ length x → take place z ++ drop to z ≡ take (place + count) x ++ drop (to + count) x
+gap_back place count to x z f order within =
+    let moved = take count (drop place x) in
+    let left = drop (to + count) x in
+    let whole : z ≡ take to x ++ (moved ++ left) = f ∙ (ap (paste x to (drop place x)) (omega arith) ∙ append_assoc (take to x) moved left) in
+    let long : length (take to x) ≡ to = length-take-le to x (omega arith) in
+    let before : take place z ≡ take place x = ap (take place) whole ∙ (take-append-le place (take to x) (moved ++ left) (omega (arith, long)) ∙ take-take place to x order) in
+    ap (λ xs. xs ++ drop to z) before
+    ∙ (ap (λ xs. take place x ++ xs) (ap (drop to) whole ∙ drop_at (take to x) (moved ++ left) to long)
+    ∙ (sym (append_assoc (take place x) moved left) ∙ ap (λ xs. xs ++ left) (sym (take-add place count x))))

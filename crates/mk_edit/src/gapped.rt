@@ -1,4 +1,5 @@
-//! A text with a gap where it was changed last: a change moves the bytes between that place and its own, and no others.
+//! A gap buffer: a text with a gap where it was changed last. A change moves the bytes between that place and its own, and no
+//! others.
 ghost use Rattle.std.specs.Prelude.{◌≡◌, ◌+◌, ◌≤◌, ◌<◌, ◌^◌, [], ◌++◌, IfOk, OnOk, OnErr, drop, length, take, vec_len};
 ghost use Rattle.std.specs.List.{copy_within};
 ghost use Rattle.mk_splice.specs.Splices.{spliced};
@@ -60,19 +61,22 @@ impl GapText {
         &self.items[self.rest..]
     }
 
-    /// Moves the gap to the front.
-    pub(crate) fn put_back(&mut self)
-        ensures front { self.new.front ≡ [] }
-        ensures rest { self.new.rest ≡ without_gap self.old }
+    /// Moves the gap back to a place, unless it is there or before it.
+    pub(crate) fn put_back(&mut self, place: usize)
+        ensures same { without_gap self.new ≡ without_gap self.old }
+        ensures front { length self.new.front ≤ place }
+        ensures less { length self.new.front ≤ length self.old.front }
     {
-        let to = self.rest - self.front;
-        copy(&mut self.items, 0, self.front, to);
-        self.front = 0;
-        self.rest = to;
+        if place < self.front {
+            let count = self.front - place;
+            let to = self.rest - count;
+            copy(&mut self.items, place, count, to);
+            self.front = place;
+            self.rest = to;
+        }
     }
 
-    /// Puts `text` in the place of `count` bytes at `place`, which isn't before the gap. Where there is no memory, nothing
-    /// changes.
+    /// Puts `text` in the place of `count` bytes at `place`, which isn't before the gap. Out of memory, nothing changes.
     pub(crate) fn replace(
         &mut self,
         place: usize,
@@ -110,8 +114,8 @@ impl GapText {
     }
 }
 
-// Makes a gap between two places as large as `size` bytes where it is smaller, and some larger, and answers where it ends
-// then. Where there is no memory, nothing changes.
+// Widens the gap between `front` and `rest` to at least `size` bytes, and answers where it ends. Out of memory, nothing
+// changes.
 fn make_room(
     items: &mut Vec<u8>,
     front: usize,

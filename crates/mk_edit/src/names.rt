@@ -11,6 +11,9 @@ use std::alloc::{AllocError, Global};
 /// So many names are remembered at most: each field that is passed over is compared with all of them.
 const MOST_NAMES: usize = 64;
 
+/// A name of more bytes isn't remembered: it would be copied, and compared with each other one of its length.
+const MOST_NAME_BYTES: usize = 128;
+
 /// Whether a name is one of these, without regard to ASCII case.
 pub(crate) fn is_among(names: &[Vec<u8>], name: &[u8]) -> bool
     ensures { result ≡ among names.now name.now }
@@ -20,7 +23,8 @@ pub(crate) fn is_among(names: &[Vec<u8>], name: &[u8]) -> bool
         .any(|known| known.as_slice().eq_ignore_ascii_case(name))
 }
 
-/// These names, and any others that the fields at the start of a text have. `None` where they are too many.
+/// These names, and any others that the fields at the start of a text have. `None` where they are too many, or one of those
+/// is too long.
 pub(crate) fn with_names(
     alloc: Global,
     names: Vec<Vec<u8>>,
@@ -31,7 +35,7 @@ pub(crate) fn with_names(
     let mut all = names;
     for field in each_field(text) {
         if !is_among(&all, field.name) {
-            if all.len() == MOST_NAMES {
+            if all.len() == MOST_NAMES || field.name.len() > MOST_NAME_BYTES {
                 return Ok(None);
             }
             all.push(Vec::from_slice(alloc, field.name)?)?;

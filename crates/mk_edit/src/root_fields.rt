@@ -144,7 +144,7 @@ fn fields_place(doc: &Doc) -> Option<(usize, usize)>
 }
 
 // What an edit replaces in a text whose root's fields take `size` bytes at `start`, or the first reason against it. The gap
-// goes to the front where the field isn't known to stand after it.
+// goes back before the fields where the edit's one isn't known to stand after it.
 fn decide(
     alloc: Global,
     text: &mut GapText,
@@ -193,7 +193,7 @@ fn put_in(
             put_at(alloc, fields, passed.bytes, edit, k)
         }
         None => {
-            text.put_back();
+            text.put_back(start);
             let fields = fields_behind(text, start, size, 0);
             put_of(alloc, fields, &edit.of_number(edit.k))
         }

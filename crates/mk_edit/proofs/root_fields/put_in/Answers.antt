@@ -7,7 +7,7 @@ use Rattle.mk_decide.specs.FieldPuts.{puts}
 use Rattle.mk_edit.specs.RootFields.{lines_in, root_in}
 use Rattle.mk_edit.specs.SilentEdits.{numbered}
 use Rattle.mk_edit.specs.inner.Gaps.{without_gap}
-use Rattle.mk_edit.proofs.GapFields.{passed_inside, run_left, parts_back}
+use Rattle.mk_edit.proofs.GapFields.{passed_inside, run_left}
 use Rattle.mk_edit.proofs.RootEdits.{root_run, refused_by}
 use Rattle.mk_edit.proofs.root_fields.put_in.Goals as goal
 
@@ -34,7 +34,6 @@ returns-in-Some-clause-err c =
 pub returns-in-None-clause-err : goal.returns-in-None-clause-err
 returns-in-None-clause-err c =
     let edit = numbered c.args.edit.now c.args.edit.now.k in
-    let same = parts_back c.args.text.now c.put_back.new.self c.put_back.ensures.front c.put_back.ensures.rest in
-    let fields = c.fields_behind-fields-in-None.ensures ∙ ap (λ (x : List ℕ). head_text (root_in x)) same in
+    let fields = c.fields_behind-fields-in-None.ensures ∙ ap (λ (x : List ℕ). head_text (root_in x)) c.put_back.ensures.same in
     refused_by (without_gap c.args.text.now) edit c.put_of.result
     (subst (λ xs. IfErr c.put_of.result (λ e. IsRefusedBy (refusal_of e) (puts edit (cut xs)))) fields (subst (λ d. IfErr c.put_of.result (λ e. IsRefusedBy (refusal_of e) (puts d (cut c.fields_behind-fields-in-None.result.now)))) c.of_number.ensures c.put_of.ensures.err))
