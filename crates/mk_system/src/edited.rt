@@ -4,8 +4,8 @@ ghost use Rattle.std.specs.Prelude.{◌≡◌, ◌≤◌, length, None, IfOk};
 ghost use Rattle.mk_line.specs.Meters.{ticked};
 
 use crate::locking::{Stamp, lock};
-use crate::replacing::{COPIED_BYTES, Replacement, followed, open_folder, sync_folder};
-use mk_mailbox::{Fault, Sink};
+use crate::replacing::{Replacement, followed, open_folder, sync_folder};
+use mk_mailbox::{CHUNK_BYTES, Fault, Sink};
 use std::fs::File;
 use std::io;
 use std::io::{Error, ErrorKind, Read};
@@ -101,14 +101,16 @@ impl<'a, R: Files<File = File> + AllocGlobal> EditedFile<'a, R> {
         }
     }
 
-    // How many bytes of the piece the old file has next; 0 where one of those that are looked at differs.
+    // How many bytes of the piece the old file has next; 0 where one of those that are looked at differs. It isn't inlined, so
+    // its buffer and that of `copy_front` never lie on the stack together, which may have no room for both.
+    #[inline(never)]
     fn same_bytes(&mut self, piece: &[u8]) -> io::Result<usize>
         ensures counted { self.new.faults ≡ self.old.faults }
         ensures unfinished { self.new.is_finished ≡ self.old.is_finished }
         ensures bound { IfOk result (λ n. n ≤ length piece.now) }
     {
-        let mut buffer = [0u8; COPIED_BYTES];
-        let room = piece.len().min(COPIED_BYTES);
+        let mut buffer = [0u8; CHUNK_BYTES];
+        let room = piece.len().min(CHUNK_BYTES);
         let count = self.original.read(&mut buffer[..room])?;
         if piece.starts_with(&buffer[..count]) {
             Ok(count)

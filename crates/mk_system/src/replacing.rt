@@ -2,6 +2,7 @@
 
 ghost use Rattle.std.specs.Prelude.{◌≤◌, length, IfOk};
 
+use mk_mailbox::CHUNK_BYTES;
 use std::alloc::Global;
 use std::fs::{File, OpenOptions};
 use std::io::{Error, ErrorKind, Read, Seek, SeekFrom, Write};
@@ -20,10 +21,6 @@ const HERE: &str = ".";
 
 /// The name in that of a fresh file, where the other file's own leaves no room for more.
 const SHORT_NAME: &str = "mimetool";
-
-/// How many bytes of a file are read at once, to copy or to compare them. They lie on the stack, which has to have room
-/// for them when all other memory is in use.
-pub(crate) const COPIED_BYTES: usize = 16_384;
 
 /// Where the links at a path lead, be something there or not.
 pub fn followed<R: Files + AllocGlobal>(rt: &R, path: &str) -> io::Result<PathBuf> {
@@ -66,12 +63,13 @@ impl Replacement {
     }
 
     /// Writes the first bytes of a file, as many as that. Where it has fewer, that is an error.
+    #[inline(never)]
     pub fn copy_front(&mut self, old: &mut File, length: u64) -> io::Result<()> {
         old.seek(SeekFrom::Start(0))?;
-        let mut buffer = [0u8; COPIED_BYTES];
+        let mut buffer = [0u8; CHUNK_BYTES];
         let mut rest = length;
         while rest > 0 {
-            let room = rest.min(COPIED_BYTES as u64) as usize;
+            let room = rest.min(CHUNK_BYTES as u64) as usize;
             let count = old.read(&mut buffer[..room])?;
             if count == 0 {
                 return Err(Error::from(ErrorKind::UnexpectedEof));
