@@ -43,11 +43,11 @@ impl<'a> Model for Section<'a> {
 }
 
 impl<'a> Section<'a> {
-    ghost use Rattle.std.specs.Prelude.{◌≡◌, ◌<◌, ◌+◌, ◌^◌, codes, length, IfOk};
+    ghost use Rattle.std.specs.Prelude.{◌≡◌, ◌<◌, ◌+◌, ◌^◌, codes, false, length, IfOk};
     ghost use Rattle.std.specs.Option.{option_map};
-    ghost use Rattle.mk_line.specs.Lines.{text_of};
+    ghost use Rattle.mk_line.specs.Lines.{cut as lines_of, text_of};
     ghost use Rattle.mk_head.specs.Fields.{counted, find_field};
-    ghost use Rattle.mk_head.specs.Split.{head_lines};
+    ghost use Rattle.mk_head.specs.Split.{fields_from, head_lines};
     ghost use Rattle.mk_head.specs.Types.{field_value, header_encoding};
     ghost use Rattle.mk_head.specs.Views.{field_view};
     ghost use Rattle.mk_tree.specs.Forms.{form_digest, form_in, kind_in};
@@ -219,16 +219,14 @@ impl<'a> Section<'a> {
     pub fn value(&self, alloc: Global, name: &[u8]) -> Result<Option<Vec<u8>>, AllocError>
         ensures { IfOk result (λ value. option_map (λ bytes. bytes.items) value ≡ field_value name.now (field_lines self.now.entity)) }
     {
-        let (head, _) = self.raw.split_at(self.node.fields);
-        value_in(alloc, head, name)
+        value_in(alloc, self.field_bytes(), name)
     }
 
     /// Its transfer encoding; without a Content-Transfer-Encoding field it has none.
     pub fn encoding(&self, alloc: Global) -> Result<Encoding, AllocError>
         ensures { IfOk result (λ encoding. encoding ≡ header_encoding (field_lines self.now.entity)) }
     {
-        let (head, _) = self.raw.split_at(self.node.fields);
-        encoding_in(alloc, head)
+        encoding_in(alloc, self.field_bytes())
     }
 
     /// The value of its first Content-Type field, and its transfer encoding as `encoding` gives it: what `value` and `encoding`
@@ -237,8 +235,15 @@ impl<'a> Section<'a> {
         ensures media { IfOk result (λ r. option_map (λ bytes. bytes.items) r.0 ≡ field_value (codes "Content-Type") (field_lines self.now.entity)) }
         ensures encoding { IfOk result (λ r. r.1 ≡ header_encoding (field_lines self.now.entity)) }
     {
-        let (head, _) = self.raw.split_at(self.node.fields);
-        content_fields_in(alloc, head)
+        content_fields_in(alloc, self.field_bytes())
+    }
+
+    // The bytes of its fields.
+    fn field_bytes(&self) -> &'a [u8]
+        ensures { fields_from false (lines_of result.now) ≡ field_lines self.now.entity }
+    {
+        let (fields, _) = self.raw.split_at(self.node.fields);
+        fields
     }
 
     /// The sections directly below it, in order: the parts of a multipart, or the one message of a message.
