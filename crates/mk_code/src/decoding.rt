@@ -40,8 +40,8 @@ pub fn decode(alloc: Global, encoding: Encoding, text: &[u8]) -> Result<Vec<u8>,
     decode_in(Vec::new(alloc), encoding, text)
 }
 
-/// Does the same in memory that is there already, whatever bytes it holds: its room is taken as far as the content wants it,
-/// and the rest is given back. After an error it is gone.
+/// Decodes as `decode` does, in memory that is there already, whatever bytes it holds. Of its room, what is more than twice
+/// what the content can take is given back. After an error it is freed.
 pub fn decode_in(memory: Vec<u8>, encoding: Encoding, text: &[u8]) -> Result<Vec<u8>, CodeError>
     ensures content { IfOk result (λ bytes. IsContent encoding text.now bytes.items) }
     ensures refused { IfErr result (λ error. IsRefused encoding text.now error) }
@@ -63,7 +63,8 @@ fn copied(memory: Vec<u8>, text: &[u8]) -> Result<Vec<u8>, AllocError>
     Ok(copy)
 }
 
-/// Memory without bytes, and with room for so many. Where it has more than twice that room, the rest is given back.
+/// This memory without its bytes, and with room for `size` bytes. Where it has more than twice that room, the rest is given
+/// back.
 pub(crate) fn with_room(memory: Vec<u8>, size: usize) -> Result<Vec<u8>, AllocError>
     ensures { IfOk result (λ room. room.items ≡ []) }
 {

@@ -275,7 +275,7 @@ fn unpack_all<O: Sink, E: Sink, F: Folder>(
     Ok(refused)
 }
 
-// Unpacks one leaf, by way of memory in which the next can stand. Answers whether it was reported.
+// Unpacks one leaf, which is decoded in `memory`; the next takes that again. Answers whether it was reported.
 fn unpack_leaf<O: Sink, E: Sink, F: Folder>(
     alloc: Global,
     manner: Manner,

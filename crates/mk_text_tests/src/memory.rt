@@ -172,11 +172,19 @@ fn memory_decode(rt: HostRuntime) {
     }
 }
 
+/// Memory that holds a byte, and has no room for more. Where it finds none, it is empty.
+fn held(rt: &HostRuntime) -> Vec<u8> {
+    let mut memory = Vec::new(rt.alloc());
+    let _ = memory.reserve_exact(1);
+    let _ = memory.push(b'x');
+    memory
+}
+
 #[test]
 fn memory_decode_in(rt: HostRuntime) {
     for (encoding, text, wanted) in ENCODED {
-        let found = match decode_in(Vec::new(rt.alloc()), encoding, text) {
-            Err(CodeError::Memory) => decode_in(Vec::new(rt.alloc()), encoding, text),
+        let found = match decode_in(held(&rt), encoding, text) {
+            Err(CodeError::Memory) => decode_in(held(&rt), encoding, text),
             found => found,
         };
         match found {

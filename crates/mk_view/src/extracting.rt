@@ -47,7 +47,7 @@ pub fn content(alloc: Global, section: &Section<'_>) -> Result<Vec<u8>, ExtractE
     content_in(Vec::new(alloc), section)
 }
 
-/// The same in memory that is there already, whatever bytes it holds. After an error it is gone.
+/// What `content` gives, in memory that is there already, whatever bytes it holds. After an error it is freed.
 pub fn content_in(memory: Vec<u8>, section: &Section<'_>) -> Result<Vec<u8>, ExtractError>
     ensures content { IfOk result (λ bytes. IsExtract (Some section.now) bytes.items) }
     ensures refused { IfErr result (λ error. IsExtractRefused (Some section.now) error) }

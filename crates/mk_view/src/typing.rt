@@ -18,7 +18,7 @@ pub fn push_type(alloc: Global, text: &mut Vec<u8>, section: &Section<'_>) -> Re
     push_media(text, &media_type(alloc, section)?)
 }
 
-/// The same of the value of a Content-Type field, or none, in a digest or not.
+/// Appends the media type that the value of a Content-Type field says; without one, the default, in a digest or not.
 pub(crate) fn push_said_type(
     alloc: Global,
     text: &mut Vec<u8>,

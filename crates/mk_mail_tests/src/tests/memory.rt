@@ -87,14 +87,22 @@ fn memory_content(rt: HostRuntime) {
     }
 }
 
+/// Memory that holds a byte, and has no room for more. Where it finds none, it is empty.
+fn held(rt: &HostRuntime) -> Vec<u8> {
+    let mut memory = Vec::new(rt.alloc());
+    let _ = memory.reserve_exact(1);
+    let _ = memory.push(b'x');
+    memory
+}
+
 #[test]
 fn memory_content_in(rt: HostRuntime) {
     let Ok(doc) = mixed(rt.alloc()) else {
         return;
     };
     let section = doc.section(&[1, 2]).expect(&rt, "a section");
-    let bytes = match content_in(Vec::new(rt.alloc()), &section) {
-        Err(ExtractError::Memory) => content_in(Vec::new(rt.alloc()), &section),
+    let bytes = match content_in(held(&rt), &section) {
+        Err(ExtractError::Memory) => content_in(held(&rt), &section),
         bytes => bytes,
     };
     match bytes {
