@@ -212,13 +212,13 @@ fn split_letters(text: &[u8]) -> (&[u8], &[u8])
 {
     let (run, rest) = text.split_at(letter_front(text));
     match rest {
-        [_, behind @ ..] => (run, behind_strays(behind)),
+        [_, behind @ ..] => (run, after_strays(behind)),
         [] => (run, rest),
     }
 }
 
 // What follows the stray bytes at the start. Most often none is there, so the first byte is looked at by itself.
-fn behind_strays(text: &[u8]) -> &[u8]
+fn after_strays(text: &[u8]) -> &[u8]
     ensures letters { filter letter result.now ≡ filter letter text.now }
     ensures less { length result.now ≤ length text.now }
 {

@@ -20,9 +20,9 @@ drop_later n m x y h e =
     let same : m ≡ n + (m - n) = omega arith in
     ap (λ k. drop k x) same ∙ (sym (drop-drop (m - n) n x) ∙ (ap (drop (m - n)) e ∙ (drop-drop (m - n) n y ∙ ap (λ k. drop k y) (sym same))))
 
-pub written_behind : (front rest count to : ℕ) (text x y z : List ℕ) → z ≡ spliced to (length text) text y → y ≡ copy_within x rest (rest + count) front → front ≤ rest → front + count ≤ to → rest + count ≤ to + length text → to + length text ≤ length x
+pub written_after : (front rest count to : ℕ) (text x y z : List ℕ) → z ≡ spliced to (length text) text y → y ≡ copy_within x rest (rest + count) front → front ≤ rest → front + count ≤ to → rest + count ≤ to + length text → to + length text ≤ length x
     → drop to z ≡ text ++ drop (to + length text) x
-written_behind front rest count to text x y z e f order behind moved within =
+written_after front rest count to text x y z e f order behind moved within =
     let copied : y ≡ paste x front (drop rest x) count = f ∙ ap (paste x front (drop rest x)) (omega arith) in
     let before : front ≤ length x = omega arith in
     let there : count ≤ length (drop rest x) = omega (arith, length-drop rest x) in

@@ -83,7 +83,7 @@ impl GapText {
         count: usize,
         text: &[u8],
     ) -> Result<(), AllocError>
-        requires behind { length self.old.front ≤ place }
+        requires after { length self.old.front ≤ place }
         requires within { place + count ≤ length (without_gap self.old) }
         ensures ok { OnOk result (without_gap self.new ≡ spliced place count text.now (without_gap self.old)) }
         ensures fits { OnOk result (length (without_gap self.new) < 2 ^ 64) }
@@ -152,7 +152,7 @@ fn move_and_write(
     text: &[u8],
 )
     requires order { front ≤ rest }
-    requires behind { front + count ≤ to }
+    requires after { front + count ≤ to }
     requires moved { rest + count ≤ to + length text.now }
     requires within { to + length text.now ≤ vec_len items.old }
     ensures front { take (front + count) items.new.items ≡ take front items.old.items ++ take count (drop rest items.old.items) }

@@ -70,7 +70,7 @@ pub(crate) fn put_at(
     requires run { IsRun false (lines_of behind.now) }
     requires room { bytes + length behind.now < 2 ^ 64 }
     ensures ok { (fields : List ℕ) → behind.now ≡ drop bytes fields → IsBehind (lines_of fields) bytes edit.now k → IfOk result (λ r. IsPut r (puts (numbered edit.now edit.now.k) (lines_of fields))) }
-    ensures behind { IfOk result (λ r. bytes ≤ r.from) }
+    ensures after { IfOk result (λ r. bytes ≤ r.from) }
     ensures err { (fields : List ℕ) → behind.now ≡ drop bytes fields → IsBehind (lines_of fields) bytes edit.now k → IfErr result (λ e. IsRefusedBy (refusal_of e) (puts (numbered edit.now edit.now.k) (lines_of fields))) }
 {
     match put_of(alloc, behind, &edit.of_number(k)) {

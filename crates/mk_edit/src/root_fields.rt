@@ -110,7 +110,7 @@ impl RootFields {
         let bytes = place - self.start;
         let known = self.passed.bytes;
         let names = self.passed.names.take();
-        let fields = fields_behind(&self.text, self.start, self.size, known);
+        let fields = fields_after(&self.text, self.start, self.size, known);
         let names = names_before(alloc, fields, known, names, bytes)?;
         self.text.replace(place, count, &new)?;
         self.size = self.size - count + new.len();
@@ -157,7 +157,7 @@ fn decide(
     requires silent { IsSilent edit.now }
     ensures same { without_gap text.new ≡ without_gap text.old }
     ensures front { length text.new.front ≤ length text.old.front }
-    ensures behind { IfOk result (λ r. length text.new.front ≤ r.place) }
+    ensures after { IfOk result (λ r. length text.new.front ≤ r.place) }
     ensures ok { IfOk result (λ r. Replaces edit.now (without_gap text.old) start size (plain_splice r)) }
     ensures err { IfErr result (λ e. IsRefusedBy (refusal_of e) (edited (plain_of (1 ∷ []) (numbered edit.now edit.now.k)) (tree (without_gap text.old)))) }
 {
@@ -183,25 +183,25 @@ fn put_in(
     requires { IsHeldInParts text.old start size passed.now.name.items passed.now.bytes passed.now.fields passed.now.names }
     ensures same { without_gap text.new ≡ without_gap text.old }
     ensures front { length text.new.front ≤ length text.old.front }
-    ensures behind { IfOk result (λ r. length text.new.front ≤ start + r.from) }
+    ensures after { IfOk result (λ r. length text.new.front ≤ start + r.from) }
     ensures ok { IfOk result (λ r. IsPut r (puts (numbered edit.now edit.now.k) (lines_in (without_gap text.old)))) }
     ensures err { IfErr result (λ e. IsRefusedBy (refusal_of e) (edited (plain_of (1 ∷ []) (numbered edit.now edit.now.k)) (tree (without_gap text.old)))) }
 {
     match number_behind(passed, edit) {
         Some(k) => {
-            let fields = fields_behind(text, start, size, passed.bytes);
+            let fields = fields_after(text, start, size, passed.bytes);
             put_at(alloc, fields, passed.bytes, edit, k)
         }
         None => {
             text.put_back(start);
-            let fields = fields_behind(text, start, size, 0);
+            let fields = fields_after(text, start, size, 0);
             put_of(alloc, fields, &edit.of_number(edit.k))
         }
     }
 }
 
 // The root's fields, which take `size` bytes at `start`, after the first `bytes` bytes of them.
-fn fields_behind(text: &GapText, start: usize, size: usize, bytes: usize) -> &[u8]
+fn fields_after(text: &GapText, start: usize, size: usize, bytes: usize) -> &[u8]
     requires fields { HasFields (without_gap text.now) start size }
     requires within { bytes ≤ size }
     requires front { length text.now.front ≤ start + bytes }

@@ -9,4 +9,4 @@ returns-in-empty-clause-letters c =
 pub returns-in-len1-up-clause-letters : goal.returns-in-len1-up-clause-letters
 returns-in-len1-up-clause-letters c =
     letters_parted c.args.text.now c.split_at.result.0.now c.split_at.result.1.now c.letter_front.result c.letter_front.ensures.front c.split_at.ensures.front c.split_at.ensures.back
-    ∙ ap (λ xs. c.split_at.result.0.now ++ xs) (sym c.behind_strays.ensures.letters)
+    ∙ ap (λ xs. c.split_at.result.0.now ++ xs) (sym c.after_strays.ensures.letters)

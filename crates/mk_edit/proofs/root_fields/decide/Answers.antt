@@ -14,14 +14,14 @@ overflow_add-place c =
 pub opens_early-requires : goal.opens_early-requires
 opens_early-requires c =
     let fit = root_fit (without_gap c.args.text.now) c.args.start c.args.size (numbered c.args.edit.now c.args.edit.now.k) c.in_ok-put.put c.requires.held.held.fields c.in_ok-put.ensures.ok in
-    omega (arith, fit.within, ap length c.in_ok-put.ensures.same, parts_size c.put_in.new.text, ap length c.rest.ensures, c.in_ok-put.ensures.behind)
+    omega (arith, fit.within, ap length c.in_ok-put.ensures.same, parts_size c.put_in.new.text, ap length c.rest.ensures, c.in_ok-put.ensures.after)
 
 pub returns-then-opens_early-clause-err : goal.returns-then-opens_early-clause-err
 returns-then-opens_early-clause-err c =
     let put = c.in_ok-put.put in
     let edit = numbered c.args.edit.now c.args.edit.now.k in
     let fit = root_fit (without_gap c.args.text.now) c.args.start c.args.size edit put c.requires.held.held.fields c.in_ok-put.ensures.ok in
-    let opens = opens_there (without_gap c.args.text.now) c.put_in.new.text c.rest.result.now (c.args.start + put.from) c.front_len-front.result put.count put.lines.items c.in_ok-put.ensures.same c.rest.ensures c.front_len-front.ensures.front c.in_ok-put.ensures.behind fit.before_end in
+    let opens = opens_there (without_gap c.args.text.now) c.put_in.new.text c.rest.result.now (c.args.start + put.from) c.front_len-front.result put.count put.lines.items c.in_ok-put.ensures.same c.rest.ensures c.front_len-front.ensures.front c.in_ok-put.ensures.after fit.before_end in
     opens_root (without_gap c.args.text.now) c.args.start c.args.size edit put c.requires.held.held.fields c.in_ok-put.ensures.ok
     (sym opens ∙ (ap (opens_at c.rest.result.now (c.args.start + put.from - c.front_len-front.result) put.count) (sym c.deref.ensures.value) ∙ (sym c.opens_early.ensures ∙ c.if-opens_early.true)))
 
@@ -36,7 +36,7 @@ returns-clause-ok c =
     let put = c.in_ok-put.put in
     let edit = numbered c.args.edit.now c.args.edit.now.k in
     let fit = root_fit (without_gap c.args.text.now) c.args.start c.args.size edit put c.requires.held.held.fields c.in_ok-put.ensures.ok in
-    let opens = opens_there (without_gap c.args.text.now) c.put_in.new.text c.rest.result.now (c.args.start + put.from) c.front_len-front.result put.count put.lines.items c.in_ok-put.ensures.same c.rest.ensures c.front_len-front.ensures.front c.in_ok-put.ensures.behind fit.before_end in
+    let opens = opens_there (without_gap c.args.text.now) c.put_in.new.text c.rest.result.now (c.args.start + put.from) c.front_len-front.result put.count put.lines.items c.in_ok-put.ensures.same c.rest.ensures c.front_len-front.ensures.front c.in_ok-put.ensures.after fit.before_end in
     put_root (without_gap c.args.text.now) c.args.start c.args.size c.args.edit.now put (plain_splice c.splice_of.result) c.requires.held.held.fields c.requires.silent c.in_ok-put.ensures.ok
     (sym opens ∙ (ap (opens_at c.rest.result.now (c.args.start + put.from - c.front_len-front.result) put.count) (sym c.deref.ensures.value) ∙ (sym c.opens_early.ensures ∙ c.if-opens_early.false)))
     c.splice_of.ensures.place c.splice_of.ensures.count c.splice_of.ensures.new

@@ -8,8 +8,8 @@ use Rattle.mk_edit.proofs.GapFields.{copied_there, known_of, passed_inside}
 use Rattle.mk_edit.proofs.RootEdits.{held_made, made_root, root_within}
 use Rattle.mk_edit.proofs.root_fields.RootFields.make.Goals as goal
 
-pub fields_behind-fields-requires-clause-within : goal.fields_behind-fields-requires-clause-within
-fields_behind-fields-requires-clause-within c =
+pub fields_after-fields-requires-clause-within : goal.fields_after-fields-requires-clause-within
+fields_after-fields-requires-clause-within c =
     let passed = c.self.inside.passed in
     passed_inside (without_gap c.self.inside.text) c.self.inside.start c.self.inside.size passed.name.items passed.bytes passed.fields passed.names c.self.invariant.held.fields c.self.invariant.held.passed
 
@@ -26,7 +26,7 @@ invariant_of-self-2 c =
     let r = plain_splice c.in_ok-place.field-0 in
     let text = without_gap c.self.inside.text in
     let passed = c.self.inside.passed in
-    let fields = c.fields_behind-fields.ensures ∙ ap (λ (x : List ℕ). drop passed.bytes (head_text (root_in x))) c.decide.ensures.same in
+    let fields = c.fields_after-fields.ensures ∙ ap (λ (x : List ℕ). drop passed.bytes (head_text (root_in x))) c.decide.ensures.same in
     let known = known_of (lines_in text) passed.name.items passed.bytes passed.fields passed.names c.take-names.result c.self.invariant.held.passed c.take-names.ensures.value in
     record {
       held = held_made c.args.edit.now text (head_text (root_in text)) (without_gap c.replace.new.self) c.in_ok-name.name.items c.self.inside.start c.self.inside.size c.len.result r c.in_ok-names.names c.in_ok-place.ensures.ok refl
@@ -41,5 +41,5 @@ returns-clause-ok c =
     let r = plain_splice c.in_ok-place.field-0 in
     let text = without_gap c.self.inside.text in
     made_root c.args.edit.now text c.args.self.now (without_gap c.replace.new.self) c.in_ok-old.old.items c.self.inside.start c.self.inside.size r c.in_ok-place.ensures.ok c.self.view_is
-    (c.in_ok-old.ensures ∙ copied_there text c.decide.new.text c.rest.result.now r.place c.front_len.result r.count c.decide.ensures.same c.rest.ensures c.front_len.ensures.front c.in_ok-place.ensures.behind)
+    (c.in_ok-old.ensures ∙ copied_there text c.decide.new.text c.rest.result.now r.place c.front_len.result r.count c.decide.ensures.same c.rest.ensures c.front_len.ensures.front c.in_ok-place.ensures.after)
     (c.in_ok-replace.ensures.ok ∙ (ap (spliced r.place r.count c.deref.result.now) c.decide.ensures.same ∙ ap (λ b. spliced r.place r.count b text) c.deref.ensures.value))

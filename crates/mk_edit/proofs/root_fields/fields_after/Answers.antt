@@ -3,7 +3,7 @@ use Rattle.std.proofs.lemmas.List.{length-drop}
 use Rattle.mk_edit.specs.inner.Gaps.{without_gap}
 use Rattle.mk_edit.proofs.GapFields.{gap_fields, parts_size}
 use Rattle.mk_edit.proofs.RootEdits.{root_within}
-use Rattle.mk_edit.proofs.root_fields.fields_behind.Goals as goal
+use Rattle.mk_edit.proofs.root_fields.fields_after.Goals as goal
 
 pub overflow_add-start : goal.overflow_add-start
 overflow_add-start c = omega (arith, root_within (without_gap c.args.text.now) c.args.start c.args.size c.requires.fields)
