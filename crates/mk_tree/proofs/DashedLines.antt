@@ -12,11 +12,8 @@ use Rattle.mk_tree.specs.Upto.{upto, beyond}
 use Rattle.std.specs.Borrow.{Bor}
 use Rattle.mk_tree.specs.Spans.{size}
 use Rattle.mk_tree.specs.Steps.{boundaries_of}
-use Rattle.mk_tree.proofs.Marked.{unmarked}
+use Rattle.mk_tree.proofs.Marked.{dashes, unmarked}
 use Rattle.mk_tree.proofs.Descent.{size_beyond}
-
-abbrev dashes : List ℕ
-dashes = 45 ∷ 45 ∷ []
 
 -- a line feed and two hyphens stand at a place
 pub record IsDashed (text : List ℕ) (k : ℕ) : Type 0 where

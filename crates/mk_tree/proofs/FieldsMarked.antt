@@ -13,10 +13,7 @@ use Rattle.mk_tree.specs.Spans.{size}
 use Rattle.mk_tree.specs.Upto.{is_marked, fields_until, rest_until}
 use Rattle.mk_tree.specs.inner.Marked.{first_marked}
 use Rattle.mk_tree.proofs.DashedLines.{content_undashed}
-use Rattle.mk_tree.proofs.Marked.{unmarked}
-
-abbrev dashes : List ℕ
-dashes = 45 ∷ 45 ∷ []
+use Rattle.mk_tree.proofs.Marked.{dashes, unmarked}
 
 -- a blank is no hyphen
 blank_undashed : (c : ℕ) (cs : List ℕ) → is_blank c ≡ true → starts_with nat_eq (c ∷ cs) dashes ≡ false

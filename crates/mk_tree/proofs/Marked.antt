@@ -13,7 +13,7 @@ use Rattle.mk_line.specs.Marks.{mark, trimmed, trimmed_before}
 use Rattle.mk_head.proofs.Bytes.{trimmed_twice}
 use Rattle.mk_tree.specs.Upto.{is_mark, is_marked}
 
-abbrev dashes : List ℕ
+abbrev pub dashes : List ℕ
 dashes = 45 ∷ 45 ∷ []
 
 -- blanks at the end change nothing

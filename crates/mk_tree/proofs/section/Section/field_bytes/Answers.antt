@@ -1,4 +1,4 @@
-use Rattle.std.proofs.Common.{◌≡◌, ap, ◌∙◌, arith, false}
+use Rattle.std.proofs.Common.{ap, ◌∙◌, arith, false}
 use Rattle.mk_line.specs.Lines.{cut}
 use Rattle.mk_head.specs.Split.{fields_from}
 use Rattle.mk_tree.specs.Sections.{Placed}
