@@ -130,15 +130,6 @@ bad_end text out found rest h n none x b =
     let later = behind_decoded text out found rest x h b in
     none later.late later.late_bytes (sym (later.behind_is ∙ (ap (λ xs. found ++ filter is_letter xs) n ∙ append-nil found)))
 
--- whole groups at the start, and what is left
-pub groups_decoded : (out found front out1 left : List ℕ) (whole : ℕ) → front ≡ take whole found → left ≡ drop whole found → HasDecoded out front out1 [] → HasDecoded out found out1 left
-groups_decoded out found front out1 left whole f e d = record {
-  bytes = d.bytes;
-  are_bytes = d.are_bytes;
-  text = d.text;
-  letters = sym (take-append-drop whole found) ∙ ((λ i. (sym f ∙ (d.letters ∙ append-nil (encoded d.bytes))) i ++ sym e i));
-}
-
 pub groups_thirds : (out found front out1 : List ℕ) (whole : ℕ) → length out % 3 ≡ 0 → whole ≡ length found / 4 * 4 → front ≡ take whole found → HasDecoded out front out1 [] → length out1 % 3 ≡ 0
 groups_thirds out found front out1 whole t w f d =
     let long : length front ≡ whole = ap length f ∙ length-take-le whole found (omega (arith, w)) in

@@ -12,6 +12,18 @@ use std::simd::prelude::*;
 /// How many bytes are tested at once.
 pub(crate) const LANES: usize = 16;
 
+/// What a lower-case letter has and its capital lacks.
+const LOWER_CASE: u8 = 0x20;
+
+/// How many letters there are of one case.
+const LETTERS: u8 = 26;
+
+/// How many bytes `/` and the ten digits, which follow it, are.
+const SLASH_AND_DIGITS: u8 = 11;
+
+/// How many printable ASCII characters there are, apart from the space.
+const PRINTABLE: u8 = 94;
+
 // How many lanes come before the first that is marked.
 #[inline(always)]
 fn first_set(mask: u64) -> usize
@@ -32,10 +44,10 @@ pub(crate) fn letters_at(text: &[u8], at: usize) -> usize
     ensures few { result ≤ 16 }
 {
     let bytes = u8x16::from_slice(&text[at..]);
-    let from_a = (bytes | u8x16::splat(0x20)) - u8x16::splat(b'a');
+    let from_a = (bytes | u8x16::splat(LOWER_CASE)) - u8x16::splat(b'a');
     let from_slash = bytes - u8x16::splat(b'/');
-    let stops = from_a.simd_ge(u8x16::splat(26))
-        & from_slash.simd_ge(u8x16::splat(11))
+    let stops = from_a.simd_ge(u8x16::splat(LETTERS))
+        & from_slash.simd_ge(u8x16::splat(SLASH_AND_DIGITS))
         & bytes.simd_ne(u8x16::splat(b'+'));
     first_set(stops.to_bitmask())
 }
@@ -48,10 +60,10 @@ pub(crate) fn strays_at(text: &[u8], at: usize) -> usize
     ensures few { result ≤ 16 }
 {
     let bytes = u8x16::from_slice(&text[at..]);
-    let from_a = (bytes | u8x16::splat(0x20)) - u8x16::splat(b'a');
+    let from_a = (bytes | u8x16::splat(LOWER_CASE)) - u8x16::splat(b'a');
     let from_slash = bytes - u8x16::splat(b'/');
-    let letters = from_a.simd_lt(u8x16::splat(26))
-        | from_slash.simd_lt(u8x16::splat(11))
+    let letters = from_a.simd_lt(u8x16::splat(LETTERS))
+        | from_slash.simd_lt(u8x16::splat(SLASH_AND_DIGITS))
         | bytes.simd_eq(u8x16::splat(b'+'));
     first_set(letters.to_bitmask())
 }
@@ -65,7 +77,7 @@ pub(crate) fn quiet_at(text: &[u8], at: usize) -> usize
 {
     let bytes = u8x16::from_slice(&text[at..]);
     let from_printable = bytes - u8x16::splat(b'!');
-    let others = from_printable.simd_ge(u8x16::splat(94))
+    let others = from_printable.simd_ge(u8x16::splat(PRINTABLE))
         & bytes.simd_ne(u8x16::splat(b' '))
         & bytes.simd_ne(u8x16::splat(b'\t'));
     let stops = others | bytes.simd_eq(u8x16::splat(b'='));
