@@ -28,9 +28,6 @@ one_made h s (Err reason) = refl
 one_of_group : (e : PlainEdit) (h : History) → step (Group (e ∷ [])) h ≡ alone (step (Do e) h)
 one_of_group e h = one_made h (splices_of e (tree (text_now h))) (edited e (tree (text_now h)))
 
-pub one_accepted : (e : PlainEdit) (h g : History) → step (Do e) h ≡ Ok g → step (Group (e ∷ [])) h ≡ Ok g
-one_accepted e h g p = one_of_group e h ∙ ap alone p
-
 refused_for : (o : Option Refusal) (r : Result History Refusal) (reason : Refusal) → IsRefusedBy o r → o ≡ Some reason → r ≡ Err reason
 refused_for None r reason h p = cc
 refused_for (Some e) r reason h p = cc

@@ -1,6 +1,6 @@
 -- Where no name is one, all are the others.
-use Rattle.std.proofs.Common.{◌≡◌, ◌||◌, ℕ, Bool, true, false, not, List, [], ◌∷◌, ◌++◌, filter, map, refl, ap, sym, ◌∙◌, inl, inr}
-use Rattle.std.proofs.lemmas.Bool.{cases_Bool, or_parts}
+use Rattle.std.proofs.Common.{◌≡◌, ℕ, false, List, [], ◌∷◌, ◌++◌, map, refl, append-nil, ap, sym, ◌∙◌}
+use Rattle.std.proofs.lemmas.Bool.{or_parts}
 use Rattle.std.specs.List.{list_any}
 use Rattle.mk_mail.specs.Letters.{others, same_name, those}
 
@@ -11,10 +11,6 @@ all_others name (own ∷ names) h =
     let rest = all_others name names parts.1 in
     (rw parts.0 (ap (λ xs. own ∷ xs) rest.0), rw parts.0 rest.1)
 
-nil_after : {X : Type 0} (xs : List X) → xs ≡ xs ++ []
-nil_after [] = refl
-nil_after (x ∷ xs) = ap (λ ys. x ∷ ys) (nil_after xs)
-
 -- so nothing is made of them
 pub none_more : {X : Type 0} (xs : List X) (f : List ℕ → X) {names : List (List ℕ)} → names ≡ [] → xs ≡ xs ++ map f names
-none_more xs f e = nil_after xs ∙ ap (λ ns. xs ++ map f ns) (sym e)
+none_more xs f e = sym (append-nil xs) ∙ ap (λ ns. xs ++ map f ns) (sym e)

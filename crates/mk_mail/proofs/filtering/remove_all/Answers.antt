@@ -1,4 +1,4 @@
-use Rattle.std.proofs.Common.{◌≡◌, false, sym, ap, ◌∙◌}
+use Rattle.std.proofs.Common.{◌≡◌, false, sym}
 use Rattle.std.specs.List.{list_any}
 use Rattle.mk_decide.specs.Edits.{RemoveField}
 use Rattle.mk_mail.specs.Letters.{same_name}
