@@ -1,5 +1,6 @@
 //! Inputs on which a mail tool may be slow.
 
+use crate::cases::Cases;
 use crate::filtering::{dropping, no_letters, putting};
 use crate::lines::{Lines, lines_of, push_letters, push_word, push_words};
 use crate::messages::Supply;
@@ -132,31 +133,42 @@ fn filter_fields(
     Ok(())
 }
 
-/// Runs of each kind on such inputs.
+/// Runs of each kind on such inputs. The cases: `fields`, `levels`, `types`, `base64`, `from-lines`, `escapes`, `undo`.
 pub fn run(
     alloc: Global,
     random: &mut Random,
     scale: usize,
+    cases: &mut Cases<'_>,
     results: &mut Results,
 ) -> Result<(), AllocError> {
     let supply = Supply::new(alloc, random, b"\n")?;
-    filter_fields(alloc, random, scale.saturating_mul(FIELDS), results)?;
     let body = scale.saturating_mul(BODY);
-    results.list(&many_levels(alloc, &supply, random, body / 10)?);
-    results.list(&crowded(alloc, random, scale.saturating_mul(20))?);
-    results.unpack(&odd_base64(alloc, random, body)?);
-    let mailbox = lines_of(alloc, random, Lines::FromLines, b"\n", body / 4)?;
-    results.filter(&mailbox, &putting(alloc, b"X-Seen: yes")?, true);
-    let binary = Pool::new(alloc, random, Lines::Binary, b"\n")?;
-    let mut files = Vec::new(alloc);
-    push_file(alloc, random, &mut files, &binary, false, body / 4)?;
-    results.pack(b"Subject: s\n", b"=_escapes", &files);
-    let message = many_levels(alloc, &supply, random, body / 20)?;
-    results.edit(
-        &message,
-        b"add 1.1.1.1 A: b\nundo\nredo\n",
-        &[],
-        Journal::Off,
-    )?;
+    if cases.has("fields") {
+        filter_fields(alloc, random, scale.saturating_mul(FIELDS), results)?;
+    }
+    if cases.has("levels") {
+        results.list(&many_levels(alloc, &supply, random, body / 10)?);
+    }
+    if cases.has("types") {
+        results.list(&crowded(alloc, random, scale.saturating_mul(20))?);
+    }
+    if cases.has("base64") {
+        results.unpack(&odd_base64(alloc, random, body)?);
+    }
+    if cases.has("from-lines") {
+        let mailbox = lines_of(alloc, random, Lines::FromLines, b"\n", body / 4)?;
+        results.filter(&mailbox, &putting(alloc, b"X-Seen: yes")?, true);
+    }
+    if cases.has("escapes") {
+        let binary = Pool::new(alloc, random, Lines::Binary, b"\n")?;
+        let mut files = Vec::new(alloc);
+        push_file(alloc, random, &mut files, &binary, false, body / 4)?;
+        results.pack(b"Subject: s\n", b"=_escapes", &files);
+    }
+    if cases.has("undo") {
+        let message = many_levels(alloc, &supply, random, body / 20)?;
+        let script = b"add 1.1.1.1 A: b\nundo\nredo\n";
+        results.edit(&message, script, &[], Journal::Off)?;
+    }
     Ok(())
 }

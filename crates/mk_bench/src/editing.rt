@@ -1,5 +1,6 @@
 //! Edits made by scripts, kept in journals, undone and made again.
 
+use crate::cases::Cases;
 use crate::lines::push_words;
 use crate::messages::{Part, Supply};
 use crate::random::Random;
@@ -67,19 +68,16 @@ fn edit_large(
     Ok(())
 }
 
-/// Edits large messages and small ones.
-pub fn run(
+// Edits messages as a ticket system does.
+fn edit_tickets(
     alloc: Global,
+    supply: &Supply,
     random: &mut Random,
-    scale: usize,
+    count: usize,
     results: &mut Results,
 ) -> Result<(), AllocError> {
-    let supply = Supply::new(alloc, random, b"\n")?;
-    edit_large(alloc, &supply, random, scale, results)?;
-    let supply = Supply::new(alloc, random, b"\r\n")?;
-    edit_large(alloc, &supply, random, scale, results)?;
     let parts = [Part::Plain, Part::Html, Part::File, Part::Binary];
-    for _ in 0..scale.saturating_mul(SMALL) {
+    for _ in 0..count {
         let size = 2_000 + random.below(20_000);
         let message = supply.message(random, &parts, 4, size)?;
         let mut pieces = Vec::new(alloc);
@@ -87,6 +85,29 @@ pub fn run(
         pieces.push(supply.letter(random, 6_000)?)?;
         let (text, journal) = results.edit(&message, TICKET, &pieces, Journal::New)?;
         results.edit_again(&text, b"undo\nundo\nundo\n", &journal)?;
+    }
+    Ok(())
+}
+
+/// Edits large messages and small ones. The cases: `large`, `large-crlf`, `tickets`.
+pub fn run(
+    alloc: Global,
+    random: &mut Random,
+    scale: usize,
+    cases: &mut Cases<'_>,
+    results: &mut Results,
+) -> Result<(), AllocError> {
+    let supply = Supply::new(alloc, random, b"\n")?;
+    if cases.has("large") {
+        edit_large(alloc, &supply, random, scale, results)?;
+    }
+    let supply = Supply::new(alloc, random, b"\r\n")?;
+    if cases.has("large-crlf") {
+        edit_large(alloc, &supply, random, scale, results)?;
+    }
+    if cases.has("tickets") {
+        let count = scale.saturating_mul(SMALL);
+        edit_tickets(alloc, &supply, random, count, results)?;
     }
     Ok(())
 }

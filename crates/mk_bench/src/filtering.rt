@@ -1,5 +1,6 @@
 //! Fields put into, dropped from and printed of each message of mailboxes.
 
+use crate::cases::Cases;
 use crate::messages::Supply;
 use crate::random::Random;
 use crate::runs::Results;
@@ -59,29 +60,38 @@ fn mixed(alloc: Global) -> Result<Letters, AllocError> {
     Ok(letters)
 }
 
-/// Filters mailboxes with either line ending.
+/// Filters mailboxes with either line ending, and a large message. The cases: `put`, `mixed`, `print`, `drop`, `put-crlf`,
+/// `large`.
 pub fn run(
     alloc: Global,
     random: &mut Random,
     scale: usize,
+    cases: &mut Cases<'_>,
     results: &mut Results,
 ) -> Result<(), AllocError> {
     let count = scale.saturating_mul(MESSAGES);
     let supply = Supply::new(alloc, random, b"\n")?;
     let all = [
-        putting(alloc, b"X-Seen: yes")?,
-        mixed(alloc)?,
-        taking(alloc, b"Subject")?,
-        putting(alloc, b"Date:")?,
+        ("put", putting(alloc, b"X-Seen: yes")?),
+        ("mixed", mixed(alloc)?),
+        ("print", taking(alloc, b"Subject")?),
+        ("drop", putting(alloc, b"Date:")?),
     ];
-    for letters in &all {
-        let mailbox = supply.mailbox(random, count)?;
-        results.filter(&mailbox, letters, true);
+    for (name, letters) in &all {
+        if cases.has(name) {
+            let mailbox = supply.mailbox(random, count)?;
+            results.filter(&mailbox, letters, true);
+        }
     }
     let supply = Supply::new(alloc, random, b"\r\n")?;
-    let mailbox = supply.mailbox(random, count)?;
-    results.filter(&mailbox, &putting(alloc, b"X-Spam: no")?, true);
-    let message = supply.letter(random, scale.saturating_mul(200_000))?;
-    results.filter(&message, &putting(alloc, b"X-Seen: yes")?, false);
+    let mut mailbox = Vec::new(alloc);
+    if cases.has("put-crlf") {
+        mailbox = supply.mailbox(random, count)?;
+        results.filter(&mailbox, &putting(alloc, b"X-Spam: no")?, true);
+    }
+    if cases.has("large") {
+        let message = supply.letter(random, scale.saturating_mul(200_000))?;
+        results.filter(&message, &putting(alloc, b"X-Seen: yes")?, false);
+    }
     Ok(())
 }

@@ -1,5 +1,6 @@
 //! The sections of messages listed, as lines and as JSON.
 
+use crate::cases::Cases;
 use crate::messages::{Part, Supply};
 use crate::random::Random;
 use crate::runs::Results;
@@ -37,23 +38,42 @@ fn forwarded(
     Ok(text)
 }
 
-/// Lists large messages, and messages of many parts.
+/// Lists large messages, and messages of many parts. The cases: `parts-100`, `parts-600` and `parts-3000` by the bytes of a
+/// part, `parts-json`, `forwarded`, `forwarded-json`, `large-json`, `large`.
 pub fn run(
     alloc: Global,
     random: &mut Random,
     scale: usize,
+    cases: &mut Cases<'_>,
     results: &mut Results,
 ) -> Result<(), AllocError> {
     let parts = scale.saturating_mul(PARTS);
     let supply = Supply::new(alloc, random, b"\n")?;
-    for size in [100, 600, 3_000] {
-        results.list(&supply.message(random, &ALL, parts, size)?);
+    let messages = scale.saturating_mul(14);
+    for (name, size) in [
+        ("parts-100", 100),
+        ("parts-600", 600),
+        ("parts-3000", 3_000),
+    ] {
+        if cases.has(name) {
+            results.list(&supply.message(random, &ALL, parts, size)?);
+        }
     }
-    results.list_as_json(supply.message(random, &ALL, parts, 500)?)?;
-    results.list(&forwarded(alloc, &supply, random, scale.saturating_mul(14))?);
+    if cases.has("parts-json") {
+        results.list_as_json(supply.message(random, &ALL, parts, 500)?)?;
+    }
+    if cases.has("forwarded") {
+        results.list(&forwarded(alloc, &supply, random, messages)?);
+    }
     let supply = Supply::new(alloc, random, b"\r\n")?;
-    results.list_as_json(forwarded(alloc, &supply, random, scale.saturating_mul(14))?)?;
-    results.list_as_json(supply.message(random, &ALL, 4, scale.saturating_mul(80_000))?)?;
-    results.list(&supply.message(random, &ALL, 4, scale.saturating_mul(120_000))?);
+    if cases.has("forwarded-json") {
+        results.list_as_json(forwarded(alloc, &supply, random, messages)?)?;
+    }
+    if cases.has("large-json") {
+        results.list_as_json(supply.message(random, &ALL, 4, scale.saturating_mul(80_000))?)?;
+    }
+    if cases.has("large") {
+        results.list(&supply.message(random, &ALL, 4, scale.saturating_mul(120_000))?);
+    }
     Ok(())
 }

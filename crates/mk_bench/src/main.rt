@@ -1,10 +1,12 @@
 //! The benchmark: a job on inputs that it makes itself, and a digest of all that it gives.
 //!
-//! `mk_bench JOB SEED [SCALE]`: JOB is one of those below or `all`, SEED a number that determines the inputs, and SCALE
-//! their size, 100 unless it is given.
+//! `mk_bench JOB[/CASE] SEED [SCALE]`: JOB is one of those below or `all`, SEED a number that determines the inputs, and SCALE
+//! their size, 100 unless it is given. With CASE, as in `awkward/fields`, that case of the job runs alone. It makes its inputs
+//! from the seed too, so they are others than in the whole job.
 #![tactic(auto)]
 
 mod awkward;
+mod cases;
 mod devices;
 mod digest;
 mod editing;
@@ -18,11 +20,12 @@ mod random;
 mod runs;
 mod taking;
 
+use crate::cases::Cases;
 use crate::random::Random;
 use crate::runs::Results;
 use std::alloc::{AllocError, Global};
 use std::rt::Env;
-use std::{env, fmt, io};
+use std::{env, io};
 
 const SCALE: usize = 100;
 
@@ -46,43 +49,35 @@ const JOBS: [Job; 6] = [
     Job::Awkward,
 ];
 
-impl fmt::Display for Job {
-    fn fmt<W: fmt::Write>(&self, f: &mut fmt::Formatter<W>) -> fmt::Result {
-        match self {
-            Job::Filter => write!(f, "filter"),
-            Job::Unpack => write!(f, "unpack"),
-            Job::List => write!(f, "list"),
-            Job::Edit => write!(f, "edit"),
-            Job::Pack => write!(f, "pack"),
-            Job::Awkward => write!(f, "awkward"),
-        }
-    }
-}
-
 impl Job {
-    // Whether a word names the job.
-    fn has_name(self, word: &str) -> bool {
+    fn name(self) -> &'static str {
         match self {
-            Job::Filter => word == "filter",
-            Job::Unpack => word == "unpack",
-            Job::List => word == "list",
-            Job::Edit => word == "edit",
-            Job::Pack => word == "pack",
-            Job::Awkward => word == "awkward",
+            Job::Filter => "filter",
+            Job::Unpack => "unpack",
+            Job::List => "list",
+            Job::Edit => "edit",
+            Job::Pack => "pack",
+            Job::Awkward => "awkward",
         }
     }
 
-    // Does the job.
-    fn run(self, alloc: Global, seed: u64, scale: usize) -> Result<Results, AllocError> {
+    // Does the job, or the wanted case of it.
+    fn run(
+        self,
+        alloc: Global,
+        seed: u64,
+        scale: usize,
+        cases: &mut Cases<'_>,
+    ) -> Result<Results, AllocError> {
         let mut results = Results::new(alloc);
         let mut random = Random::new(seed);
         match self {
-            Job::Filter => filtering::run(alloc, &mut random, scale, &mut results)?,
-            Job::Unpack => taking::run(alloc, &mut random, scale, &mut results)?,
-            Job::List => listing::run(alloc, &mut random, scale, &mut results)?,
-            Job::Edit => editing::run(alloc, &mut random, scale, &mut results)?,
-            Job::Pack => packing::run(alloc, &mut random, scale, &mut results)?,
-            Job::Awkward => awkward::run(alloc, &mut random, scale, &mut results)?,
+            Job::Filter => filtering::run(alloc, &mut random, scale, cases, &mut results)?,
+            Job::Unpack => taking::run(alloc, &mut random, scale, cases, &mut results)?,
+            Job::List => listing::run(alloc, &mut random, scale, cases, &mut results)?,
+            Job::Edit => editing::run(alloc, &mut random, scale, cases, &mut results)?,
+            Job::Pack => packing::run(alloc, &mut random, scale, cases, &mut results)?,
+            Job::Awkward => awkward::run(alloc, &mut random, scale, cases, &mut results)?,
         }
         Ok(results)
     }
@@ -91,7 +86,7 @@ impl Job {
 fn main(rt: HostRuntime) -> io::Result<()> {
     let words = words(&rt)?;
     let (Some(wanted), Some(seed)) = (words.get(1), words.get(2)) else {
-        return rt.eprintln("usage: mk_bench JOB SEED [SCALE]");
+        return rt.eprintln("usage: mk_bench JOB[/CASE] SEED [SCALE]");
     };
     let Ok(seed) = seed.parse::<u64>() else {
         return rt.eprintln("SEED is no number");
@@ -100,14 +95,27 @@ fn main(rt: HostRuntime) -> io::Result<()> {
         Some(word) => word.parse::<usize>().unwrap_or(SCALE),
         None => SCALE,
     };
+    let (name, case) = match wanted.split_once('/') {
+        Some((name, case)) => (name, Some(case)),
+        None => (wanted.as_str(), None),
+    };
+    let mut cases = Cases::new(case);
     for job in JOBS {
-        if job.has_name(wanted.as_str()) || wanted.as_str() == "all" {
-            let results = job.run(rt.alloc(), seed, scale)?;
-            let digest = results.digest();
-            let runs = results.runs();
-            let refused = results.refused();
-            println!(rt; "{job}: {digest:016x}, {runs} runs, {refused} refused")?;
+        if job.name() == name || wanted.as_str() == "all" {
+            let results = job.run(rt.alloc(), seed, scale, &mut cases)?;
+            let named = if case.is_some() {
+                wanted.as_str()
+            } else {
+                job.name()
+            };
+            if cases.found {
+                let (digest, runs, refused) = (results.digest(), results.runs(), results.refused());
+                println!(rt; "{named}: {digest:016x}, {runs} runs, {refused} refused")?;
+            }
         }
+    }
+    if !cases.found {
+        rt.eprintln("no job or case has this name")?;
     }
     Ok(())
 }
