@@ -6,6 +6,7 @@ use Rattle.std.proofs.Math.Seq.{take-add}
 use lib.Seq.{paste}
 use Rattle.std.specs.List.{copy_within}
 use Rattle.mk_splice.specs.Splices.{spliced}
+use Rattle.mk_splice.proofs.Shifts.{spliced_after}
 
 -- bytes copied to where they are
 pub copied_nowhere : (from count to : ℕ) (x : List ℕ) → from ≡ to → x ≡ copy_within x from (from + count) to
@@ -56,3 +57,20 @@ gap_back place count to x z f order within =
     ap (λ xs. xs ++ drop to z) before
     ∙ (ap (λ xs. take place x ++ xs) (ap (drop to) whole ∙ drop_at (take to x) (moved ++ left) to long)
     ∙ (sym (append_assoc (take place x) moved left) ∙ ap (λ xs. xs ++ left) (sym (take-add place count x))))
+
+-- bytes replaced after the gap, which stays
+pub gap_tail : (front from place count rest : ℕ) (text x z f r : List ℕ) → z ≡ spliced (rest + from) count text x → front ≤ rest → rest + from + count ≤ length x → f ≡ take front x → r ≡ drop rest x → length f ≡ front → place ≡ front + from
+    → take front z ++ drop rest z ≡ spliced place count text (f ++ r)
+gap_tail front from place count rest text x z f r e order within first second long at =
+    let whole = f ++ r in
+    let tail = text ++ drop (rest + from + count) x in
+    let before : take front z ≡ f =
+    ap (take front) e ∙ (take-append-le front (take (rest + from) x) tail (omega (arith, length-take-le (rest + from) x (omega arith))) ∙ (take-take front (rest + from) x (omega arith) ∙ sym first)) in
+    let after : drop rest z ≡ spliced from count text r = ap (drop rest) e ∙ (spliced_after rest from count text x within ∙ ap (spliced from count text) (sym second)) in
+    let seam : drop front whole ≡ r = drop_at f r front long in
+    let taken : take place whole ≡ f ++ take from r = ap (λ n. take n whole) at ∙ (take-add front from whole ∙ (ap (λ xs. xs ++ take from (drop front whole)) (take_at f r front long) ∙ ap (λ xs. f ++ take from xs) seam)) in
+    let left : drop (place + count) whole ≡ drop (from + count) r = ap (λ n. drop n whole) (omega (arith, at)) ∙ (sym (drop-drop (from + count) front whole) ∙ ap (drop (from + count)) seam) in
+    ap (λ xs. xs ++ drop rest z) before
+    ∙ (ap (λ xs. f ++ xs) after
+    ∙ (sym (append_assoc f (take from r) (text ++ drop (from + count) r))
+    ∙ (ap (λ xs. xs ++ (text ++ drop (from + count) r)) (sym taken) ∙ ap (λ xs. take place whole ++ (text ++ xs)) (sym left))))

@@ -17,3 +17,6 @@ pub mod GapFields
 pub mod Saved
 pub mod Loadings
 pub mod SavedJournals
+pub mod PassedOver
+pub mod PlacesKept
+pub mod OnOks

@@ -165,7 +165,7 @@ some_counted : (name : List ℕ) (k : ℕ) (o : Option Found) → IfSome o (λ f
 some_counted name k None h = tt
 some_counted name k (Some f) h = (omega arith, h ∙ omega arith)
 
-found_counted : (name : List ℕ) (k : ℕ) (ls : List TextLine) → IfSome (field_at name k ls) (λ f. (1 ≤ k) × (length (filter (starts_named name) f.before) ≡ k - 1))
+pub found_counted : (name : List ℕ) (k : ℕ) (ls : List TextLine) → IfSome (field_at name k ls) (λ f. (1 ≤ k) × (length (filter (starts_named name) f.before) ≡ k - 1))
 found_counted name zero ls = tt
 found_counted name (suc k) ls = some_counted name k (find (starts_named name) k ls) (counted (starts_named name) k ls)
 

@@ -1,8 +1,7 @@
--- The names of the fields in so many bytes at the start, from those in fewer or more bytes.
-use Rattle.std.proofs.Common.{◌≡◌, ◌+◌, ◌-◌, ◌<◌, ◌++◌, ◌⊎◌, ℕ, suc, Bool, true, false, Option, None, Some, Result, Ok, Err, List, [], ◌∷◌, IfOk, IfSome, refl, ap, sym, ◌∙◌, subst, filter, length, take, drop, arith, length-append, inl, inr}
+-- What is known of the names of fields, among fewer lines and among more.
+use Rattle.std.proofs.Common.{◌≡◌, ◌+◌, ◌-◌, ◌<◌, ◌++◌, ◌⊎◌, ℕ, suc, Bool, true, false, Option, None, Some, List, [], ◌∷◌, refl, ap, sym, ◌∙◌, subst, filter, length, take, drop, arith, length-append, inl, inr}
 use Rattle.std.proofs.Math.Seq.{take-append_seam}
 use Rattle.std.proofs.lemmas.List.Elements.{filter-append}
-use Rattle.std.specs.declared.alloc.AllocError.{AllocError}
 use Rattle.std.specs.Global.{Vec}
 use Rattle.mk_line.specs.Lines.{TextLine, cut, text_of, AreLines}
 use Rattle.mk_line.proofs.Cuts.{cut_text, drop_lines, lines_behind, lines_cut, text_append}
@@ -14,7 +13,10 @@ use Rattle.mk_tree.proofs.Descent.{size_append}
 use Rattle.mk_tree.proofs.Heads.{lines_front}
 use Rattle.mk_decide.specs.FieldEdits.{starts_named}
 use Rattle.mk_decide.proofs.FieldPlaces.{run_all}
-use Rattle.mk_edit.specs.FieldNames.{AreRead, IsKnown, KnowsBefore}
+use Rattle.mk_edit.specs.inner.FieldNames.{may_have, AreRead, BeginsField, HasMarks, KnowsNames}
+
+no_lines : (x : TextLine) (xs : List TextLine) → ◌≡◌ {A = List TextLine} (x ∷ xs) [] → ⊥
+no_lines x xs e = cc
 
 -- where lines are joined in two ways, one of the first parts begins with the other
 first_is : (x y : TextLine) (xs ys : List TextLine) → x ∷ xs ≡ y ∷ ys → x ≡ y
@@ -23,20 +25,20 @@ first_is x y xs ys e = cc
 rest_is : (x y : TextLine) (xs ys : List TextLine) → x ∷ xs ≡ y ∷ ys → xs ≡ ys
 rest_is x y xs ys e = cc
 
-abbrev Overlap : List TextLine → List TextLine → List TextLine → List TextLine → Type 0
+abbrev pub Overlap : List TextLine → List TextLine → List TextLine → List TextLine → Type 0
 Overlap xs ys us vs = ((zs : List TextLine) × (us ≡ xs ++ zs) × (ys ≡ zs ++ vs)) ⊎ ((zs : List TextLine) × (xs ≡ us ++ zs))
 
 longer : (x u : TextLine) (xs ys us vs : List TextLine) → x ≡ u → Overlap xs ys us vs → Overlap (x ∷ xs) ys (u ∷ us) vs
 longer x u xs ys us vs e (inl p) = inl (p.0, ap (λ l. l ∷ us) (sym e) ∙ ap (λ ls. x ∷ ls) p.1, p.2)
 longer x u xs ys us vs e (inr p) = inr (p.0, ap (λ l. l ∷ xs) e ∙ ap (λ ls. u ∷ ls) p.1)
 
-overlap : (xs ys us vs : List TextLine) → xs ++ ys ≡ us ++ vs → Overlap xs ys us vs
+pub overlap : (xs ys us vs : List TextLine) → xs ++ ys ≡ us ++ vs → Overlap xs ys us vs
 overlap [] ys us vs e = inl (us, refl, e)
 overlap (x ∷ xs) ys [] vs e = inr (x ∷ xs, refl)
 overlap (x ∷ xs) ys (u ∷ us) vs e = longer x u xs ys us vs (first_is x u (xs ++ ys) (us ++ vs) e) (overlap xs ys us vs (rest_is x u (xs ++ ys) (us ++ vs) e))
 
 -- how many lines pass a test
-count_append : (test : TextLine → Bool) (xs ys : List TextLine) → length (filter test (xs ++ ys)) ≡ length (filter test xs) + length (filter test ys)
+pub count_append : (test : TextLine → Bool) (xs ys : List TextLine) → length (filter test (xs ++ ys)) ≡ length (filter test xs) + length (filter test ys)
 count_append test xs ys = ap length (filter-append test xs ys) ∙ length-append (filter test xs) (filter test ys)
 
 count_front : (test : TextLine → Bool) (ls xs ys : List TextLine) → ls ≡ xs ++ ys → length (filter test ls) ≡ 0 → length (filter test xs) ≡ 0
@@ -49,29 +51,36 @@ fields_by name l ls true true s t e = rw (s, t) (ap suc e)
 fields_by name l ls true false s t e = rw (s, t) e
 fields_by name l ls false t s u e = rw s e
 
-fields_named : (name : List ℕ) (ls : List TextLine) → length (filter (is_named name) (fields_of ls)) ≡ length (filter (starts_named name) ls)
+pub fields_named : (name : List ℕ) (ls : List TextLine) → length (filter (is_named name) (fields_of ls)) ≡ length (filter (starts_named name) ls)
 fields_named name [] = refl
 fields_named name (l ∷ ls) = fields_by name l ls (is_start l) (is_named name (field_text l [])) refl refl (fields_named name ls)
 
 -- the lines between
-run_front : (inside : Bool) (xs ys : List TextLine) → IsRun inside (xs ++ ys) → IsRun inside xs
+pub run_front : (inside : Bool) (xs ys : List TextLine) → IsRun inside (xs ++ ys) → IsRun inside xs
 run_front inside [] ys r = tt
 run_front inside (x ∷ xs) ys r = (r.0, run_front true xs ys r.1)
 
-cut_between : (text : List ℕ) (xs ys zs : List TextLine) → cut text ≡ xs ++ (ys ++ zs) → cut (take (size ys) (drop (size xs) text)) ≡ ys
+pub cut_between : (text : List ℕ) (xs ys zs : List TextLine) → cut text ≡ xs ++ (ys ++ zs) → cut (take (size ys) (drop (size xs) text)) ≡ ys
 cut_between text xs ys zs e =
     ap (λ t. cut (take (size ys) t)) (drop_lines text xs (ys ++ zs) e ∙ text_append ys zs)
     ∙ (ap cut (take-append_seam (text_of ys) (text_of zs)) ∙ cut_text ys (lines_front ys zs (lines_behind xs (ys ++ zs) (subst AreLines e (lines_cut text)))))
 
--- in fewer bytes
-known_front : (xs ys us vs : List TextLine) (known bytes : ℕ) (test : TextLine → Bool) → Overlap xs ys us vs → size xs ≡ known → size us ≡ bytes → bytes < known → length (filter test xs) ≡ 0 → length (filter test us) ≡ 0
-known_front xs ys us vs known bytes test (inl p) k b less h = absurd (omega (arith, k, b, less, ap size p.1, size_append xs p.0))
-known_front xs ys us vs known bytes test (inr p) k b less h = count_front test xs us p.0 p.1 h
+-- among fewer lines
+nothing_before : (xs ys : List TextLine) → ◌≡◌ {A = List TextLine} (xs ++ ys) [] → ◌≡◌ {A = List TextLine} xs []
+nothing_before [] ys e = refl
+nothing_before (x ∷ xs) ys e = absurd (no_lines x (xs ++ ys) e)
 
-pub known_before : (ls : List TextLine) (known bytes : ℕ) (names : Vec (Vec ℕ)) → IsKnown ls known (Some names) → bytes < known → KnowsBefore ls bytes (Some names)
-known_before ls known bytes names h less =
-    λ before rest whole takes name none.
-    known_front h.before h.behind before rest known bytes (starts_named name) (overlap h.before h.behind before rest (h.whole ∙ sym whole)) h.takes takes less (h.known name none)
+pub knows_front : (ls xs ys : List TextLine) (marks : Option (Vec Bool)) → ls ≡ xs ++ ys → KnowsNames ls marks → KnowsNames xs marks
+knows_front ls xs ys None e h = nothing_before xs ys (sym e ∙ h)
+knows_front ls xs ys (Some marks) e h = (h.0, λ name none. count_front (starts_named name) ls xs ys e (h.1 name none))
+
+pub has_marks : (ls : List TextLine) (marks : Option (Vec Bool)) → KnowsNames ls marks → HasMarks marks
+has_marks ls None h = tt
+has_marks ls (Some marks) h = h.0
+
+pub none_named : (ls : List TextLine) (name : List ℕ) (marks : Option (Vec Bool)) → KnowsNames ls marks → may_have marks name ≡ false → length (filter (starts_named name) ls) ≡ 0
+none_named ls name None h e = ap (λ l. length (filter (starts_named name) l)) h
+none_named ls name (Some marks) h e = h.1 name e
 
 -- in more bytes
 more_named : (name : List ℕ) (text : List ℕ) (xs ys us vs : List TextLine) (known bytes : ℕ) → Overlap xs ys us vs → cut text ≡ xs ++ ys → IsRun false ys → size xs ≡ known → size us ≡ bytes → length (filter (starts_named name) xs) ≡ 0
@@ -87,16 +96,13 @@ more_named name text xs ys us vs known bytes (inl p) e r k b h m =
     let none : length (filter (starts_named name) zs) ≡ 0 = sym (fields_named name zs) ∙ (ap (λ fs. length (filter (is_named name) fs)) (sym fields) ∙ m) in
     omega (arith, ap (λ ls. length (filter (starts_named name) ls)) p.1, count_append (starts_named name) xs zs, h, none)
 
-known_more : (text : List ℕ) (known bytes : ℕ) (names : Vec (Vec ℕ)) (o : Option (Vec (Vec ℕ))) → IsKnown (cut text) known (Some names)
-    → IfSome o (λ all. AreRead names.items (fields_of (fields_from false (cut (take (bytes - known) (drop known text))))) [] all.items) → KnowsBefore (cut text) bytes o
-known_more text known bytes names None h r = λ before rest whole takes. tt
-known_more text known bytes names (Some all) h r =
-    λ before rest whole takes name none.
-    (let q = r name none in
-    more_named name text h.before h.behind before rest known bytes (overlap h.before h.behind before rest (h.whole ∙ sym whole)) (sym h.whole) h.run h.takes takes (h.known name q.0) q.1)
-
-pub known_with : (text here : List ℕ) (known bytes : ℕ) (names : Vec (Vec ℕ)) (r : Result (Option (Vec (Vec ℕ))) AllocError) → IsKnown (cut text) known (Some names) → here ≡ take (bytes - known) (drop known text)
-    → IfOk r (λ o. IfSome o (λ all. AreRead names.items (fields_of (fields_from false (cut here))) [] all.items)) → IfOk r (λ o. KnowsBefore (cut text) bytes o)
-known_with text here known bytes names (Err e) h t m = tt
-known_with text here known bytes names (Ok o) h t m =
-    known_more text known bytes names o h (subst (λ xs. IfSome o (λ all. AreRead names.items (fields_of (fields_from false (cut xs))) [] all.items)) t m)
+pub known_with : (text here : List ℕ) (bytes : ℕ) (those these : Vec Bool) (p : BeginsField (cut text) bytes) (q : BeginsField (cut text) (bytes + length here))
+    → KnowsNames p.before (Some those) → here ≡ take (length here) (drop bytes text) → AreRead those.items (fields_of (fields_from false (cut here))) [] these.items → 0 < length these.items → KnowsNames q.before (Some these)
+known_with text here bytes those these p q h t r some =
+    let part : here ≡ take (bytes + length here - bytes) (drop bytes text) = t ∙ ap (λ n. take n (drop bytes text)) (omega arith) in (
+      some,
+      λ name none.
+          (let m = r name none in
+          more_named name text p.before p.after q.before q.after bytes (bytes + length here) (overlap p.before p.after q.before q.after (p.whole ∙ sym q.whole)) (sym p.whole) p.run p.takes q.takes (h.1 name m.0)
+          (ap (λ xs. length (filter (is_named name) (fields_of (fields_from false (cut xs))))) (sym part) ∙ m.1)),
+    )

@@ -1,10 +1,9 @@
 -- An edit of the root's fields that says nothing of its body is accepted where no open line would stand before another, and
 -- the fields stand where they stood.
-use Rattle.std.proofs.Common.{◌≡◌, ◌+◌, ◌-◌, ◌≤◌, ◌<◌, ◌++◌, if◌then◌else◌, ℕ, zero, suc, Bool, true, false, Option, None, Some, Result, Ok, Err, List, [], ◌∷◌, IfErr, refl, ap, sym, ◌∙◌, subst, length, take, drop, arith, length-append}
+use Rattle.std.proofs.Common.{◌≡◌, ◌+◌, ◌-◌, ◌≤◌, ◌<◌, ◌++◌, if◌then◌else◌, ℕ, zero, suc, Bool, true, false, Option, None, Some, Result, Ok, Err, List, [], ◌∷◌, IfErr, refl, ap, sym, ◌∙◌, subst, length, take, drop, min, arith, length-append}
 use Rattle.std.proofs.Math.Seq.{take-append_seam, drop-append_seam}
 use Rattle.std.proofs.lemmas.Bool.{ltb-true}
 use Rattle.std.proofs.lemmas.List.{length-take-le}
-use Rattle.std.specs.Global.{Vec}
 use Rattle.mk_line.specs.Lines.{TextLine, cut, text_of}
 use Rattle.mk_line.proofs.Cuts.{cut_text, text_cut, text_append}
 use Rattle.mk_head.specs.Split.{option_line}
@@ -36,8 +35,8 @@ use Rattle.mk_decide.specs.Looks.{has_separator, ends_there}
 use Rattle.mk_edit.specs.Made.{IsMade}
 use Rattle.mk_decide.specs.Outcomes.{edited}
 use Rattle.mk_edit.specs.declared.silent_edits.SilentEdit.{SilentEdit}
-use Rattle.mk_edit.specs.FieldNames.{KnowsBefore}
-use Rattle.mk_edit.specs.RootFields.{root_in, lines_in, HasFields, HasPassed, IsHeld, Replaces}
+use Rattle.mk_edit.specs.inner.FieldNames.{BeginsField, IsKnown}
+use Rattle.mk_edit.specs.RootFields.{root_in, lines_in, HasFields, Replaces}
 use Rattle.mk_edit.specs.SilentEdits.{numbered, IsSilent}
 use Rattle.mk_decide.proofs.FieldAnswers.{put_document, put_law, put_splice, answered_ok, answered_err}
 use Rattle.mk_decide.proofs.FieldFits.{IsPutAt, IsClosed, KindsStay, kinds_stay, put_are, put_head, look_there, parts_fit, line_put, given_put, fits_told}
@@ -49,6 +48,7 @@ use Rattle.mk_decide.proofs.PutSites.{opens_told, hit_told, printed_told}
 use Rattle.mk_decide.proofs.SectionSites.{IsSite, site_lines, front_lines, rest_lines, head_cut, head_is_run, head_within}
 use Rattle.mk_edit.proofs.SilentFields.{NamesSilent, names_silent, kind_stays}
 use Rattle.mk_edit.proofs.PassedFields.{put_goes_on}
+use Rattle.mk_edit.proofs.PlacesKept.{names_stay, place_stays}
 
 -- the root in its place
 some_is : (p q : Placed) → ◌≡◌ {A = Option Placed} (Some p) (Some q) → p ≡ q
@@ -283,11 +283,12 @@ held_behind text edit q r start size h d b t p =
       decided = d.decided;
       inside = omega (arith, d.inside, t, taken);
       behind = omega (arith, p);
-      counted = g.some;
-      left = λ names known. record {
-        fields = subst (λ n. HasFields (spliced r.place r.count r.new text) n (size - r.count + length r.new)) (sym b) (subst (λ n. HasFields (spliced r.place r.count r.new text) (root_in text).start (n - r.count + length r.new)) (sym t) d.left);
-        passed = record { before = q.before; behind = q.given ++ q.after; whole = sym d.lines; takes = taken; holds = g.holds; known = known q.before (q.old ++ q.after) d.stood taken; run = g.run };
-      };
+      left = subst (λ n. HasFields (spliced r.place r.count r.new text) n (size - r.count + length r.new)) (sym b) (subst (λ n. HasFields (spliced r.place r.count r.new text) (root_in text).start (n - r.count + length r.new)) (sym t) d.left);
+      passed = record { place = record { before = q.before; after = q.given ++ q.after; whole = sym d.lines; takes = taken; run = g.run }; holds = g.holds };
+      stays = λ bytes within place.
+          subst (λ ls. BeginsField ls bytes) (sym d.lines) (place_stays (lines_in text) q bytes d.stood g.run (omega (arith, within, taken)) place);
+      known = λ bytes marks known.
+          subst (λ ls. IsKnown ls (min bytes (r.place - start)) marks) (sym d.lines) (subst (λ n. IsKnown (lines_put q) (min bytes n) marks) taken (names_stay (lines_in text) q bytes marks d.stood g.run known));
     }
 
 put_by : (text : List ℕ) (start size : ℕ) (edit : SilentEdit) (r : Put) (w : PlainSplice) (x : Result LinePut Refusal) → HasFields text start size → IsSilent edit → puts (numbered edit edit.k) (lines_in text) ≡ x → IsPut r x
@@ -332,16 +333,3 @@ pub made_root : (edit : SilentEdit) (text x y old : List ℕ) (start size : ℕ)
 made_root edit text x y old start size r h e o t =
     let plain = plain_of (1 ∷ []) (numbered edit edit.k) in
     subst (λ z. IsMade plain z (record { place = r.place; old = old; new = r.new }) y) e (made_so plain text y r old h.decided o t)
-
--- the fields of a document's root
-pub held_first : (doc text : List ℕ) (start size : ℕ) (name : List ℕ) (bytes fields : ℕ) (names : Option (Vec (Vec ℕ))) → text ≡ doc → HasFields doc start size → HasPassed (lines_in doc) name bytes fields names → IsHeld text start size name bytes fields names
-held_first doc text start size name bytes fields names t f k = subst (λ x. IsHeld x start size name bytes fields names) (sym t) (record { fields = f; passed = k })
-
--- the fields of the root after an edit
-pub held_made : (edit : SilentEdit) (text fields y name : List ℕ) (start size added : ℕ) (r : PlainSplice) (names : Option (Vec (Vec ℕ))) → Replaces edit text start size r → fields ≡ head_text (root_in text) → KnowsBefore (cut fields) (r.place - start) names
-    → y ≡ spliced r.place r.count r.new text → name ≡ edit.name.now → added ≡ length r.new → IsHeld y start (size - r.count + added) name (r.place - start) (edit.k - 1) names
-held_made edit text fields y name start size added r names h e k t n l =
-    let known : KnowsBefore (lines_in text) (r.place - start) names = subst (λ xs. KnowsBefore (cut xs) (r.place - start) names) e k in
-    subst (λ x. IsHeld x start (size - r.count + added) name (r.place - start) (edit.k - 1) names) (sym t)
-    (subst (λ x. IsHeld (spliced r.place r.count r.new text) start (size - r.count + added) x (r.place - start) (edit.k - 1) names) (sym n)
-    (subst (λ x. IsHeld (spliced r.place r.count r.new text) start (size - r.count + x) edit.name.now (r.place - start) (edit.k - 1) names) (sym l) (h.left names known)))

@@ -5,7 +5,6 @@ pub mod Histories
 pub mod Made
 pub mod Laws
 pub mod SilentEdits
-pub mod FieldNames
 pub mod RootFields
 pub mod Drafts
 pub mod Answers

@@ -1,5 +1,5 @@
 -- The fields of the root in a text, and what an edit replaces that says nothing of its body.
-use Rattle.std.specs.Prelude.{◌≡◌, ◌≤◌, ◌<◌, ◌+◌, ◌-◌, ◌++◌, ℕ, true, false, Option, List, [], ◌∷◌, filter, length}
+use Rattle.std.specs.Prelude.{◌≡◌, ◌≤◌, ◌<◌, ◌+◌, ◌-◌, ◌++◌, ℕ, Bool, true, false, min, Option, List, [], ◌∷◌, filter, length}
 use Rattle.std.specs.Global.{Vec}
 use Rattle.mk_line.specs.Lines.{TextLine, cut}
 use Rattle.mk_head.specs.Splits.{IsRun}
@@ -14,7 +14,7 @@ use Rattle.mk_decide.specs.FieldEdits.{starts_named}
 use Rattle.mk_decide.specs.FieldPuts.{plain_of}
 use Rattle.mk_decide.specs.LocalAnswers.{PlainSplice}
 use Rattle.mk_decide.specs.Looks.{has_separator}
-use Rattle.mk_edit.specs.FieldNames.{KnowsNames, KnowsBefore}
+use Rattle.mk_edit.specs.inner.FieldNames.{BeginsField, IsKnown}
 use Rattle.mk_edit.specs.SilentEdits.{numbered}
 
 -- the root of a text
@@ -31,15 +31,10 @@ pub record HasFields (text : List ℕ) (start size : ℕ) : Type 0 where
   pub takes : size ≡ length (head_text (root_in text))
   pub separated : has_separator (entity_head (root_in text).entity).separator ≡ true
 
--- fields at the start take so many bytes, so many of them have a name, and their names are known or not
-pub record HasPassed (ls : List TextLine) (name : List ℕ) (bytes fields : ℕ) (names : Option (Vec (Vec ℕ))) : Type 0 where
-  pub before : List TextLine
-  pub behind : List TextLine
-  pub whole : before ++ behind ≡ ls
-  pub takes : size before ≡ bytes
-  pub holds : length (filter (starts_named name) before) ≡ fields
-  pub known : KnowsNames before names
-  pub run : IsRun false behind
+-- fields at the start take so many bytes, and so many of them have a name
+pub record HasPassed (ls : List TextLine) (name : List ℕ) (bytes fields : ℕ) : Type 0 where
+  pub place : BeginsField ls bytes
+  pub holds : length (filter (starts_named name) place.before) ≡ fields
 
 -- the field of an edit is the k-th of its name after so many bytes of fields
 pub record IsBehind (ls : List TextLine) (bytes : ℕ) (edit : SilentEdit) (k : ℕ) : Type 0 where
@@ -51,17 +46,13 @@ pub record IsBehind (ls : List TextLine) (bytes : ℕ) (edit : SilentEdit) (k : 
   pub some : 0 < k
   pub run : IsRun false behind
 
--- the root's fields stand in a text, and some of them were passed over
-pub record IsHeld (text : List ℕ) (start size : ℕ) (name : List ℕ) (bytes named : ℕ) (names : Option (Vec (Vec ℕ))) : Type 0 where
-  pub fields : HasFields text start size
-  pub passed : HasPassed (lines_in text) name bytes named names
-
 -- an edit of the root is accepted, these bytes are its splice, and the root's fields stand at the same place after it, where
--- those before the splice were passed over
+-- those before the splice were passed over; what was known of fields before it is known still
 pub record Replaces (edit : SilentEdit) (text : List ℕ) (start size : ℕ) (r : PlainSplice) : Type 0 where
   pub decided : IsDecided (plain_of (1 ∷ []) (numbered edit edit.k)) text r
   pub inside : (r.place - start) + r.count ≤ size
   pub behind : start ≤ r.place
-  pub counted : 1 ≤ edit.k
-  pub left : (names : Option (Vec (Vec ℕ))) → KnowsBefore (lines_in text) (r.place - start) names
-      → IsHeld (spliced r.place r.count r.new text) start (size - r.count + length r.new) edit.name.now (r.place - start) (edit.k - 1) names
+  pub left : HasFields (spliced r.place r.count r.new text) start (size - r.count + length r.new)
+  pub passed : HasPassed (lines_in (spliced r.place r.count r.new text)) edit.name.now (r.place - start) (edit.k - 1)
+  pub stays : (bytes : ℕ) → bytes ≤ r.place - start → BeginsField (lines_in text) bytes → BeginsField (lines_in (spliced r.place r.count r.new text)) bytes
+  pub known : (bytes : ℕ) (marks : Option (Vec Bool)) → IsKnown (lines_in text) bytes marks → IsKnown (lines_in (spliced r.place r.count r.new text)) (min bytes (r.place - start)) marks

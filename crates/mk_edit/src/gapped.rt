@@ -1,11 +1,11 @@
-//! A gap buffer: a text with a gap where it was changed last. A change moves the bytes between that place and its own, and no
-//! others.
-ghost use Rattle.std.specs.Prelude.{◌≡◌, ◌+◌, ◌≤◌, ◌<◌, ◌^◌, [], ◌++◌, IfOk, OnOk, OnErr, drop, length, take, vec_len};
+//! A gap buffer: a text with a gap where it was changed last, or nearly so. A change moves the bytes between the gap and its
+//! place, or those after it where they are fewer.
+ghost use Rattle.std.specs.Prelude.{◌≡◌, ◌+◌, ◌≤◌, ◌<◌, ◌^◌, ◌⊎◌, [], ◌++◌, IfOk, OnOk, OnErr, drop, length, min, take, vec_len};
 ghost use Rattle.std.specs.List.{copy_within};
 ghost use Rattle.mk_splice.specs.Splices.{spliced};
 ghost use Rattle.mk_edit.specs.inner.Gaps.{without_gap};
 
-use mk_splice::replace_within;
+use mk_splice::{replace, replace_within};
 use std::alloc::AllocError;
 use std::marker::Model;
 
@@ -54,6 +54,13 @@ impl GapText {
         self.front
     }
 
+    /// The bytes before it.
+    pub(crate) fn front(&self) -> &[u8]
+        ensures { result.now ≡ self.now.front }
+    {
+        &self.items[..self.front]
+    }
+
     /// The bytes after it.
     pub(crate) fn rest(&self) -> &[u8]
         ensures { result.now ≡ self.now.rest }
@@ -64,8 +71,7 @@ impl GapText {
     /// Moves the gap back to a place, unless it is there or before it.
     pub(crate) fn put_back(&mut self, place: usize)
         ensures same { without_gap self.new ≡ without_gap self.old }
-        ensures front { length self.new.front ≤ place }
-        ensures less { length self.new.front ≤ length self.old.front }
+        ensures front { length self.new.front ≡ min (length self.old.front) place }
     {
         if place < self.front {
             let count = self.front - place;
@@ -76,7 +82,8 @@ impl GapText {
         }
     }
 
-    /// Puts `text` in the place of `count` bytes at `place`, which isn't before the gap. Out of memory, nothing changes.
+    /// Puts `text` in the place of `count` bytes at `place`, which isn't before the gap. The gap moves there, but where fewer
+    /// bytes come after the change than stand between the gap and it: then those are moved. Out of memory, nothing changes.
     pub(crate) fn replace(
         &mut self,
         place: usize,
@@ -87,12 +94,15 @@ impl GapText {
         requires within { place + count ≤ length (without_gap self.old) }
         ensures ok { OnOk result (without_gap self.new ≡ spliced place count text.now (without_gap self.old)) }
         ensures fits { OnOk result (length (without_gap self.new) < 2 ^ 64) }
-        ensures front { OnOk result (length self.new.front ≤ place) }
+        ensures front { OnOk result ((length self.new.front ≡ place) ⊎ (length self.new.front ≡ length self.old.front)) }
         ensures err { OnErr result (self.new ≡ self.old) }
     {
+        let from = place - self.front;
+        if self.items.len() - self.rest - from - count < from {
+            return replace(&mut self.items, self.rest + from, count, text);
+        }
         let room = text.len().saturating_sub(count);
         let rest = make_room(&mut self.items, self.front, self.rest, room)?;
-        let from = place - self.front;
         let to = rest + from + count - text.len();
         move_and_write(&mut self.items, self.front, rest, from, to, text);
         self.front = place;

@@ -1,79 +1,164 @@
 //! A field is looked for after those that were passed over before.
-ghost use Rattle.std.specs.Prelude.{◌≡◌, ◌≤◌, ◌<◌, ◌+◌, ◌^◌, ◌&&◌, ℕ, false, drop, length, nat_lt, IfOk, IfErr, IfNone, IfSome, List};
-ghost use Rattle.std.specs.Str.{bytes_eq};
+ghost use Rattle.std.specs.Prelude.{◌≡◌, ◌≤◌, ◌<◌, ◌+◌, ◌^◌, ℕ, false, drop, length, take, IfOk, IfErr, List};
 ghost use Rattle.mk_line.specs.Lines.{cut as lines_of, TextLine};
+ghost use Rattle.mk_head.specs.Split.{fields_from};
+ghost use Rattle.mk_head.specs.Fields.{fields_of};
 ghost use Rattle.mk_head.specs.Splits.{IsRun};
 ghost use Rattle.mk_decide.specs.Answers.{refusal_of, IsRefusedBy};
 ghost use Rattle.mk_decide.specs.FieldPuts.{puts, IsPut};
-ghost use Rattle.mk_edit.specs.FieldNames.{is_lacked, IsKnown, KnowsBefore};
-ghost use Rattle.mk_edit.specs.RootFields.{HasPassed, IsBehind};
+ghost use Rattle.mk_edit.specs.inner.FieldNames.{BeginsField, HasMarks, IsKnown, KnowsNames};
+ghost use Rattle.mk_edit.specs.inner.Passing.{passed_over};
+ghost use Rattle.mk_edit.specs.RootFields.{IsBehind};
 ghost use Rattle.mk_edit.specs.SilentEdits.{numbered};
 
-use crate::names::{is_among, with_names};
+use crate::names::{is_marked, mark_names};
 use crate::silent_edits::SilentEdit;
 use mk_decide::{EditError, Put, put_of};
-use std::alloc::{AllocError, Global};
+use mk_head::each_field;
+use std::alloc::Global;
 
-/// Fields at the start.
+/// A table has one mark for so many bytes of fields, and some more.
+const BYTES_PER_MARK: usize = 4;
+
+/// So many marks has a table at least.
+const LEAST_MARKS: usize = 1024;
+
+/// So many it has at most, so that it takes little beside a long header.
+const MOST_MARKS: usize = 262_144;
+
+/// Fields at the start, of which some have a name.
 #[derive(Debug, Drop)]
 pub(crate) struct Passed {
     /// How many bytes they take.
     pub bytes: usize,
-    /// A name.
+    /// The name.
     pub name: Vec<u8>,
     /// How many of them have it.
     pub fields: u32,
-    /// The names that they have, and maybe others. `None` where they aren't known.
-    pub names: Option<Vec<Vec<u8>>>,
 }
 
 impl Passed {
-    ghost use Rattle.std.specs.Prelude.{◌≡◌, [], List};
-    ghost use Rattle.mk_head.specs.Splits.{IsRun};
-    ghost use Rattle.mk_line.specs.Lines.{TextLine};
-    ghost use Rattle.mk_edit.specs.FieldNames.{is_lacked};
-    ghost use Rattle.mk_edit.specs.RootFields.{HasPassed};
-    ghost use Rattle.std.specs.Prelude.{false};
-
-    // Whether it is known that none of them has this name.
-    fn has_none(&self, name: &[u8]) -> bool
-        ensures { result ≡ is_lacked self.now.names name.now }
-    {
-        match &self.names {
-            Some(names) => !is_among(names, name),
-            None => false,
-        }
-    }
+    ghost use Rattle.std.specs.Prelude.{◌≡◌, [], ℕ, List};
 
     /// No field.
     pub(crate) fn none(alloc: Global) -> Passed
-        ensures { (ls : List TextLine) → IsRun false ls → HasPassed ls result.name.items result.bytes result.fields result.names }
+        ensures { (result.name.items ≡ []) × ((result.bytes ≡ 0) × (result.fields ≡ 0)) }
     {
         Passed {
             bytes: 0,
             name: Vec::new(alloc),
             fields: 0,
-            names: Some(Vec::new(alloc)),
         }
     }
+}
+
+/// Fields at the start, whose names are known.
+#[derive(Debug, Drop)]
+pub(crate) struct Known {
+    /// How many bytes they take.
+    pub bytes: usize,
+    /// The marks of their names. There are none before the first field.
+    pub marks: Option<Vec<bool>>,
+}
+
+impl Known {
+    ghost use Rattle.std.specs.Prelude.{◌≡◌, None};
+    ghost use Rattle.mk_edit.specs.inner.FieldNames.{may_have as marked, HasMarks};
+
+    /// No field.
+    pub(crate) fn none() -> Known
+        ensures { (result.bytes ≡ 0) × (result.marks ≡ None) }
+    {
+        Known {
+            bytes: 0,
+            marks: None,
+        }
+    }
+
+    /// Whether one of these fields may have a name.
+    pub(crate) fn may_have(&self, name: &[u8]) -> bool
+        requires { HasMarks self.now.marks }
+        ensures { result ≡ marked self.now.marks name.now }
+    {
+        match &self.marks {
+            Some(marks) => is_marked(marks, name),
+            None => false,
+        }
+    }
+}
+
+/// The known fields with those that come next among fields that take `size` bytes. Without memory for a table, they are as
+/// before.
+pub(crate) fn learned(alloc: Global, known: Known, fields: &[u8], size: usize) -> Known
+    requires marks { HasMarks known.marks }
+    requires room { known.bytes + length fields.now < 2 ^ 64 }
+    ensures { (text : List ℕ) → fields.now ≡ take (length fields.now) (drop known.bytes text) → BeginsField (lines_of text) (known.bytes + length fields.now) → IsKnown (lines_of text) known.bytes known.marks → IsKnown (lines_of text) result.bytes result.marks }
+{
+    let Known { bytes, marks } = known;
+    match table(alloc, marks, size) {
+        Some(mut marks) => {
+            mark_names(&mut marks, fields);
+            Known {
+                bytes: bytes + fields.len(),
+                marks: Some(marks),
+            }
+        }
+        None => Known { bytes, marks: None },
+    }
+}
+
+// The table that is there, or one for the fields in so many bytes. `None` without memory for it.
+fn table(alloc: Global, marks: Option<Vec<bool>>, size: usize) -> Option<Vec<bool>>
+    requires { HasMarks marks }
+    ensures some { HasMarks result }
+    ensures kept { (ls : List TextLine) → KnowsNames ls marks → KnowsNames ls result }
+{
+    if let Some(marks) = marks {
+        return Some(marks);
+    }
+    let mut marks = Vec::new(alloc);
+    let count = MOST_MARKS.min(size / BYTES_PER_MARK + LEAST_MARKS);
+    match marks.resize(count, false) {
+        Ok(()) => Some(marks),
+        Err(_) => None,
+    }
+}
+
+/// How many bytes of fields are passed over on the way to the k-th of a name, counted from 1, and the number that it has after
+/// them. Where it isn't there, all of them are.
+pub(crate) fn pass_over(fields: &[u8], name: &[u8], k: u32) -> (usize, u32)
+    ensures passed { result ≡ passed_over name.now k 0 (fields_of (fields_from false (lines_of fields.now))) }
+{
+    let mut left = k;
+    let mut place = 0;
+    for field in each_field(fields) {
+        if field.is_named(name) {
+            if left == 1 {
+                return (place, left);
+            }
+            left = left.saturating_sub(1);
+        }
+        place += field.raw.len();
+    }
+    (place, left)
 }
 
 /// What an edit puts among fields, of which those after the first `bytes` bytes are given. The field's number is `k` among
 /// these.
 pub(crate) fn put_at(
     alloc: Global,
-    behind: &[u8],
+    fields_after: &[u8],
     bytes: usize,
     edit: &SilentEdit<'_>,
     k: u32,
 ) -> Result<Put, EditError>
-    requires run { IsRun false (lines_of behind.now) }
-    requires room { bytes + length behind.now < 2 ^ 64 }
-    ensures ok { (fields : List ℕ) → behind.now ≡ drop bytes fields → IsBehind (lines_of fields) bytes edit.now k → IfOk result (λ r. IsPut r (puts (numbered edit.now edit.now.k) (lines_of fields))) }
+    requires run { IsRun false (lines_of fields_after.now) }
+    requires room { bytes + length fields_after.now < 2 ^ 64 }
+    ensures ok { (fields : List ℕ) → fields_after.now ≡ drop bytes fields → IsBehind (lines_of fields) bytes edit.now k → IfOk result (λ r. IsPut r (puts (numbered edit.now edit.now.k) (lines_of fields))) }
     ensures after { IfOk result (λ r. bytes ≤ r.from) }
-    ensures err { (fields : List ℕ) → behind.now ≡ drop bytes fields → IsBehind (lines_of fields) bytes edit.now k → IfErr result (λ e. IsRefusedBy (refusal_of e) (puts (numbered edit.now edit.now.k) (lines_of fields))) }
+    ensures err { (fields : List ℕ) → fields_after.now ≡ drop bytes fields → IsBehind (lines_of fields) bytes edit.now k → IfErr result (λ e. IsRefusedBy (refusal_of e) (puts (numbered edit.now edit.now.k) (lines_of fields))) }
 {
-    match put_of(alloc, behind, &edit.of_number(k)) {
+    match put_of(alloc, fields_after, &edit.of_number(k)) {
         Ok(put) => Ok(Put {
             from: bytes + put.from,
             count: put.count,
@@ -81,44 +166,5 @@ pub(crate) fn put_at(
             kept: put.kept,
         }),
         Err(error) => Err(error),
-    }
-}
-
-/// The number of an edit's field among those of its name after the ones that were passed over. `None` where it isn't known.
-pub(crate) fn number_behind(passed: &Passed, edit: &SilentEdit<'_>) -> Option<u32>
-    ensures some { (ls : List TextLine) → HasPassed ls passed.now.name.items passed.now.bytes passed.now.fields passed.now.names → IfSome result (λ k. IsBehind ls passed.now.bytes edit.now k) }
-    ensures same { IfNone result ((nat_lt passed.now.fields edit.now.k && bytes_eq passed.now.name.items edit.now.name.now) ≡ false) }
-    ensures other { IfNone result ((nat_lt 0 edit.now.k && is_lacked passed.now.names edit.now.name.now) ≡ false) }
-{
-    if passed.fields < edit.k && passed.name.as_slice() == edit.name {
-        return Some(edit.k - passed.fields);
-    }
-    if 0 < edit.k && passed.has_none(edit.name) {
-        return Some(edit.k);
-    }
-    None
-}
-
-/// The names of the fields in the first `bytes` bytes, and maybe others, where those of the fields in the first `known`
-/// bytes are given, and the fields after these. `None` where they aren't known.
-pub(crate) fn names_before(
-    alloc: Global,
-    behind: &[u8],
-    known: usize,
-    names: Option<Vec<Vec<u8>>>,
-    bytes: usize,
-) -> Result<Option<Vec<Vec<u8>>>, AllocError>
-    requires { bytes ≤ known + length behind.now }
-    ensures { (fields : List ℕ) → behind.now ≡ drop known fields → IsKnown (lines_of fields) known names → IfOk result (λ all. KnowsBefore (lines_of fields) bytes all) }
-{
-    match names {
-        Some(names) => {
-            if bytes < known {
-                return Ok(Some(names));
-            }
-            let (here, _) = behind.split_at(bytes - known);
-            with_names(alloc, names, here)
-        }
-        None => Ok(None),
     }
 }

@@ -1,37 +1,46 @@
 //! Removals and renamings of fields of the root that say nothing of its body: they are made in the text alone.
-ghost use Rattle.std.specs.Prelude.{◌≡◌, ◌≤◌, ◌+◌, ◌∷◌, [], drop, length, IfOk, IfErr, IfSome};
+ghost use Rattle.std.specs.Prelude.{◌≡◌, ◌≤◌, ◌<◌, ◌+◌, ◌-◌, ◌^◌, ◌∷◌, [], drop, length, min, take, IfOk, IfErr, IfSome};
 ghost use Rattle.mk_tree.specs.Documents.{tree};
 ghost use Rattle.mk_tree.specs.Sections.{head_text};
 ghost use Rattle.mk_decide.specs.Answers.{refusal_of, IsRefusedBy};
 ghost use Rattle.mk_decide.specs.FieldPuts.{plain_of, puts, IsPut};
 ghost use Rattle.mk_decide.specs.LocalAnswers.{plain_splice};
 ghost use Rattle.mk_decide.specs.Outcomes.{edited};
-ghost use Rattle.mk_edit.specs.RootFields.{lines_in, root_in, HasFields, Replaces};
+ghost use Rattle.mk_edit.specs.RootFields.{lines_in, root_in, HasFields, IsBehind, Replaces};
 ghost use Rattle.mk_edit.specs.SilentEdits.{numbered, IsSilent};
+ghost use Rattle.mk_edit.specs.inner.FieldNames.{BeginsField};
 ghost use Rattle.mk_edit.specs.inner.Gaps.{without_gap};
-ghost use Rattle.mk_edit.specs.inner.GapFields.{IsHeldInParts};
 
 use crate::gapped::GapText;
-use crate::passing::{Passed, names_before, number_behind, put_at};
+use crate::passing::{Known, Passed, learned, pass_over, put_at};
 use crate::silent_edits::SilentEdit;
 use crate::stepping::read;
-use mk_decide::{EditError, Put, Replacement, has_separator, opens_early, put_of, splice_of};
+use mk_decide::{EditError, Put, Replacement, has_separator, opens_early, splice_of};
 use mk_splice::{Splice, copied};
 use mk_tree::Doc;
 use std::alloc::{AllocError, Global};
 use std::marker::Model;
+use std::mem;
+
+/// The names of fields are learned once the fields were gone through in vain so many times: it takes longer than going through
+/// them.
+const TIMES_IN_VAIN: usize = 4;
 
 /// A text whose root has a separator after its fields.
 #[derive(Drop)]
 pub(crate) struct RootFields {
-    /// With its gap where the last edit was made, or at the front.
+    /// With its gap between two fields, or at the front.
     text: GapText,
     /// Where the fields begin, in bytes from 0.
     start: usize,
     /// How many bytes they take.
     size: usize,
-    /// Those that were passed over in the last search.
+    /// Those before the last edit.
     passed: Passed,
+    /// Those whose names are known.
+    known: Known,
+    /// How many bytes of fields were gone through in vain since names were learned.
+    in_vain: usize,
 }
 
 impl Model for RootFields {
@@ -44,7 +53,7 @@ impl Model for RootFields {
 
     ghost view = { λ f. without_gap f.text };
 
-    ghost invariant = { λ f. IsHeldInParts f.text f.start f.size f.passed.name.items f.passed.bytes f.passed.fields f.passed.names };
+    ghost invariant = { λ f. IsHeldInParts f.text f.start f.size f.passed.name.items f.passed.bytes f.passed.fields f.known.bytes f.known.marks };
 }
 
 impl RootFields {
@@ -70,6 +79,8 @@ impl RootFields {
                 start,
                 size,
                 passed: Passed::none(alloc),
+                known: Known::none(),
+                in_vain: 0,
             }),
             None => Err(doc),
         }
@@ -85,6 +96,8 @@ impl RootFields {
                 start,
                 size,
                 passed: Passed::none(alloc),
+                known: Known::none(),
+                in_vain: 0,
             })),
             None => Ok(None),
         }
@@ -96,31 +109,74 @@ impl RootFields {
         ensures ok { IfOk result (λ s. IsMade (plain_of (1 ∷ []) (numbered edit.now edit.now.k)) self.old (plain_step s) self.new) }
         ensures err { IfErr result (λ e. IsRefusedBy (refusal_of e) (edited (plain_of (1 ∷ []) (numbered edit.now edit.now.k)) (tree self.old))) }
     {
+        if edit.k == 0 {
+            return Err(EditError::NoSuchField);
+        }
+        let (bytes, k) = self.begin(alloc, edit);
         let Replacement { place, count, new } = decide(
             alloc,
             &mut self.text,
             self.start,
             self.size,
-            &self.passed,
             edit,
+            bytes,
+            k,
         )?;
         let here = place - self.text.front_len();
         let old = copied(alloc, self.text.rest(), here, count)?;
         let name = Vec::from_slice(alloc, edit.name)?;
-        let bytes = place - self.start;
-        let known = self.passed.bytes;
-        let names = self.passed.names.take();
-        let fields = fields_after(&self.text, self.start, self.size, known);
-        let names = names_before(alloc, fields, known, names, bytes)?;
         self.text.replace(place, count, &new)?;
+        let bytes = place - self.start;
         self.size = self.size - count + new.len();
+        self.known.bytes = self.known.bytes.min(bytes);
         self.passed = Passed {
             bytes,
             name,
             fields: edit.k - 1,
-            names,
         };
         Ok(Splice { place, old, new })
+    }
+
+    // After how many bytes of fields the one of an edit is looked for, and its number there.
+    fn begin(&mut self, alloc: Global, edit: &SilentEdit<'_>) -> (usize, u32)
+        requires { 0 < edit.now.k }
+        ensures same { self.new ≡ self.old }
+        ensures place { IsBehind (lines_in self.old) result.0 edit.now result.1 }
+    {
+        if self.passed.fields < edit.k && self.passed.name.as_slice() == edit.name {
+            return (self.passed.bytes, edit.k - self.passed.fields);
+        }
+        self.learn(alloc, edit.name);
+        if self.known.may_have(edit.name) {
+            return (0, edit.k);
+        }
+        (self.known.bytes, edit.k)
+    }
+
+    // Learns the names of the fields that come next, where that is worth its time: where none known may be this one.
+    fn learn(&mut self, alloc: Global, name: &[u8])
+        ensures { self.new ≡ self.old }
+    {
+        if self.known.may_have(name) {
+            return;
+        }
+        let known = self.known.bytes;
+        let fields = next_fields(&self.text, self.start, self.size, known, self.passed.bytes);
+        let unknown = fields.len();
+        if unknown == 0 {
+            return;
+        }
+        if self.in_vain / TIMES_IN_VAIN < unknown {
+            self.in_vain = self.in_vain.saturating_add(unknown);
+            return;
+        }
+        self.in_vain = 0;
+        self.known = learned(
+            alloc,
+            mem::replace(&mut self.known, Known::none()),
+            fields,
+            self.size,
+        );
     }
 
     /// The document, read.
@@ -143,25 +199,28 @@ fn fields_place(doc: &Doc) -> Option<(usize, usize)>
     }
 }
 
-// What an edit replaces in a text whose root's fields take `size` bytes at `start`, or the first reason against it. The gap
-// goes back before the fields where the edit's one isn't known to stand after it.
+// What an edit replaces in a text whose root's fields take `size` bytes at `start`, or the first reason against it. Its field is
+// the `k`-th of its name after `bytes` bytes of them. The gap goes back before it.
 fn decide(
     alloc: Global,
     text: &mut GapText,
     start: usize,
     size: usize,
-    passed: &Passed,
     edit: &SilentEdit<'_>,
+    bytes: usize,
+    k: u32,
 ) -> Result<Replacement, EditError>
-    requires held { IsHeldInParts text.old start size passed.now.name.items passed.now.bytes passed.now.fields passed.now.names }
+    requires fields { HasFields (without_gap text.old) start size }
+    requires gap { BeginsField (lines_in (without_gap text.old)) (length text.old.front - start) }
+    requires place { IsBehind (lines_in (without_gap text.old)) bytes edit.now k }
     requires silent { IsSilent edit.now }
     ensures same { without_gap text.new ≡ without_gap text.old }
-    ensures front { length text.new.front ≤ length text.old.front }
+    ensures gap { BeginsField (lines_in (without_gap text.old)) (length text.new.front - start) }
     ensures after { IfOk result (λ r. length text.new.front ≤ r.place) }
     ensures ok { IfOk result (λ r. Replaces edit.now (without_gap text.old) start size (plain_splice r)) }
     ensures err { IfErr result (λ e. IsRefusedBy (refusal_of e) (edited (plain_of (1 ∷ []) (numbered edit.now edit.now.k)) (tree (without_gap text.old)))) }
 {
-    let put = put_in(alloc, text, start, size, passed, edit)?;
+    let put = put_in(alloc, text, start, size, edit, bytes, k)?;
     let front = text.front_len();
     let place = start + put.from;
     let here = place - front;
@@ -171,33 +230,73 @@ fn decide(
     Ok(splice_of(place, put))
 }
 
-// What an edit puts among the root's fields. The field is looked for after those that were passed over, or among all.
+// What an edit puts among the root's fields.
 fn put_in(
     alloc: Global,
     text: &mut GapText,
     start: usize,
     size: usize,
-    passed: &Passed,
     edit: &SilentEdit<'_>,
+    bytes: usize,
+    k: u32,
 ) -> Result<Put, EditError>
-    requires { IsHeldInParts text.old start size passed.now.name.items passed.now.bytes passed.now.fields passed.now.names }
+    requires fields { HasFields (without_gap text.old) start size }
+    requires gap { BeginsField (lines_in (without_gap text.old)) (length text.old.front - start) }
+    requires place { IsBehind (lines_in (without_gap text.old)) bytes edit.now k }
     ensures same { without_gap text.new ≡ without_gap text.old }
-    ensures front { length text.new.front ≤ length text.old.front }
+    ensures gap { BeginsField (lines_in (without_gap text.old)) (length text.new.front - start) }
     ensures after { IfOk result (λ r. length text.new.front ≤ start + r.from) }
     ensures ok { IfOk result (λ r. IsPut r (puts (numbered edit.now edit.now.k) (lines_in (without_gap text.old)))) }
     ensures err { IfErr result (λ e. IsRefusedBy (refusal_of e) (edited (plain_of (1 ∷ []) (numbered edit.now edit.now.k)) (tree (without_gap text.old)))) }
 {
-    match number_behind(passed, edit) {
-        Some(k) => {
-            let fields = fields_after(text, start, size, passed.bytes);
-            put_at(alloc, fields, passed.bytes, edit, k)
-        }
-        None => {
-            text.put_back(start);
-            let fields = fields_after(text, start, size, 0);
-            put_of(alloc, fields, &edit.of_number(edit.k))
-        }
+    let (bytes, k) = pass_front(text, start, size, edit, bytes, k);
+    text.put_back(start + bytes);
+    put_at(
+        alloc,
+        fields_after(text, start, size, bytes),
+        bytes,
+        edit,
+        k,
+    )
+}
+
+// The same place as `bytes` and `k`, or one after it: before the field, or else at the gap.
+fn pass_front(
+    text: &GapText,
+    start: usize,
+    size: usize,
+    edit: &SilentEdit<'_>,
+    bytes: usize,
+    k: u32,
+) -> (usize, u32)
+    requires fields { HasFields (without_gap text.now) start size }
+    requires gap { BeginsField (lines_in (without_gap text.now)) (length text.now.front - start) }
+    requires place { IsBehind (lines_in (without_gap text.now)) bytes edit.now k }
+    ensures place { IsBehind (lines_in (without_gap text.now)) result.0 edit.now result.1 }
+    ensures fits { length (without_gap text.now) < 2 ^ 64 }
+{
+    if text.front_len() <= start + bytes {
+        return (bytes, k);
     }
+    let (passed, left) = pass_over(&text.front()[start + bytes..], edit.name, k);
+    (bytes + passed, left)
+}
+
+// The fields after `known` bytes of them: those before the gap, or else those before the last edit, after `passed` bytes.
+fn next_fields(text: &GapText, start: usize, size: usize, known: usize, passed: usize) -> &[u8]
+    requires fields { HasFields (without_gap text.now) start size }
+    requires gap { BeginsField (lines_in (without_gap text.now)) (length text.now.front - start) }
+    requires known { BeginsField (lines_in (without_gap text.now)) known }
+    requires passed { BeginsField (lines_in (without_gap text.now)) passed }
+    ensures part { result.now ≡ take (length result.now) (drop known (head_text (root_in (without_gap text.now)))) }
+    ensures place { BeginsField (lines_in (without_gap text.now)) (known + length result.now) }
+    ensures fits { length (without_gap text.now) < 2 ^ 64 }
+{
+    if text.front_len() > start + known {
+        return &text.front()[start + known..];
+    }
+    let (fields, _) = fields_after(text, start, size, known).split_at(passed.saturating_sub(known));
+    fields
 }
 
 // The root's fields, which take `size` bytes at `start`, after the first `bytes` bytes of them.
@@ -208,7 +307,7 @@ fn fields_after(text: &GapText, start: usize, size: usize, bytes: usize) -> &[u8
     ensures { result.now ≡ drop bytes (head_text (root_in (without_gap text.now))) }
 {
     let front = text.front_len();
-    let (_, behind) = text.rest().split_at(start + bytes - front);
-    let (fields, _) = behind.split_at(size - bytes);
+    let (_, after) = text.rest().split_at(start + bytes - front);
+    let (fields, _) = after.split_at(size - bytes);
     fields
 }

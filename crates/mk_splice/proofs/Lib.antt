@@ -14,3 +14,4 @@ pub mod Spelled
 pub mod Prints
 pub mod Readings
 pub mod Fronts
+pub mod Ways

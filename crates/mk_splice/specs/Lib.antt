@@ -1,5 +1,5 @@
 pub mod Splices
-pub mod Rooms
+pub mod Peaks
 pub mod Roomy
 pub mod Fits
 pub mod Views

@@ -10,7 +10,7 @@ use Rattle.mk_head.proofs.Splits.{fields_rest}
 use Rattle.mk_head.proofs.FieldRuns.{behind_more, more_behind}
 use Rattle.std.specs.Option.{is_some}
 use Rattle.mk_head.specs.declared.fields.Field.{Field}
-use Rattle.mk_tree.specs.inner.Said.{first_value, said_by, said_first}
+use Rattle.mk_tree.specs.inner.Said.{first_value, value_said, said_first}
 use Rattle.mk_tree.proofs.Heads.{lines_front}
 
 raw_lines : (l : TextLine) (ls : List TextLine) → AreLines (l ∷ ls) → cut (text_of (l ∷ continuations ls)) ≡ l ∷ continuations ls
@@ -28,6 +28,6 @@ value_first name (l ∷ ls) h = value_step name l ls (is_start l) (is_named name
 pub value_among : (name text : List ℕ) → field_value name (fields_from false (cut text)) ≡ first_value name (fields_of (fields_from false (cut text)))
 value_among name text = value_first name (fields_from false (cut text)) (lines_front (fields_from false (cut text)) (rest_from false (cut text)) (subst AreLines (sym (fields_rest false (cut text))) (lines_cut text)))
 
-pub said_by_found : (name : List ℕ) (found : Option Field) (fields : List FieldText) → is_some found ≡ true → said_by found ≡ said_first name found fields
+pub said_by_found : (name : List ℕ) (found : Option Field) (fields : List FieldText) → is_some found ≡ true → value_said found ≡ said_first name found fields
 said_by_found name None fields h = cc
 said_by_found name (Some field) fields h = refl

@@ -10,7 +10,7 @@ ghost use Rattle.mk_head.specs.Values.{unled};
 ghost use Rattle.mk_head.specs.Views.{field_view};
 ghost use Rattle.mk_tree.specs.Kinds.{kind, kind_of, has_boundary, has_return as holds_return, holds_message as is_message, is_identity as identity};
 ghost use Rattle.mk_tree.specs.Steps.{kind_described};
-ghost use Rattle.mk_tree.specs.inner.Said.{begins_leaf, said_by, said_first};
+ghost use Rattle.mk_tree.specs.inner.Said.{begins_leaf, value_said, said_first};
 
 use mk_head::{ContentType, Encoding, Field, content_type, each_field, encoding, unfold};
 use mk_line::{leading_blanks, trimmed};
@@ -89,7 +89,7 @@ fn describe_untyped(
     digest: bool,
 ) -> Result<Described, AllocError>
     requires untyped { field_value (codes "Content-Type") (fields_from false (lines_of head.now)) ≡ None }
-    requires said { said_by said ≡ field_value (codes "Content-Transfer-Encoding") (fields_from false (lines_of head.now)) }
+    requires said { value_said said ≡ field_value (codes "Content-Transfer-Encoding") (fields_from false (lines_of head.now)) }
     ensures { IfOk result (λ d. kind_described d ≡ kind (fields_from false (lines_of head.now)) digest) }
 {
     if !digest {
@@ -174,8 +174,8 @@ struct Said<'a> {
 
 // What the fields at the start of a text say of their body, found in one pass over them.
 fn said_in(head: &[u8]) -> Said<'_>
-    ensures media { said_by result.media ≡ field_value (codes "Content-Type") (fields_from false (lines_of head.now)) }
-    ensures encoding { said_by result.encoding ≡ field_value (codes "Content-Transfer-Encoding") (fields_from false (lines_of head.now)) }
+    ensures media { value_said result.media ≡ field_value (codes "Content-Type") (fields_from false (lines_of head.now)) }
+    ensures encoding { value_said result.encoding ≡ field_value (codes "Content-Transfer-Encoding") (fields_from false (lines_of head.now)) }
 {
     let mut media = None;
     let mut encoding = None;
@@ -206,7 +206,7 @@ fn first_named<'a>(found: Option<Field<'a>>, next: Field<'a>, name: &[u8]) -> Op
 
 // The transfer encoding that a field says, and 7bit where there is none.
 fn encoding_by(alloc: Global, said: Option<Field<'_>>) -> Result<Encoding, AllocError>
-    ensures { IfOk result (λ e. e ≡ encoding_of_value (said_by said.entry)) }
+    ensures { IfOk result (λ e. e ≡ encoding_of_value (value_said said.entry)) }
 {
     match said {
         Some(field) => Ok(encoding(&unfold(alloc, &field)?)),
@@ -216,7 +216,7 @@ fn encoding_by(alloc: Global, said: Option<Field<'_>>) -> Result<Encoding, Alloc
 
 // The value of a field that was found.
 fn value_of(alloc: Global, said: Option<Field<'_>>) -> Result<Option<Vec<u8>>, AllocError>
-    ensures { IfOk result (λ v. option_map (λ b. b.items) v ≡ said_by said.entry) }
+    ensures { IfOk result (λ v. option_map (λ b. b.items) v ≡ value_said said.entry) }
 {
     match said {
         Some(field) => Ok(Some(unfold(alloc, &field)?)),

@@ -8,9 +8,9 @@ use Rattle.mk_head.specs.Fields.{FieldText, is_named}
 use Rattle.mk_head.specs.Unfolding.{value_in}
 
 -- the value of a field that was found
-abbrev pub said_by : Option Field → Option (List ℕ)
-said_by None = None
-said_by (Some field) = Some (value_in (cut field.raw.now))
+abbrev pub value_said : Option Field → Option (List ℕ)
+value_said None = None
+value_said (Some field) = Some (value_in (cut field.raw.now))
 
 -- the value of the first field of a name
 abbrev pub first_value : List ℕ → List FieldText → Option (List ℕ)

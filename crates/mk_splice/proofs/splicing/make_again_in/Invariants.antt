@@ -1,6 +1,6 @@
-use Rattle.std.proofs.Common.{◌≡◌, ◌≤◌, ◌+◌, map, drop}
+use Rattle.std.proofs.Common.{◌≡◌, ◌≤◌, length, map, drop}
 use Rattle.mk_splice.specs.Splices.{forth_step, GoesForth}
-use Rattle.mk_splice.specs.Rooms.{news}
+use Rattle.mk_splice.specs.Peaks.{most_forth}
 use Rattle.mk_splice.specs.Views.{splice_of}
 use Rattle.mk_splice.proofs.splicing.make_again_in.Given as goal
 
@@ -8,6 +8,6 @@ abbrev pub invariant-loop-splice : goal.invariant-loop-splice
 invariant-loop-splice l = record {
   made : forth_step (map splice_of (drop l.splice-index l.step)) l.text.bytes ≡ forth_step (map splice_of l.step) l.fn.text.bytes;
   goes : GoesForth (map splice_of (drop l.splice-index l.step)) l.text.bytes;
-  room : news (map splice_of (drop l.splice-index l.step)) ≤ l.text.spare;
-  spare : l.fn.text.spare + news (map splice_of (drop l.splice-index l.step)) ≤ l.text.spare + news (map splice_of l.step);
+  room : most_forth (map splice_of (drop l.splice-index l.step)) (length l.text.bytes) ≤ l.text.capacity;
+  capacity : l.fn.text.capacity ≤ l.text.capacity;
 }

@@ -1,7 +1,8 @@
-use Rattle.std.proofs.Common.{◌-◌, ◌∙◌, ap, sym, arith, subst, length, map, take}
+use Rattle.std.proofs.Common.{◌+◌, ◌-◌, ◌∙◌, ap, sym, arith, subst, length, map, take}
 use Rattle.mk_splice.specs.Splices.{back_step, GoesBack}
+use Rattle.mk_splice.specs.Peaks.{most_back}
 use Rattle.mk_splice.specs.Views.{splice_of}
-use Rattle.mk_splice.proofs.Splicings.{last_back, back_so}
+use Rattle.mk_splice.proofs.Splicings.{last_back, back_so, length-back, most_start, most_turn}
 use Rattle.mk_splice.proofs.splicing.take_back_in.Goals as goal
 
 pub replace_within-requires-clause-inside : goal.replace_within-requires-clause-inside
@@ -12,7 +13,11 @@ replace_within-requires-clause-inside c =
 pub replace_within-requires-clause-room : goal.replace_within-requires-clause-room
 replace_within-requires-clause-room c =
     let b = last_back c.args.step.now c.loop-left.left c.index-step-left.result c.loop-left.text.bytes c.loop-left-test.true c.loop-left.invariant.within c.index-step-left.is c.loop-left.invariant.goes in
-    omega (arith, b.room, c.loop-left.invariant.room, ap length c.deref.ensures.value)
+    let s = c.index-step-left.result in
+    let n = length c.loop-left.text.bytes in
+    let m = most_turn c.args.step.now c.loop-left.left s n c.loop-left-test.true c.loop-left.invariant.within c.index-step-left.is in
+    let starts = most_start (map splice_of (take (c.loop-left.left - 1) c.args.step.now)) (n - length s.new.items + length s.old.items) in
+    omega (arith, m, starts, b.stands.within, c.loop-left.invariant.room, ap length c.deref.ensures.value, c.len.ensures, s.new.ok.0)
 
 pub loop-left-preserved : goal.loop-left-preserved
 loop-left-preserved c =
@@ -22,6 +27,10 @@ loop-left-preserved c =
       within = omega (arith, c.loop-left.invariant.within);
       made = ap (back_step (map splice_of (take (c.loop-left.left - 1) c.args.step.now))) text ∙ (sym b.made ∙ c.loop-left.invariant.made);
       goes = subst (GoesBack (map splice_of (take (c.loop-left.left - 1) c.args.step.now))) (sym text) b.goes;
-      room = omega (arith, b.room, c.loop-left.invariant.room, c.replace_within.ensures.spare, ap length c.deref.ensures.value);
-      spare = omega (arith, b.room, c.loop-left.invariant.spare, c.replace_within.ensures.spare, ap length c.deref.ensures.value);
+      room =
+          let s = c.index-step-left.result in
+          let m = most_turn c.args.step.now c.loop-left.left s (length c.loop-left.text.bytes) c.loop-left-test.true c.loop-left.invariant.within c.index-step-left.is in
+          let long = ap (most_back (map splice_of (take (c.loop-left.left - 1) c.args.step.now))) (length-back s c.loop-left.text.bytes c.replace_within.new.self.bytes b.stands text) in
+          omega (arith, m, long, c.loop-left.invariant.room, c.replace_within.ensures.capacity);
+      capacity = omega (arith, c.loop-left.invariant.capacity, c.replace_within.ensures.capacity);
     }

@@ -1,6 +1,6 @@
-use Rattle.std.proofs.Common.{◌≡◌, ◌≤◌, ◌+◌, length, map, take}
+use Rattle.std.proofs.Common.{◌≡◌, ◌≤◌, length, map, take}
 use Rattle.mk_splice.specs.Splices.{back_step, GoesBack}
-use Rattle.mk_splice.specs.Rooms.{olds}
+use Rattle.mk_splice.specs.Peaks.{most_back}
 use Rattle.mk_splice.specs.Views.{splice_of}
 use Rattle.mk_splice.proofs.splicing.take_back_in.Given as goal
 
@@ -9,8 +9,8 @@ invariant-loop-left l = record {
   within : l.left ≤ length l.step;
   made : back_step (map splice_of (take l.left l.step)) l.text.bytes ≡ back_step (map splice_of l.step) l.fn.text.bytes;
   goes : GoesBack (map splice_of (take l.left l.step)) l.text.bytes;
-  room : olds (map splice_of (take l.left l.step)) ≤ l.text.spare;
-  spare : l.fn.text.spare + olds (map splice_of (take l.left l.step)) ≤ l.text.spare + olds (map splice_of l.step);
+  room : most_back (map splice_of (take l.left l.step)) (length l.text.bytes) ≤ l.text.capacity;
+  capacity : l.fn.text.capacity ≤ l.text.capacity;
 }
 
 abbrev pub decreases-loop-left : goal.decreases-loop-left
