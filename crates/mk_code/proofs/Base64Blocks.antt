@@ -10,7 +10,7 @@ use Rattle.base64.specs.Rfc4648.{encode_symbols}
 use Rattle.base64.proofs.EngineFacts.{encode_of-append, front_bytes}
 use Rattle.base64.proofs.RoundTrip.{length-encode_symbols}
 use Rattle.mk_code.specs.Base64Text.{IsBase64Of, is_letter, letters}
-use Rattle.mk_code.specs.inner.Decoded.{HasDecoded, EncodesNothing, HasBadGroups, IsUndecoded, IsUngrouped}
+use Rattle.mk_code.specs.inner.Decoded.{HasDecoded, EncodesNothing, HasBadGroups, EncodesNone, IsUngrouped}
 use Rattle.mk_head.specs.declared.encodings.Encoding.TheVariants.{Base64}
 use Rattle.mk_code.specs.declared.decoding.CodeError.{CodeError}
 use Rattle.mk_code.specs.declared.decoding.CodeError.TheVariants.{BadBase64, UnknownEncoding, Memory}
@@ -146,7 +146,7 @@ groups_bad found front whole w f none = record {
   none = none;
 }
 
-pub ungrouped : (found front : List ℕ) (whole : ℕ) (e : CodeError) → whole ≡ length found / 4 * 4 → front ≡ take whole found → IsUndecoded front e → IsUngrouped found e
+pub ungrouped : (found front : List ℕ) (whole : ℕ) (e : CodeError) → whole ≡ length found / 4 * 4 → front ≡ take whole found → EncodesNone front e → IsUngrouped found e
 ungrouped found front whole BadBase64 w f h = groups_bad found front whole w f h
 ungrouped found front whole UnknownEncoding w f h = absurd h
 ungrouped found front whole Memory w f h = tt
@@ -157,7 +157,7 @@ refused_groups text out found rest BadBase64 h bad = (refl, bad_groups text out 
 refused_groups text out found rest UnknownEncoding h bad = absurd bad
 refused_groups text out found rest Memory h bad = tt
 
-pub refused_end : (text out found rest : List ℕ) (e : CodeError) → IsUnderWay text out found rest → rest ≡ [] → IsUndecoded found e → IsRefused Base64 text e
+pub refused_end : (text out found rest : List ℕ) (e : CodeError) → IsUnderWay text out found rest → rest ≡ [] → EncodesNone found e → IsRefused Base64 text e
 refused_end text out found rest BadBase64 h n bad = (refl, bad_end text out found rest h n bad)
 refused_end text out found rest UnknownEncoding h n bad = absurd bad
 refused_end text out found rest Memory h n bad = tt

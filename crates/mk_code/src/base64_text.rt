@@ -7,11 +7,11 @@ ghost use Rattle.mk_line.specs.Ascii.{equals_sign};
 ghost use Rattle.mk_code.specs.Base64Text.{IsBase64Of, letters as letters_of, base64_encoded, lined, is_letter as letter};
 ghost use Rattle.mk_code.specs.OutputLines.{widest};
 ghost use Rattle.mk_code.specs.Contents.{IsRefused};
-ghost use Rattle.mk_code.specs.inner.Decoded.{HasDecoded, IsUndecoded, IsUngrouped};
+ghost use Rattle.mk_code.specs.inner.Decoded.{HasDecoded, EncodesNone, IsUngrouped};
 ghost use Rattle.mk_code.specs.inner.Strays.{is_stray};
 ghost use Rattle.mk_head.specs.declared.encodings.Encoding.TheVariants.{Base64};
 
-use crate::decoding::{CodeError, with_room};
+use crate::decoding::{CodeError, make_room};
 use crate::lanes::{LANES, letters_at, strays_at};
 use base64::DecodeAllocError;
 use base64::engine::general_purpose::{STANDARD, STANDARD_NO_PAD};
@@ -106,28 +106,28 @@ fn push_lines(text: &mut Vec<u8>, letters: &[u8], ending: &[u8]) -> Result<(), A
     text.extend_from_slice(rest)
 }
 
-/// The bytes whose encoding the letters before the first `=` are. They are decoded block by block, so that no second text of
-/// letters is kept.
-pub(crate) fn decode(memory: Vec<u8>, text: &[u8]) -> Result<Vec<u8>, CodeError>
-    ensures content { IfOk result (λ bytes. IsBase64Of text.now bytes.items) }
+/// Puts the bytes whose encoding the letters before the first `=` are in the place of those that `out` holds. They are decoded
+/// block by block, so that no second text of letters is kept.
+pub(crate) fn decode(out: &mut Vec<u8>, text: &[u8]) -> Result<(), CodeError>
+    ensures content { OnOk result (IsBase64Of text.now out.new.items) }
     ensures refused { IfErr result (λ error. IsRefused Base64 text.now error) }
 {
-    let alloc = *memory.allocator();
+    let alloc = *out.allocator();
     let mut rest = before_equals(text);
-    let mut out = with_room(memory, rest.len() / GROUP * GROUP_BYTES + 2 * GROUP_BYTES)?;
+    make_room(out, rest.len() / GROUP * GROUP_BYTES + 2 * GROUP_BYTES)?;
     let mut found = Vec::with_capacity(alloc, GROUP + BLOCK.min(rest.len()))?;
     'each: while !rest.is_empty() {
         let (front, behind) = rest.split_at(BLOCK.min(rest.len()));
         gather(&mut found, front)?;
-        match decode_groups(&mut out, &mut found) {
+        match decode_groups(out, &mut found) {
             Ok(()) => rest = behind,
             Err(error) => return Err(error),
         }
     }
-    match push_decoded(&mut out, &found) {
+    match push_decoded(out, &found) {
         Ok(()) => {
-            give_back(&mut out);
-            Ok(out)
+            give_back(out);
+            Ok(())
         }
         Err(error) => Err(error),
     }
@@ -163,7 +163,7 @@ fn decode_groups(out: &mut Vec<u8>, found: &mut Vec<u8>) -> Result<(), CodeError
 // Appends the bytes whose encoding letters are.
 fn push_decoded(out: &mut Vec<u8>, found: &[u8]) -> Result<(), CodeError>
     ensures ok { OnOk result (HasDecoded out.old.items found.now out.new.items []) }
-    ensures err { IfErr result (λ error. IsUndecoded found.now error) }
+    ensures err { IfErr result (λ error. EncodesNone found.now error) }
 {
     match STANDARD_NO_PAD.decode_vec(found, out) {
         Ok(()) => Ok(()),

@@ -1,5 +1,5 @@
 //! Decoding the content of a part by its transfer encoding (RFC 2045, 6).
-ghost use Rattle.std.specs.Prelude.{◌≡◌, [], IfOk, IfErr, Err};
+ghost use Rattle.std.specs.Prelude.{◌≡◌, [], IfOk, IfErr, OnOk, Err};
 ghost use Rattle.mk_code.specs.Contents.{IsContent, IsRefused};
 ghost use Rattle.mk_code.specs.declared.decoding.CodeError.TheVariants.{Memory};
 
@@ -37,42 +37,42 @@ pub fn decode(alloc: Global, encoding: Encoding, text: &[u8]) -> Result<Vec<u8>,
     ensures refused { IfErr result (λ error. IsRefused encoding text.now error) }
     ensures unknown { encoding ≡ Encoding.Other → result ≡ Err CodeError.UnknownEncoding }
 {
-    decode_in(Vec::new(alloc), encoding, text)
+    let mut bytes = Vec::new(alloc);
+    decode_in(&mut bytes, encoding, text)?;
+    Ok(bytes)
 }
 
-/// Decodes as `decode` does, in memory that is there already, whatever bytes it holds. Of its room, what is more than twice
-/// what the content can take is given back. After an error it is freed.
-pub fn decode_in(memory: Vec<u8>, encoding: Encoding, text: &[u8]) -> Result<Vec<u8>, CodeError>
-    ensures content { IfOk result (λ bytes. IsContent encoding text.now bytes.items) }
+/// Decodes as `decode` does, in memory that is there already: the content takes the place of the bytes that it holds. Of its
+/// room, what is more than twice what the content can take is given back. After an error it holds any bytes.
+pub fn decode_in(memory: &mut Vec<u8>, encoding: Encoding, text: &[u8]) -> Result<(), CodeError>
+    ensures content { OnOk result (IsContent encoding text.now memory.new.items) }
     ensures refused { IfErr result (λ error. IsRefused encoding text.now error) }
     ensures unknown { encoding ≡ Encoding.Other → result ≡ Err CodeError.UnknownEncoding }
 {
     match encoding {
-        Encoding::Identity => Ok(copied(memory, text)?),
+        Encoding::Identity => Ok(copy(memory, text)?),
         Encoding::Qp => Ok(qp_decoding::decode(memory, text)?),
         Encoding::Base64 => base64_text::decode(memory, text),
         Encoding::Other => Err(CodeError::UnknownEncoding),
     }
 }
 
-fn copied(memory: Vec<u8>, text: &[u8]) -> Result<Vec<u8>, AllocError>
-    ensures { IfOk result (λ copy. copy.items ≡ text.now) }
+// Puts the bytes of a text in the place of those that the memory holds.
+fn copy(memory: &mut Vec<u8>, text: &[u8]) -> Result<(), AllocError>
+    ensures { OnOk result (memory.new.items ≡ text.now) }
 {
-    let mut copy = with_room(memory, text.len())?;
-    copy.extend_from_slice(text)?;
-    Ok(copy)
+    make_room(memory, text.len())?;
+    memory.extend_from_slice(text)
 }
 
-/// This memory without its bytes, and with room for `size` bytes. Where it has more than twice that room, the rest is given
-/// back.
-pub(crate) fn with_room(memory: Vec<u8>, size: usize) -> Result<Vec<u8>, AllocError>
-    ensures { IfOk result (λ room. room.items ≡ []) }
+/// Takes the bytes out of memory, and makes room in it for `size` bytes. Where it has more than twice that room, the rest is
+/// given back.
+pub(crate) fn make_room(memory: &mut Vec<u8>, size: usize) -> Result<(), AllocError>
+    ensures { OnOk result (memory.new.items ≡ []) }
 {
-    let mut room = memory;
-    room.clear();
-    if room.capacity() / 2 > size {
-        room.shrink_to(size);
+    memory.clear();
+    if memory.capacity() / 2 > size {
+        memory.shrink_to(size);
     }
-    room.reserve_exact(size)?;
-    Ok(room)
+    memory.reserve_exact(size)
 }

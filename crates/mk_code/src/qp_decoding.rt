@@ -1,9 +1,9 @@
 //! Decoding quoted-printable (RFC 2045, 6.7).
-ghost use Rattle.std.specs.Prelude.{◌≡◌, ◌<◌, ◌++◌, ◌≤◌, true, length, IfOk, OnOk, IsSome};
+ghost use Rattle.std.specs.Prelude.{◌≡◌, ◌<◌, ◌++◌, ◌≤◌, true, length, OnOk, IsSome};
 ghost use Rattle.mk_line.specs.Marks.{trimmed};
 ghost use Rattle.mk_code.specs.QuotedPrintable.{qp_decoded, unquoted, pair_at, is_hex_digit as hex_digit, digit_value as value_of};
 
-use crate::decoding::with_room;
+use crate::decoding::make_room;
 use mk_line::{cut, split_at_first, trimmed};
 use std::alloc::AllocError;
 
@@ -12,15 +12,15 @@ const EQUALS: u8 = b'=';
 /// The digits of a byte after its `=`.
 const DIGITS: usize = 2;
 
-/// What the text stands for.
-pub(crate) fn decode(memory: Vec<u8>, text: &[u8]) -> Result<Vec<u8>, AllocError>
-    ensures { IfOk result (λ bytes. bytes.items ≡ qp_decoded text.now) }
+/// Puts what the text stands for in the place of the bytes that `out` holds.
+pub(crate) fn decode(out: &mut Vec<u8>, text: &[u8]) -> Result<(), AllocError>
+    ensures { OnOk result (out.new.items ≡ qp_decoded text.now) }
 {
-    let mut out = with_room(memory, text.len())?;
+    make_room(out, text.len())?;
     for line in cut(text) {
-        push_line(&mut out, line.content, line.ending.bytes())?;
+        push_line(out, line.content, line.ending.bytes())?;
     }
-    Ok(out)
+    Ok(())
 }
 
 // Appends what a line stands for.

@@ -18,7 +18,6 @@ use mk_mailbox::{Fault, Sink, Source};
 use mk_transfer::{Cause, Status, Stop, give_up, reading, send, writing};
 use mk_view::{ExtractError, Leaf, NameForm, content_in, numbered};
 use std::alloc::{AllocError, Global};
-use std::mem;
 
 /// How many names are tried for a leaf: its own, and that with the numbers from 1 on after it.
 const MOST_TRIES: u64 = 100;
@@ -302,16 +301,15 @@ fn unpack_leaf<O: Sink, E: Sink, F: Folder>(
         (failures (O.failures out.old) (E.failures err.old) (F.failures dir.old))
         (failures (O.failures out.new) (E.failures err.new) (F.failures dir.new))) }
 {
-    let text = match content_in(mem::replace(memory, Vec::new(alloc)), &leaf.section) {
-        Ok(text) => text,
+    match content_in(memory, &leaf.section) {
+        Ok(()) => {}
         Err(ExtractError::Memory) => return Err(Stop::Memory),
         Err(reason) => {
             report_undecoded(alloc, err, &leaf.path, reason)?;
             return Ok(true);
         }
-    };
-    let put = put_free(alloc, dir, &leaf.name, &text, manner.over)?;
-    *memory = text;
+    }
+    let put = put_free(alloc, dir, &leaf.name, memory, manner.over)?;
     match put {
         Some(target) => {
             say_stored(alloc, out, manner.report, leaf, &target)?;

@@ -183,12 +183,13 @@ fn held(rt: &HostRuntime) -> Vec<u8> {
 #[test]
 fn memory_decode_in(rt: HostRuntime) {
     for (encoding, text, wanted) in ENCODED {
-        let found = match decode_in(held(&rt), encoding, text) {
-            Err(CodeError::Memory) => decode_in(held(&rt), encoding, text),
+        let mut memory = held(&rt);
+        let found = match decode_in(&mut memory, encoding, text) {
+            Err(CodeError::Memory) => decode_in(&mut memory, encoding, text),
             found => found,
         };
         match found {
-            Ok(content) => assert!(rt; wanted == Ok(content.as_slice())),
+            Ok(()) => assert!(rt; wanted == Ok(memory.as_slice())),
             Err(error) => assert!(rt; wanted == Err(error)),
         }
     }

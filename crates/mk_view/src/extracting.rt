@@ -1,5 +1,5 @@
 //! The content of a section, taken out of a document.
-ghost use Rattle.std.specs.Prelude.{◌≡◌, ◌↔◌, Err, None, Some, IfErr, IfOk};
+ghost use Rattle.std.specs.Prelude.{◌≡◌, ◌↔◌, Err, None, Some, IfErr, IfOk, OnOk};
 ghost use Rattle.mk_tree.specs.Documents.{tree};
 ghost use Rattle.mk_tree.specs.Sections.{section_at};
 ghost use Rattle.mk_view.specs.Extracts.{IsContentOf, IsExtract, IsExtractRefused, IsRefusedOf, extract_reason};
@@ -44,23 +44,26 @@ pub fn content(alloc: Global, section: &Section<'_>) -> Result<Vec<u8>, ExtractE
     ensures content { IfOk result (λ bytes. IsExtract (Some section.now) bytes.items) }
     ensures refused { IfErr result (λ error. IsExtractRefused (Some section.now) error) }
 {
-    content_in(Vec::new(alloc), section)
+    let mut bytes = Vec::new(alloc);
+    content_in(&mut bytes, section)?;
+    Ok(bytes)
 }
 
-/// What `content` gives, in memory that is there already, whatever bytes it holds. After an error it is freed.
-pub fn content_in(memory: Vec<u8>, section: &Section<'_>) -> Result<Vec<u8>, ExtractError>
-    ensures content { IfOk result (λ bytes. IsExtract (Some section.now) bytes.items) }
+/// Puts what `content` gives into memory that is there already, in the place of the bytes that it holds. After an error it
+/// holds any bytes.
+pub fn content_in(memory: &mut Vec<u8>, section: &Section<'_>) -> Result<(), ExtractError>
+    ensures content { OnOk result (IsExtract (Some section.now) memory.new.items) }
     ensures refused { IfErr result (λ error. IsExtractRefused (Some section.now) error) }
 {
     match content_of(memory, section) {
-        Ok(bytes) => Ok(bytes),
+        Ok(()) => Ok(()),
         Err(error) => Err(extract_error(error)),
     }
 }
 
 // The content of a section, decoded where it is a leaf.
-fn content_of(memory: Vec<u8>, section: &Section<'_>) -> Result<Vec<u8>, CodeError>
-    ensures content { IfOk result (λ bytes. IsContentOf section.now bytes.items) }
+fn content_of(memory: &mut Vec<u8>, section: &Section<'_>) -> Result<(), CodeError>
+    ensures content { OnOk result (IsContentOf section.now memory.new.items) }
     ensures refused { IfErr result (λ error. IsRefusedOf section.now error) }
 {
     match section.kind() {

@@ -17,10 +17,10 @@ abbrev pub EncodesNothing : List ℕ → Type 0
 EncodesNothing found = (bytes : List ℕ) → IsBytes bytes → found ≡ encode_of standard_no_pad bytes → ⊥
 
 -- why letters weren't decoded
-abbrev pub IsUndecoded : List ℕ → CodeError → Type 0
-IsUndecoded found BadBase64 = EncodesNothing found
-IsUndecoded found UnknownEncoding = ⊥
-IsUndecoded found Memory = Unit {0}
+abbrev pub EncodesNone : List ℕ → CodeError → Type 0
+EncodesNone found BadBase64 = EncodesNothing found
+EncodesNone found UnknownEncoding = ⊥
+EncodesNone found Memory = Unit {0}
 
 -- whole groups of four letters at the start are the encoding of no bytes
 pub record HasBadGroups (found : List ℕ) : Type 0 where

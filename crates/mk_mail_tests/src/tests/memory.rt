@@ -101,12 +101,13 @@ fn memory_content_in(rt: HostRuntime) {
         return;
     };
     let section = doc.section(&[1, 2]).expect(&rt, "a section");
-    let bytes = match content_in(held(&rt), &section) {
-        Err(ExtractError::Memory) => content_in(held(&rt), &section),
-        bytes => bytes,
+    let mut memory = held(&rt);
+    let found = match content_in(&mut memory, &section) {
+        Err(ExtractError::Memory) => content_in(&mut memory, &section),
+        found => found,
     };
-    match bytes {
-        Ok(bytes) => assert_eq!(rt; bytes.as_slice(), b"hi".as_slice()),
+    match found {
+        Ok(()) => assert_eq!(rt; memory.as_slice(), b"hi".as_slice()),
         Err(_) => assert!(rt; false, "memory"),
     }
 }

@@ -59,7 +59,7 @@ returns-in_ok-report_exists-in-None-clause-all g c =
     let content = c.in-Ok.ensures.content in
     let none = rw c.deref-2.ensures.value at (c.put_free.ensures.full (search rules)) in
     let sent = rw c.deref-in-None.ensures.value at c.in_ok-report_exists-in-None.ensures in
-    λ t here. UnpackedAll-one c.args.manner t leaf _ true _ _ (crowded-leaf c.args.manner t leaf c.in-Ok.text.items _ _ (rw here content) none) (Appends-nil _) sent.whole (line_told _ _ _)
+    λ t here. UnpackedAll-one c.args.manner t leaf _ true _ _ (crowded-leaf c.args.manner t leaf c.content_in.new.memory.items _ _ (rw here content) none) (Appends-nil _) sent.whole (line_told _ _ _)
 
 pub returns-in_err-report_exists-in-None-clause-some : goal.returns-in_err-report_exists-in-None-clause-some
 returns-in_err-report_exists-in-None-clause-some g c =
@@ -68,7 +68,7 @@ returns-in_err-report_exists-in-None-clause-some g c =
     let content = c.in-Ok.ensures.content in
     let none = rw c.deref-2.ensures.value at (c.put_free.ensures.full (search rules)) in
     let stopped = rw c.deref-in-None.ensures.value at c.in_err-report_exists-in-None.ensures in
-    rw from.1 (λ t here. UnpackedSome-one c.args.manner t leaf _ _ _ (crowded-leaf c.args.manner t leaf c.in-Ok.text.items _ _ (rw here content) none) (AppendsFront-none _ _) stopped.front)
+    rw from.1 (λ t here. UnpackedSome-one c.args.manner t leaf _ _ _ (crowded-leaf c.args.manner t leaf c.content_in.new.memory.items _ _ (rw here content) none) (AppendsFront-none _ _) stopped.front)
 
 pub returns-in_err-put-clause-some : goal.returns-in_err-put-clause-some
 returns-in_err-put-clause-some g c =
