@@ -1,12 +1,13 @@
 -- A folded field ends at the first line feed that no blank follows.
-use Rattle.std.proofs.Common.{◌≡◌, ◌==◌, ◌&&◌, ◌||◌, ◌+◌, ◌<◌, ◌≤◌, ◌^◌, ◌%◌, if◌then◌else◌, cond, eqb, bit_and, ℕ, suc, zero, Bool, true, false, not, List, [], ◌∷◌, ◌++◌, map, length, take, drop, refl, sym, ap, ap₂, ◌∙◌, arith, inl, inr, length-drop}
-use Rattle.std.proofs.lemmas.Bool.{cases_Bool, eqb-true}
+use Rattle.std.proofs.Common.{◌≡◌, ◌==◌, ◌&&◌, ◌||◌, ◌+◌, ◌<◌, ◌≤◌, ◌^◌, ◌%◌, if◌then◌else◌, cond, eqb, bit_and, ℕ, suc, zero, Bool, true, false, not, List, [], ◌∷◌, ◌++◌, map, length, take, drop, slice_index, Some, None, refl, sym, ap, ap₂, ◌∙◌, arith, inl, inr, length-drop}
+use Rattle.std.proofs.lemmas.Bool.{cases_Bool, eqb-true, false_from_ne_true}
 use Rattle.std.proofs.lemmas.Bool.Decides.{eqb_tells}
 use Rattle.std.proofs.lemmas.List.{drop-drop}
 use Rattle.std.proofs.lemmas.Simd.{mask_l-mod, first_set_mask_l, length-chunk, length-zip2}
 use Rattle.std.proofs.lemmas.List.Sums.{prefix_len-le-length}
 use Rattle.std.specs.Int.{w64, trailing_zeros}
 use Rattle.std.specs.List.{prefix_len}
+use Rattle.memchr.specs.Find.{IsFirstByte, is_byte}
 use lib.Lanes.{chunk, zip2, mask_l, top}
 use Rattle.mk_line.specs.Ascii.{is_blank}
 use Rattle.mk_line.specs.Kinds.{is_continuation}
@@ -69,6 +70,18 @@ fold_within (byte ∷ bytes) = elim (cases_Bool (byte == 10 && not (is_continuat
   | inl t ↦ rw t (omega arith)
   | inr f ↦ rw f (omega (arith, fold_within bytes))
 ]
+
+-- bytes at the start that are no line feeds are passed
+fold_passed : (n : ℕ) (text : List ℕ) → n ≤ length text → ((k : ℕ) → k < n → (slice_index text k == 10) ≡ false) → fold_size text ≡ n + fold_size (drop n text)
+fold_passed zero text l h = omega arith
+fold_passed (suc n) [] l h = absurd (omega (arith, l))
+fold_passed (suc n) (x ∷ xs) l h = rw (h 0 (omega arith)) (omega (arith, fold_passed n xs (omega (arith, l)) (λ k q. h (suc k) (omega arith))))
+
+pub fold_found : (text : List ℕ) (n : ℕ) → IsFirstByte (is_byte 10) text (Some n) → fold_size text ≡ n + fold_size (drop n text)
+fold_found text n h = fold_passed n text (omega (arith, h.0.high)) (λ k l. false_from_ne_true (slice_index text k == 10) (h.0.before k (omega arith) l))
+
+pub fold_unfound : (text : List ℕ) → IsFirstByte (is_byte 10) text None → fold_size text ≡ length text + fold_size (drop (length text) text)
+fold_unfound text h = fold_passed (length text) text (omega arith) (λ k l. false_from_ne_true (slice_index text k == 10) (h k (omega arith) l))
 
 -- a vector of pairs that has a mark where a byte ends the field
 marked_pair : (p q r : Bool) → top 7 (bit_and (cond p 255 0) (bit_and (cond (not q) 255 0) (cond (not r) 255 0))) ≡ (p && not (q || r))

@@ -1,15 +1,20 @@
 //! Where a field ends: at a line feed that no blank follows. Thirty-two places are tested at a time, so a folded field is passed
-//! over by one search, and its lines aren't looked for one by one.
+//! over by one search, and its lines aren't looked for one by one. Long lines are passed by `memchr`.
 ghost use Rattle.std.specs.Prelude.{◌≡◌, ◌==◌, ◌+◌, ◌<◌, ◌≤◌, if◌then◌else◌, length, drop};
 ghost use Rattle.std.specs.Int.{w64, trailing_zeros};
 ghost use Rattle.mk_line.specs.Lines.{cut as lines_of, text_of};
 ghost use Rattle.mk_head.specs.inner.Folds.{fold_size, folded};
 
+use memchr::memchr;
 use mk_line::is_continuation;
 use std::simd::prelude::*;
 
 /// How many places are tested at once.
 const LANES: usize = 32;
+
+/// Once in so many bytes the next line feed is looked for by `memchr`. It takes longer to begin, and then passes the rest of a
+/// long line several times as fast.
+const NEAR: usize = 4096;
 
 const LINE_FEED: u8 = b'\n';
 
@@ -29,8 +34,25 @@ pub(crate) fn folded_size(text: &[u8]) -> usize
             return size + run + 1;
         }
         size += LANES;
+        if size % NEAR < LANES {
+            size += before_feed(&text[size..]);
+        }
     }
     size + last_folded(&text[size..])
+}
+
+// How many bytes come before the first line feed: all, where there is none. Not inlined, so that the loop above keeps its
+// registers.
+#[cold]
+#[inline(never)]
+fn before_feed(text: &[u8]) -> usize
+    ensures passed { fold_size text.now ≡ result + fold_size (drop result text.now) }
+    ensures within { result ≤ length text.now }
+{
+    match memchr(LINE_FEED, text) {
+        Some(place) => place,
+        None => text.len(),
+    }
 }
 
 // How many of the thirty-two places come before the first line feed that no blank follows.
