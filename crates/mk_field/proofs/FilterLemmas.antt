@@ -26,7 +26,7 @@ use Rattle.mk_transfer.specs.declared.transfer.Stop.TheVariants.{Fault as Stoppe
 use Rattle.mk_field.specs.FilterClauses.{EndsFiltered, Filters, GivesKnown, IsBroken, IsEdited, IsFiltered, IsReason, SaysAll, SaysSome}
 use Rattle.mk_field.specs.FilterViews.{is_round}
 use Rattle.mk_report.specs.Reports.{message_line_at}
-use Rattle.mk_field.specs.Filtering.{PlainFilter, filter_made, given_of, given_said, missing_report, report_of, said_alone, said_by, said_from, said_of, said_of_made, said_or}
+use Rattle.mk_field.specs.Filtering.{PlainFilter, filter_made, given_of, given_said, missing_report, report_of, said_alone, said_filtered, said_from, said_of, said_of_made, said_or}
 use Rattle.mk_transfer.specs.RunClauses.{Counts, Held, IsBlamed, IsSent, IsStopped, Reason, WriteFailed, cause_of_writing, held, status_of}
 use Rattle.mk_transfer.specs.Said.{Run, shown, Said, said_behind, silence}
 use Rattle.mk_transfer.proofs.GivenUp.{not_reading}
@@ -264,11 +264,11 @@ pub given_partly : (path : List ℕ) (number : ℕ) (text given : List ℕ) (sto
 given_partly path number text given stop out out_after err err_after before after h o s = rw h (record { output = AppendsFront-whole out out_after given o; errors = s.front })
 
 -- what a filter gives
-pub said_given : (P : Said → Type 0) (each : Bool) (f : PlainFilter) (number : ℕ) (text given : List ℕ) → Some given ≡ given_of f.path f.form f.rounds text → P (given_said f.path number text given) → P (said_by each f number text)
+pub said_given : (P : Said → Type 0) (each : Bool) (f : PlainFilter) (number : ℕ) (text given : List ℕ) → Some given ≡ given_of f.path f.form f.rounds text → P (given_said f.path number text given) → P (said_filtered each f number text)
 said_given P each f number text given e h = subst (λ x. P (said_or (given_said f.path number text) x (said_of_made f.path number text (filter_made each f text)))) e h
 
 -- where it gives nothing, it is what its edits leave
-pub said_edited : (P : Said → Type 0) (each : Bool) (f : PlainFilter) (number : ℕ) (text : List ℕ) (m : Made) → None ≡ given_of f.path f.form f.rounds text → m ≡ filter_made each f text → P (said_of_made f.path number text m) → P (said_by each f number text)
+pub said_edited : (P : Said → Type 0) (each : Bool) (f : PlainFilter) (number : ℕ) (text : List ℕ) (m : Made) → None ≡ given_of f.path f.form f.rounds text → m ≡ filter_made each f text → P (said_of_made f.path number text m) → P (said_filtered each f number text)
 said_edited P each f number text m e k h =
     subst (λ x. P (said_or (given_said f.path number text) x (said_of_made f.path number text (filter_made each f text)))) e (subst (λ n. P (said_of_made f.path number text n)) k h)
 

@@ -101,8 +101,8 @@ said_or f None edits = edits
 said_or f (Some given) edits = f given
 
 -- what a filter says of a message of a number
-abbrev pub said_by : Bool → PlainFilter → ℕ → List ℕ → Said
-said_by each f number text = said_or (given_said f.path number text) (given_of f.path f.form f.rounds text) (said_of_made f.path number text (filter_made each f text))
+abbrev pub said_filtered : Bool → PlainFilter → ℕ → List ℕ → Said
+said_filtered each f number text = said_or (given_said f.path number text) (given_of f.path f.form f.rounds text) (said_of_made f.path number text (filter_made each f text))
 
 -- what is said of a message that is left as it is: all of it, or nothing where rounds ask for fields
 abbrev pub said_alone : List PlainRound → List ℕ → Said
@@ -110,7 +110,7 @@ said_alone rs text = record { output = if rounds_ask rs text then [] else text; 
 
 -- what a filter says of a message of a number, some of which are left as they are
 abbrev pub said_of : Bool → PlainFilter → ℕ → List ℕ → Said
-said_of each f number text = if is_left_alone f.from_lines text then said_alone f.rounds text else said_by each f number text
+said_of each f number text = if is_left_alone f.from_lines text then said_alone f.rounds text else said_filtered each f number text
 
 -- what is said of messages in turn, where the first has this number
 abbrev pub said_from : Bool → PlainFilter → ℕ → List (List ℕ) → Said

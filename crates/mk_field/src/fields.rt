@@ -12,7 +12,7 @@ ghost use Rattle.mk_mail.specs.Letters.{are_allowed, is_root as is_root_path};
 ghost use Rattle.mk_mail.specs.Rounds.{rounds_made_at};
 ghost use Rattle.mk_field.specs.FilterClauses.{IsEdited, IsFitted, IsRoundMade, SaysAll, SaysSome, fitted};
 ghost use Rattle.mk_field.specs.FilterViews.{filter_of, is_allowed, is_round, round_of};
-ghost use Rattle.mk_field.specs.Filtering.{filter_made, given_of, given_said, rounds_ask as do_rounds_ask, said_alone, said_by, said_of, said_of_made};
+ghost use Rattle.mk_field.specs.Filtering.{filter_made, given_of, given_said, rounds_ask as do_rounds_ask, said_alone, said_filtered, said_of, said_of_made};
 
 use crate::filters::{FieldFilter, Round, ask};
 use crate::giving::given;
@@ -90,9 +90,9 @@ fn say_message<O: Sink, E: Sink>(
     err: &mut E,
 ) -> Result<bool, Stop>
     requires { is_allowed (filter_of filter.now) ≡ true }
-    ensures all { IfOk result (λ refused. SaysAll (said_by each (filter_of filter.now) number message.items) refused
+    ensures all { IfOk result (λ refused. SaysAll (said_filtered each (filter_of filter.now) number message.items) refused
         (O.contents out.old) (O.contents out.new) (E.contents err.old) (E.contents err.new)) }
-    ensures some { OnErr result (SaysSome (said_by each (filter_of filter.now) number message.items)
+    ensures some { OnErr result (SaysSome (said_filtered each (filter_of filter.now) number message.items)
         (O.contents out.old) (O.contents out.new) (E.contents err.old) (E.contents err.new)) }
     ensures failed { IfErr result (λ stop. stop ≡ Stop.Fault
         → Rose (O.failures out.old) (O.failures out.new) ⊎ Rose (E.failures err.old) (E.failures err.new)) }

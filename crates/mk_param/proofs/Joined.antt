@@ -5,7 +5,7 @@ use Rattle.std.specs.Prelude.{Option, option_and_then}
 use Rattle.std.specs.Option.{option_map}
 use Rattle.mk_param.specs.declared.segments.Segment.{Segment as SegmentIn}
 use Rattle.mk_param.specs.Extended.{joined, segment_bytes}
-use Rattle.mk_param.specs.Said.{said_by}
+use Rattle.mk_param.specs.Said.{text_by_lookup}
 use Rattle.mk_param.specs.Segments.{Segment, encoded_name, segment_at, segment_before, segment_name, segments_from}
 use Rattle.mk_param.specs.SegmentViews.{segment_of}
 
@@ -49,7 +49,7 @@ segments_same look other same name number zero = refl
 segments_same look other same name number (suc most) =
     rw (same (encoded_name (segment_name name number)), same (segment_name name number), segments_same look other same name (suc number) most) refl
 
-pub said_same : (look other : List ℕ → Option (List ℕ)) → ((asked : List ℕ) → look asked ≡ other asked) → (most : ℕ) (name : List ℕ) → said_by look most name ≡ said_by other most name
+pub said_same : (look other : List ℕ → Option (List ℕ)) → ((asked : List ℕ) → look asked ≡ other asked) → (most : ℕ) (name : List ℕ) → text_by_lookup look most name ≡ text_by_lookup other most name
 said_same look other same most name = rw (same (encoded_name name), segments_same look other same name 0 most, same name) refl
 
 -- what is mapped, after one more

@@ -4,7 +4,7 @@ ghost use Rattle.std.specs.String.{string_bytes};
 ghost use Rattle.mk_head.specs.ValueViews.{media_type_of};
 ghost use Rattle.mk_param.specs.Extended.{extended_text as text_of_extended, segments_text as text_of_segments};
 ghost use Rattle.mk_param.specs.Segments.{encoded_name as name_encoded, segments_from};
-ghost use Rattle.mk_param.specs.Said.{plain_text as text_of_plain, said_by, said_text};
+ghost use Rattle.mk_param.specs.Said.{plain_text as text_of_plain, text_by_lookup, said_text};
 ghost use Rattle.mk_param.specs.SegmentViews.{value_at};
 
 use crate::extended::{as_text, encoded_text, segments_text};
@@ -35,7 +35,7 @@ fn said(
     most: usize,
     name: &[u8],
 ) -> Result<Option<String>, AllocError>
-    ensures { IfOk result (λ text. option_map string_bytes text ≡ said_by (value_at values.now) most name.now) }
+    ensures { IfOk result (λ text. option_map string_bytes text ≡ text_by_lookup (value_at values.now) most name.now) }
 {
     if let Some(text) = extended(alloc, values, name)? {
         return Ok(Some(text));
