@@ -9,7 +9,7 @@ _mimetool_options() {
         sections) options='--from -n --rfc4155 --json --utf8 -h --help' ;;
         extract) options='--from -n --rfc4155 -s --raw --head --prefix -h --help' ;;
         unpack) options='--from -n --rfc4155 -f -t -s --silent --paths --utf8 -C -h --help' ;;
-        pack) options='-b -m --inline --charset --forward --part --utf8 -h --help' ;;
+        pack) options='-b -m --inline --charset --eol --forward --part --utf8 -h --help' ;;
         field) options='--from --in-place -p --drop --rename -a -A -i -I -u -U -x -X --unfold --decode --encode --eol --refused-ok -s --rfc4155 -h --help' ;;
         messages) options='--from --rfc4155 -h --help' ;;
         help) options='' ;;

@@ -8,8 +8,8 @@ use Rattle.mk_build.specs.Building.{Attached, attach_refusal, attached}
 use Rattle.mk_script.specs.Script.{ScriptWord, Attaches}
 use Rattle.mk_show.specs.Parts.{attached_file}
 use Rattle.mk_expand.specs.Appends.{made_part}
-use Rattle.mk_expand.specs.Words.{append, attach_by, attach_file, meaning_of}
-use Rattle.mk_expand.specs.Pieces.{Pieces, piece_text}
+use Rattle.mk_expand.specs.Words.{append, attach_by, attach_file, attached_bytes, meaning_of}
+use Rattle.mk_expand.specs.Pieces.{Pieces}
 
 -- a file that may be attached is appended
 pub attach_told : (eol : Ending) (path : List ℕ) (a b : Attached) (place : Option Placed) (text part : List ℕ) (edits : List PlainEdit) → b ≡ a → attach_refusal b ≡ None → text ≡ attached eol b → part ≡ made_part eol text place → edits ≡ append eol path part place
@@ -21,8 +21,8 @@ attach_told eol path a b place text part edits same allowed is grown made =
 
 -- the word says what is attached
 pub attaches_told : (pieces : Pieces) (eol : Ending) (t : Document) (w : ScriptWord) (path media name : List ℕ) (piece : ℕ) (m n text : List ℕ)
-    → w ≡ Attaches path media name piece → m ≡ media → n ≡ name → text ≡ piece_text pieces piece
+    → w ≡ Attaches path media name piece → m ≡ media → n ≡ name → text ≡ attached_bytes pieces eol m piece
     → meaning_of pieces eol t w ≡ attach_file eol path (attached_file (record { media = m; path = n }) text) (section_at path t)
 attaches_told pieces eol t w path media name piece m n text said is_media is_name is_text =
     ap (meaning_of pieces eol t) said
-    ∙ (λ i. attach_file eol path (attached_file (record { media = sym is_media i; path = sym is_name i }) (sym is_text i)) (section_at path t))
+    ∙ (λ i. attach_file eol path (attached_file (record { media = sym is_media i; path = sym is_name i }) (sym (is_text ∙ ap (λ x. attached_bytes pieces eol x piece) is_media) i)) (section_at path t))

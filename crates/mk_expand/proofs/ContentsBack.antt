@@ -1,5 +1,6 @@
 -- A leaf that `content` gives some bytes has them as its content.
-use Rattle.std.proofs.Common.{◌≡◌, ◌≢◌, ◌++◌, if◌then◌else◌, ℕ, Bool, true, false, Option, None, Some, IfSome, Result, Ok, Err, List, [], ◌∷◌, refl, ap, sym, ◌∙◌, subst, append-nil, append_assoc}
+use Rattle.std.proofs.Common.{◌≡◌, ◌≢◌, ◌++◌, if◌then◌else◌, ℕ, Bool, true, false, Option, None, Some, IfSome, Result, Ok, Err, List, [], ◌∷◌, refl, ap, sym, ◌∙◌, subst, append-nil, append_assoc, inl, inr}
+use Rattle.std.proofs.lemmas.Bool.{cases_Bool}
 use Rattle.std.specs.Option.{option_map}
 use Rattle.base64.specs.GeneralPurpose.{IsBytes}
 use Rattle.mk_line.specs.declared.cutting.Ending.{Ending}
@@ -28,10 +29,11 @@ use Rattle.mk_decide.proofs.Late.{IsFair, fair, told}
 use Rattle.mk_decide.proofs.PlacesAgain.{PathAgain, path_again, section_there}
 use Rattle.mk_decide.proofs.Renaming.{ends_after}
 use Rattle.mk_view.specs.Extracts.{IsExtract}
-use Rattle.mk_view.specs.Listing.{encoding_in}
+use Rattle.mk_view.specs.Listing.{encoding_in, type_of}
+use Rattle.mk_expand.specs.Charsets.{may_hold}
 use Rattle.mk_expand.specs.Contents.{body_with, encoded_in}
 use Rattle.mk_expand.specs.ExpandLaws.{ContentsAreGivenBack}
-use Rattle.mk_expand.specs.Meanings.{Meaning, UnknownEncoding}
+use Rattle.mk_expand.specs.Meanings.{Meaning, BadCharset, UnknownEncoding}
 use Rattle.mk_expand.specs.Words.{body_set, content_set}
 
 -- the ending after a text is no content
@@ -113,7 +115,10 @@ back_by eol path bytes t u fs h ls e (Some text) n small there enc m done =
 
 back_leaf : (eol : Ending) (path bytes : List ℕ) (t u : Document) (fs : List Frame) (s : Entity) (e : PlainEdit) → eol ≢ Missing → IsBytes bytes → place_of path t.root ≡ Some (fs, s) → IsLeaf s
     → content_set eol path bytes (Some (placed t.envelope fs s)) ≡ Ok (e ∷ []) → edited e t ≡ Ok u → IsExtract (section_at path u) bytes
-back_leaf eol path bytes t u fs (leaf h ls) e n small there l m done = back_by eol path bytes t u fs h ls e (encoded_in (encoding_in (placed t.envelope fs (leaf h ls))) eol bytes) n small there refl m done
+back_leaf eol path bytes t u fs (leaf h ls) e n small there l m done = elim (cases_Bool (may_hold (type_of (placed t.envelope fs (leaf h ls))) bytes)) [
+  | inl may ↦ back_by eol path bytes t u fs h ls e (encoded_in (encoding_in (placed t.envelope fs (leaf h ls))) eol bytes) n small there refl (rw may at m) done
+  | inr cant ↦ absurd (let bad : ◌≡◌ {A = Meaning} (Err BadCharset) (Ok (e ∷ [])) = rw cant at m in cc)
+]
 back_leaf eol path bytes t u fs (message h x) e n small there l m done = absurd l
 back_leaf eol path bytes t u fs (multi h c pre ps x) e n small there l m done = absurd l
 

@@ -1,5 +1,6 @@
 -- A leaf that `encode` puts in another transfer encoding keeps its content.
-use Rattle.std.proofs.Common.{◌≡◌, ◌≢◌, ◌++◌, if◌then◌else◌, ℕ, Bool, true, false, not, Option, None, Some, Result, Ok, Err, List, [], ◌∷◌, codes, filter, map, refl, ap, sym, ◌∙◌, subst, append-nil}
+use Rattle.std.proofs.Common.{◌≡◌, ◌≢◌, ◌++◌, if◌then◌else◌, ℕ, Bool, true, false, not, Option, None, Some, Result, Ok, Err, List, [], ◌∷◌, codes, filter, map, refl, ap, sym, ◌∙◌, subst, append-nil, inl, inr}
+use Rattle.std.proofs.lemmas.Bool.{cases_Bool}
 use Rattle.std.specs.Option.{option_map}
 use Rattle.base64.specs.GeneralPurpose.{IsBytes}
 use Rattle.mk_line.specs.declared.cutting.Ending.{Ending}
@@ -29,10 +30,10 @@ use Rattle.mk_view.specs.Listing.{encoding_in}
 use Rattle.mk_script.specs.declared.script.ChosenEncoding.{ChosenEncoding}
 use Rattle.mk_script.specs.declared.script.ChosenEncoding.TheVariants.{QuotedPrintable, Base64 as ToBase64, EightBit}
 use Rattle.mk_expand.specs.Contents.{body_with, encoded_in}
-use Rattle.mk_expand.specs.Encodings.{encoded_as, encoding_field, encoding_set, encoding_value, recoded}
+use Rattle.mk_expand.specs.Encodings.{encoded_as, encoding_field, encoding_set, encoding_value, may_be_encoded, recoded, recoded_to}
 use Rattle.mk_expand.specs.ExpandLaws.{EncodingsKeepContents, all_edited, and_edited}
 use Rattle.mk_expand.specs.FieldWords.{name_in, put, put_over, those}
-use Rattle.mk_expand.specs.Meanings.{Meaning}
+use Rattle.mk_expand.specs.Meanings.{Meaning, BinaryContent}
 use Rattle.mk_expand.proofs.Base64Read.{content_is_read}
 use Rattle.mk_expand.proofs.ContentsBack.{back_by, none_some, ok_same, plan_by, some_same}
 use Rattle.mk_expand.proofs.FirstFields.{IsFirst, first_after, first_is_read, first_put, first_stays}
@@ -194,6 +195,13 @@ kept_by eol path bytes to fs ls u n small said ready =
 edits_same : (d e : List PlainEdit) → ◌≡◌ {A = Meaning} (Ok d) (Ok e) → d ≡ e
 edits_same d e h = cc
 
+-- a content that may be in an encoding was put in it
+recoded_same : (eol : Ending) (path bytes : List ℕ) (to : ChosenEncoding) (p : Placed) (es : List PlainEdit) → recoded eol path to p (Ok bytes) ≡ Ok es → recoded_to eol path to p bytes ≡ es
+recoded_same eol path bytes to p es set = elim (cases_Bool (may_be_encoded to bytes)) [
+  | inl may ↦ edits_same (recoded_to eol path to p bytes) es (rw may at set)
+  | inr cant ↦ absurd (let bad : ◌≡◌ {A = Meaning} (Err BinaryContent) (Ok es) = rw cant at set in cc)
+]
+
 -- what is put
 put_is : (eol : Ending) (path : List ℕ) (to : ChosenEncoding) (p : Placed) → IsSaid eol to → put path (encoding_field eol to) (Some p) ≡ put_over path field_name (encoding_field eol to) (those field_name p)
 put_is eol path to p said =
@@ -209,7 +217,7 @@ kept_leaf eol path bytes to t u fs (leaf h ls) es n small there l content set do
     let text = encoding_field eol to in
     let body = body_with eol (has_line (lines_after fs)) (encoded_as to eol bytes) in
     let read = content_is_read (encoding_in p) (content_text p) bytes content in
-    let same : put path text (Some p) ++ SetBody path body ∷ [] ≡ es = edits_same (put path text (Some p) ++ SetBody path body ∷ []) es (ap (recoded eol path to p) (sym read) ∙ set) in
+    let same : put path text (Some p) ++ SetBody path body ∷ [] ≡ es = recoded_same eol path bytes to p es (ap (recoded eol path to p) (sym read) ∙ set) in
     let over : put_over path field_name text (those field_name p) ++ SetBody path body ∷ [] ≡ es = ap (λ xs. xs ++ SetBody path body ∷ []) (sym (put_is eol path to p said)) ∙ same in
     kept_by eol path bytes to fs ls u n small said
     (put_on path text body (said_line eol to) fs ls h.fields (those field_name p) t u said.line said.starts (record { separator = h.separator; there = there }) refl (ap (λ xs. all_edited xs t) over ∙ done))

@@ -11,3 +11,4 @@ pub mod KeptContents
 pub mod GrownTexts
 pub mod KeptPlaces
 pub mod AppendsKept
+pub mod TextsPut

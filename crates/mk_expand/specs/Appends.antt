@@ -5,7 +5,7 @@ use Rattle.mk_line.specs.Lines.{ending_bytes}
 use Rattle.mk_head.specs.Fields.{counted}
 use Rattle.mk_tree.specs.Sections.{Placed, children, raw_of}
 use Rattle.mk_decide.specs.Edits.{PlainEdit, InsertPart, SetSection}
-use Rattle.mk_expand.specs.Contents.{divided}
+use Rattle.mk_expand.specs.Contents.{body_with, divided}
 
 -- a section gets an ending where no line follows it, so that it keeps its content when one does
 abbrev pub divided_at : Ending → List ℕ → Option Placed → List PlainEdit
@@ -42,3 +42,8 @@ follows_last p = if nat_le (length (children p)) most_parts then followed_at (co
 abbrev pub made_part : Ending → List ℕ → Option Placed → List ℕ
 made_part eol text None = text
 made_part eol text (Some p) = if follows_last p then text ++ ending_bytes eol else text
+
+-- a text as a part without fields, so that it is the content, as it goes after the others (RFC 2046, 5.1)
+abbrev pub text_part : Ending → List ℕ → Option Placed → List ℕ
+text_part eol text None = ending_bytes eol ++ text
+text_part eol text (Some p) = ending_bytes eol ++ body_with eol (follows_last p) text

@@ -1,5 +1,5 @@
 -- A content in another transfer encoding (own; RFC 2045, 6).
-use Rattle.std.specs.Prelude.{◌++◌, if◌then◌else◌, ℕ, Bool, nat_lt, Result, Ok, Err, List, [], ◌∷◌, Option, None, Some, codes}
+use Rattle.std.specs.Prelude.{◌++◌, if◌then◌else◌, ℕ, Bool, true, nat_lt, Result, Ok, Err, List, [], ◌∷◌, Option, None, Some, codes}
 use Rattle.std.specs.List.{list_all}
 use Rattle.base64.specs.declared.decode.DecodeError.{DecodeError}
 use Rattle.base64.specs.Engines.{standard_no_pad}
@@ -14,13 +14,13 @@ use Rattle.mk_tree.specs.declared.shapes.Kind.{Kind}
 use Rattle.mk_tree.specs.declared.shapes.Kind.TheVariants.{Leaf, Message, Multi}
 use Rattle.mk_tree.specs.Forms.{kind_in}
 use Rattle.mk_tree.specs.Sections.{Placed, content_text}
-use Rattle.mk_decide.specs.Edits.{SetBody}
+use Rattle.mk_decide.specs.Edits.{PlainEdit, SetBody}
 use Rattle.mk_view.specs.Listing.{encoding_in}
 use Rattle.mk_script.specs.declared.script.ChosenEncoding.{ChosenEncoding}
 use Rattle.mk_script.specs.declared.script.ChosenEncoding.TheVariants.{QuotedPrintable, Base64 as ToBase64, EightBit}
-use Rattle.mk_expand.specs.Contents.{body_with}
+use Rattle.mk_expand.specs.Contents.{are_eight_bit, body_with}
 use Rattle.mk_expand.specs.FieldWords.{put}
-use Rattle.mk_expand.specs.Meanings.{Meaning, WordFault, BadBase64, UnknownEncoding}
+use Rattle.mk_expand.specs.Meanings.{Meaning, WordFault, BadBase64, BinaryContent, UnknownEncoding}
 
 -- a number that a byte holds
 abbrev pub is_byte : ℕ → Bool
@@ -54,10 +54,20 @@ encoded_as QuotedPrintable eol bytes = qp_encoded eol bytes
 encoded_as ToBase64 eol bytes = base64_encoded eol bytes
 encoded_as EightBit eol bytes = bytes
 
--- a content that was decoded, in another encoding: first the field that says it is put, and then the body
+-- whether bytes may be written in an encoding that was chosen
+abbrev pub may_be_encoded : ChosenEncoding → List ℕ → Bool
+may_be_encoded QuotedPrintable bytes = true
+may_be_encoded ToBase64 bytes = true
+may_be_encoded EightBit bytes = are_eight_bit bytes
+
+-- a content in another encoding: first the field that says it is put, and then the body
+abbrev pub recoded_to : Ending → List ℕ → ChosenEncoding → Placed → List ℕ → List PlainEdit
+recoded_to eol path to p bytes = put path (encoding_field eol to) (Some p) ++ SetBody path (body_with eol p.followed (encoded_as to eol bytes)) ∷ []
+
+-- a content that was decoded, in another encoding, where it may be in that
 abbrev pub recoded : Ending → List ℕ → ChosenEncoding → Placed → Result (List ℕ) WordFault → Meaning
 recoded eol path to p (Err fault) = Err fault
-recoded eol path to p (Ok bytes) = Ok (put path (encoding_field eol to) (Some p) ++ SetBody path (body_with eol p.followed (encoded_as to eol bytes)) ∷ [])
+recoded eol path to p (Ok bytes) = if may_be_encoded to bytes then Ok (recoded_to eol path to p bytes) else Err BinaryContent
 
 -- only a leaf has a content that is encoded
 abbrev pub encoding_set_by : Kind → Ending → List ℕ → ChosenEncoding → Placed → Meaning

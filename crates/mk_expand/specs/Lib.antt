@@ -1,5 +1,6 @@
 pub mod Paths
 pub mod Contents
+pub mod Charsets
 pub mod Appends
 pub mod Meanings
 pub mod FieldWords

@@ -12,6 +12,10 @@ pub data WordFault : Type 0 where
   BadType : WordFault
   -- a name that can't be written
   BadName : WordFault
+  -- a charset that can't be named, or in which no text is these bytes (RFC 2045, 5.1; RFC 2046, 4.1.2)
+  BadCharset : WordFault
+  -- a content that can't stand unencoded: it holds a NUL, or a line that is too long (RFC 2045, 2.8)
+  BinaryContent : WordFault
 
 -- the edits, or the fault
 abbrev pub Meaning : Type 0

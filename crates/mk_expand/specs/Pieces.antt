@@ -3,7 +3,7 @@ use Rattle.std.specs.Prelude.{◌-◌, if◌then◌else◌, ℕ, Bool, false, Li
 use Rattle.mk_line.specs.declared.cutting.Ending.{Ending}
 use Rattle.mk_script.specs.Endings.{turned_to}
 
--- pieces, and whether their lines end as those of the message do
+-- pieces, and whether the lines of texts end as those of the message do
 pub record Pieces : Type 0 where
   pub texts : List (List ℕ)
   pub turned : Bool

@@ -8,7 +8,7 @@ use Rattle.mk_expand.specs.declared.errors.WordError.TheVariants as error
 use Rattle.mk_script.specs.ScriptViews.{texts_of}
 use Rattle.mk_expand.specs.declared.pieces.Pieces.{Pieces as PiecesIn}
 use Rattle.mk_expand.specs.Pieces.{Pieces}
-use Rattle.mk_expand.specs.Meanings.{WordFault, BadBase64, UnknownEncoding, BadType, BadName}
+use Rattle.mk_expand.specs.Meanings.{WordFault, BadBase64, UnknownEncoding, BadType, BadName, BadCharset, BinaryContent}
 
 -- the pieces of a script
 abbrev pub pieces_of : PiecesIn → Pieces
@@ -24,4 +24,6 @@ IsFault error.BadBase64 meaning = meaning ≡ Err BadBase64
 IsFault error.UnknownEncoding meaning = meaning ≡ Err UnknownEncoding
 IsFault error.BadType meaning = meaning ≡ Err BadType
 IsFault error.BadName meaning = meaning ≡ Err BadName
+IsFault error.BadCharset meaning = meaning ≡ Err BadCharset
+IsFault error.BinaryContent meaning = meaning ≡ Err BinaryContent
 IsFault error.Memory meaning = Unit {0}

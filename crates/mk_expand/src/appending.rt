@@ -6,12 +6,12 @@ ghost use Rattle.mk_decide.specs.Edits.{InsertPart, SetSection};
 ghost use Rattle.mk_decide.specs.Views.{edit_of};
 ghost use Rattle.mk_tree.specs.Documents.{tree};
 ghost use Rattle.mk_tree.specs.Sections.{children as sections_below, raw_of, section_at};
-ghost use Rattle.mk_expand.specs.Appends.{appended, follows_last, last_divided, made_part};
+ghost use Rattle.mk_expand.specs.Appends.{appended, follows_last, last_divided, made_part, text_part};
 ghost use Rattle.mk_expand.specs.Contents.{divided};
 ghost use Rattle.mk_expand.specs.Views.{plain_edits};
 ghost use Rattle.mk_expand.specs.Words.{append as append_at};
 
-use crate::contents::divide;
+use crate::contents::{body_with, divide};
 use mk_decide::Edit;
 use mk_line::Ending;
 use mk_tree::{Doc, Section};
@@ -106,6 +106,26 @@ pub(crate) fn part_to_append(
             part.extend_from_slice(eol.bytes())?;
         }
     }
+    Ok(part)
+}
+
+/// A text as a part without fields, as it goes after the others of the multipart at a path.
+pub(crate) fn text_to_append(
+    alloc: Global,
+    doc: &Doc,
+    path: &[u32],
+    text: &[u8],
+    eol: Ending,
+) -> Result<Vec<u8>, AllocError>
+    ensures { IfOk result (λ part. part.items ≡ text_part eol text.now (section_at path.now (tree doc.now))) }
+{
+    let mut part = Vec::from_slice(alloc, eol.bytes())?;
+    let followed = match doc.section(path) {
+        Some(section) => is_last_followed(&section),
+        None => false,
+    };
+    let body = body_with(Vec::from_slice(alloc, text)?, eol, followed)?;
+    part.extend_from_slice(&body)?;
     Ok(part)
 }
 

@@ -6,11 +6,11 @@ ghost use Rattle.mk_decide.specs.Views.{edit_of};
 ghost use Rattle.mk_tree.specs.Documents.{tree};
 ghost use Rattle.mk_tree.specs.Sections.{section_at};
 ghost use Rattle.mk_expand.specs.Contents.{body_with as body_that_has};
-ghost use Rattle.mk_expand.specs.Encodings.{decoded_in, encoded_as as encoded_so, encoding_field as field_that_says, encoding_set, encoding_value as value_of};
+ghost use Rattle.mk_expand.specs.Encodings.{decoded_in, encoded_as as encoded_so, encoding_field as field_that_says, encoding_set, encoding_value as value_of, may_be_encoded as may_be_so};
 ghost use Rattle.mk_expand.specs.FieldWords.{put as put_in};
 ghost use Rattle.mk_expand.specs.Views.{plain_edits, IsFault};
 
-use crate::contents::{body_with, with_body};
+use crate::contents::{body_with, is_eight_bit, with_body};
 use crate::errors::WordError;
 use crate::field_words::put;
 use mk_code::{CodeError, b64_encode, decode, qp_encode};
@@ -42,6 +42,9 @@ pub(crate) fn set_encoding(
         Kind::Leaf => {
             let encoding = section.encoding(alloc)?;
             let bytes = decoded(alloc, encoding, section.content())?;
+            if !may_be_encoded(to, &bytes) {
+                return Err(WordError::BinaryContent);
+            }
             let body = body_with(encoded(alloc, to, &bytes, eol)?, eol, section.followed())?;
             Ok(recoded(alloc, doc, path, to, body, eol)?)
         }
@@ -59,6 +62,16 @@ fn decoded(alloc: Global, encoding: Encoding, text: &[u8]) -> Result<Vec<u8>, Wo
         Err(CodeError::BadBase64) => Err(WordError::BadBase64),
         Err(CodeError::UnknownEncoding) => Err(WordError::UnknownEncoding),
         Err(CodeError::Memory) => Err(WordError::Memory),
+    }
+}
+
+// Whether bytes may be written in a transfer encoding that was chosen.
+fn may_be_encoded(to: ChosenEncoding, bytes: &[u8]) -> bool
+    ensures { result ≡ may_be_so to bytes.now }
+{
+    match to {
+        ChosenEncoding::QuotedPrintable | ChosenEncoding::Base64 => true,
+        ChosenEncoding::EightBit => is_eight_bit(bytes),
     }
 }
 

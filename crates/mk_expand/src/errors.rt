@@ -21,6 +21,12 @@ pub enum WordError {
     /// The name can't be written.
     #[error("the name can't be written")]
     BadName,
+    /// The charset can't be named, or the bytes are no text in it (RFC 2046, 4.1.2).
+    #[error("the content is no text in its charset")]
+    BadCharset,
+    /// The content can't stand unencoded: it holds a NUL, or a line of more than 998 bytes (RFC 2045, 2.8).
+    #[error("the content can't stand unencoded")]
+    BinaryContent,
     /// Memory ran out.
     #[error("out of memory")]
     Memory,

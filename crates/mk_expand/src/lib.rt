@@ -9,6 +9,7 @@ mod field_words;
 pub mod laws;
 mod ordering;
 mod pieces;
+mod texts;
 mod words;
 
 pub use errors::WordError;

@@ -8,19 +8,20 @@ ghost use Rattle.mk_build.specs.Building.{closed_field};
 ghost use Rattle.mk_script.specs.ScriptViews.{said_by};
 ghost use Rattle.mk_show.specs.Parts.{attached_file};
 ghost use Rattle.mk_expand.specs.Views.{pieces_of, plain_edits, IsFault};
-ghost use Rattle.mk_expand.specs.Words.{attach_file, field_text, is_plain as stands_alone, meaning_of};
+ghost use Rattle.mk_expand.specs.Words.{attach_file, attached_bytes as bytes_attached, field_text, is_plain as stands_alone, meaning_of};
 
-use crate::appending::{append, part_to_append};
-use crate::contents::set_content;
+use crate::appending::{append, part_to_append, text_to_append};
+use crate::contents::{content_bytes, set_content};
 use crate::encodings::set_encoding;
 use crate::errors::WordError;
 use crate::field_words::{drop_all, put};
 use crate::ordering::removals;
 use crate::pieces::Pieces;
+use crate::texts::{attach_text, set_text};
 use mk_build::{AttachError, attach};
 use mk_decide::Edit;
 use mk_line::{Ending, ends_open};
-use mk_script::{Target, Word};
+use mk_script::{Target, Word, field_name};
 use mk_show::Spec;
 use mk_tree::Doc;
 use std::alloc::{AllocError, Global};
@@ -40,12 +41,15 @@ pub fn is_plain(word: &Word) -> bool
         | Word::Insert { .. }
         | Word::Wrap { .. } => true,
         Word::Content { .. }
+        | Word::Text { .. }
         | Word::Encode { .. }
         | Word::Put { .. }
         | Word::PutPiece { .. }
         | Word::DropAll { .. }
         | Word::Append { .. }
-        | Word::Attach { .. } => false,
+        | Word::AppendText { .. }
+        | Word::Attach { .. }
+        | Word::AttachText { .. } => false,
     }
 }
 
@@ -114,8 +118,16 @@ pub fn edits_for(
             },
         ),
         Word::Content { path, piece } => {
-            let bytes = pieces.lines(alloc, piece, eol)?;
+            let bytes = content_bytes(alloc, doc, &path, pieces, piece, eol)?;
             set_content(alloc, doc, path, &bytes, eol)
+        }
+        Word::Text {
+            charset,
+            path,
+            piece,
+        } => {
+            let bytes = content_bytes(alloc, doc, &path, pieces, piece, eol)?;
+            set_text(alloc, doc, path, &charset, &bytes, eol)
         }
         Word::Encode { path, to } => set_encoding(alloc, doc, path, to, eol),
         Word::Put { path, field } => {
@@ -126,10 +138,15 @@ pub fn edits_for(
             let text = closed(pieces.lines(alloc, piece, eol)?, eol)?;
             Ok(put(alloc, doc, &path, &text)?)
         }
-        Word::DropAll { path, name } => Ok(drop_all(alloc, doc, &path, &name)?),
+        Word::DropAll { path, name } => Ok(drop_all(alloc, doc, &path, field_name(&name))?),
         Word::Append { path, piece } => {
             let text = pieces.lines(alloc, piece, eol)?;
             Ok(append(alloc, doc, path, text, eol)?)
+        }
+        Word::AppendText { path, piece } => {
+            let text = pieces.lines(alloc, piece, eol)?;
+            let part = text_to_append(alloc, doc, &path, &text, eol)?;
+            Ok(append(alloc, doc, path, part, eol)?)
         }
         Word::Attach {
             path,
@@ -137,12 +154,16 @@ pub fn edits_for(
             name,
             piece,
         } => {
-            let text = Vec::from_slice(alloc, pieces.text(piece))?;
             let file = Spec {
                 media: &media,
                 path: &name,
             };
+            let text = attached_bytes(alloc, &file, pieces, piece, eol)?;
             attach_to(alloc, doc, path, &file, text, eol)
+        }
+        Word::AttachText { path, media, piece } => {
+            let text = pieces.lines(alloc, piece, eol)?;
+            attach_text(alloc, doc, path, &media, text, eol)
         }
     }
 }
@@ -155,6 +176,24 @@ pub(crate) fn alone(alloc: Global, edit: Edit) -> Result<Vec<Edit>, WordError>
     let mut edits = Vec::new(alloc);
     edits.push(edit)?;
     Ok(edits)
+}
+
+// The bytes of a piece that is attached as a file: those of a text as lines of the message.
+fn attached_bytes(
+    alloc: Global,
+    file: &Spec<'_>,
+    pieces: Pieces<'_>,
+    piece: u32,
+    eol: Ending,
+) -> Result<Vec<u8>, AllocError>
+    requires { eol ≢ Ending.Missing }
+    ensures { IfOk result (λ bytes. bytes.items ≡ bytes_attached (pieces_of pieces.entry) eol file.now.media.now piece) }
+{
+    if file.is_text() {
+        pieces.lines(alloc, piece, eol)
+    } else {
+        Vec::from_slice(alloc, pieces.text(piece))
+    }
 }
 
 // A file as a part after the others.

@@ -172,4 +172,6 @@ fault_refused number t error.UnknownEncoding meaning h = ap (made_by number t) h
 fault_refused number t error.BadBase64 meaning h = ap (made_by number t) h
 fault_refused number t error.BadType meaning h = ap (made_by number t) h
 fault_refused number t error.BadName meaning h = ap (made_by number t) h
+fault_refused number t error.BadCharset meaning h = ap (made_by number t) h
+fault_refused number t error.BinaryContent meaning h = ap (made_by number t) h
 fault_refused number t error.Memory meaning h = tt

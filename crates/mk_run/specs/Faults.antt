@@ -2,8 +2,8 @@
 use Rattle.std.specs.Prelude.{◌++◌, ◌∷◌, [], ℕ, List, codes, decimal}
 use Rattle.mk_line.specs.Ascii.{line_feed}
 use Rattle.mk_script.specs.declared.reasons.LineFault.{LineFault}
-use Rattle.mk_script.specs.declared.reasons.LineFault.TheVariants.{UnknownWord, Missing, Extra, Spaces, BadPath, BadNumber, NoSuchPiece, BadEncoding, Grouped, BadBegin, NoGroup, NotEdit}
-use Rattle.mk_expand.specs.Meanings.{WordFault, UnknownEncoding, BadBase64, BadType, BadName}
+use Rattle.mk_script.specs.declared.reasons.LineFault.TheVariants.{UnknownWord, Missing, Extra, Spaces, BadPath, BadNumber, NoSuchPiece, BadEncoding, BadFieldName, Grouped, BadBegin, NoGroup, NotEdit}
+use Rattle.mk_expand.specs.Meanings.{WordFault, UnknownEncoding, BadBase64, BadType, BadName, BadCharset, BinaryContent}
 
 -- the line that reports a line that isn't one of a script
 abbrev pub syntax_line : ℕ → List ℕ
@@ -19,6 +19,7 @@ fault_sentence BadPath = codes "invalid path; write numbers from 1 with dots bet
 fault_sentence BadNumber = codes "invalid number"
 fault_sentence NoSuchPiece = codes "no such piece"
 fault_sentence BadEncoding = codes "invalid encoding; write qp, base64 or 8bit"
+fault_sentence BadFieldName = codes "invalid name; write the name of a field, such as Subject or Subject:"
 fault_sentence Grouped = codes "undo and redo can't be in a group"
 fault_sentence BadBegin = codes "begin without end, or inside a group"
 fault_sentence NoGroup = codes "end without begin"
@@ -34,6 +35,8 @@ fault_name UnknownEncoding = codes "UnknownEncoding"
 fault_name BadBase64 = codes "BadBase64"
 fault_name BadType = codes "BadType"
 fault_name BadName = codes "BadName"
+fault_name BadCharset = codes "BadCharset"
+fault_name BinaryContent = codes "BinaryContent"
 
 -- the line that reports that a word stands for no edits
 abbrev pub fault_line : ℕ → WordFault → List ℕ

@@ -63,6 +63,9 @@ fn sentence(fault: LineFault) -> &'static str
         LineFault::BadNumber => "invalid number",
         LineFault::NoSuchPiece => "no such piece",
         LineFault::BadEncoding => "invalid encoding; write qp, base64 or 8bit",
+        LineFault::BadFieldName => {
+            "invalid name; write the name of a field, such as Subject or Subject:"
+        }
         LineFault::Grouped => "undo and redo can't be in a group",
         LineFault::BadBegin => "begin without end, or inside a group",
         LineFault::NoGroup => "end without begin",
@@ -118,6 +121,8 @@ fn line_of_fault(alloc: Global, number: usize, fault: WordError) -> Result<Vec<u
         WordError::BadBase64 => format!(in alloc; "line {number}: BadBase64\n")?,
         WordError::BadType => format!(in alloc; "line {number}: BadType\n")?,
         WordError::BadName => format!(in alloc; "line {number}: BadName\n")?,
+        WordError::BadCharset => format!(in alloc; "line {number}: BadCharset\n")?,
+        WordError::BinaryContent => format!(in alloc; "line {number}: BinaryContent\n")?,
         WordError::Memory => return Err(AllocError),
     };
     Ok(line.into_bytes())

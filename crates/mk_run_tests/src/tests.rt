@@ -28,6 +28,7 @@ mod runs;
 mod sections_filtered;
 mod shelf;
 mod shown;
+mod texts;
 mod unpacked;
 mod wording;
 

@@ -7,14 +7,14 @@ use Rattle.std.specs.Str.{bytes_eq}
 use Rattle.mk_line.specs.Ascii.{space}
 use Rattle.mk_script.specs.Paths.{parted, path_of}
 use Rattle.mk_script.specs.Targets.{Target, is_name, whole_target, target_front}
-use Rattle.mk_script.specs.Script.{ScriptWord, Adds, Deletes, Renames, Sets, Bodies, Replaces, Inserts, Removes, Wraps, SetsContent, Encodes, Puts, PutsPiece, DropsAll, Appends, Attaches, adding, deleting, renaming, setting, word_at, word_with, word_of}
+use Rattle.mk_script.specs.Script.{ScriptWord, Adds, Deletes, Renames, Sets, Bodies, Replaces, Inserts, Removes, Wraps, SetsContent, SetsText, Encodes, Puts, PutsPiece, DropsAll, Appends, AppendsText, Attaches, AttachesText, adding, deleting, renaming, setting, word_at, word_with, word_of}
 use Rattle.mk_script.specs.Written.{IsPath, encoding_word, written_path, written_target, written_place, IsWord, written}
 use Rattle.mk_script.proofs.NumberLemmas.{some_same, none_some}
 use Rattle.mk_script.proofs.PieceLemmas.{parted-append, parted-joined}
 use Rattle.mk_script.proofs.WrittenLemmas.{path_of-decimal, path_of-written}
 use Rattle.mk_script.proofs.PlacedWords.{named, placing-written}
 use Rattle.mk_script.proofs.PieceWords.{word_on-parts, inserting-written, removing-written, wrapping-written}
-use Rattle.mk_script.proofs.JobWords.{encoding-written, putting-written, dropping-written, attaching-written}
+use Rattle.mk_script.proofs.JobWords.{attaching-written, attaching_text-written, charset-written, content-written, dropping-written, encoding-written, putting-written}
 use Rattle.mk_script.proofs.TargetLemmas.{and_then-some, map-some, name_holds, path_holds, whole_target-read, whole_target-written, target_front-read, target_front-written}
 
 -- the name of a word that adds a field
@@ -115,7 +115,9 @@ word_of-written count (Removes paths) h =
 word_of-written count (Wraps path subtype boundary) h =
     rw (parted-append space (codes "wrap") (written_path path ++ (space ∷ (subtype ++ (space ∷ boundary)))) (name_holds (codes "wrap") refl)) (wrapping-written path subtype boundary h.0 h.1)
 word_of-written count (SetsContent path piece) h =
-    rw (parted-append space (codes "content") (written_place path piece) (name_holds (codes "content") refl)) (placing-written count (λ p k. SetsContent p k) path piece h.0 h.1)
+    rw (parted-append space (codes "content") (written_place path piece) (name_holds (codes "content") refl)) (content-written count path piece h.0 h.1)
+word_of-written count (SetsText charset path piece) h =
+    rw (parted-append space (codes "content") (codes "--charset" ++ (space ∷ (charset ++ (space ∷ written_place path piece)))) (name_holds (codes "content") refl)) (charset-written count charset path piece h.0 h.1 h.2)
 word_of-written count (Encodes path to) h = rw (parted-append space (codes "encode") (written_path path ++ (space ∷ encoding_word to)) (name_holds (codes "encode") refl)) (encoding-written path to h)
 word_of-written count (Puts path field) h = rw (parted-append space (codes "put") (written_path path ++ (space ∷ field)) (name_holds (codes "put") refl)) (putting-written path field h)
 word_of-written count (PutsPiece path piece) h =
@@ -123,5 +125,9 @@ word_of-written count (PutsPiece path piece) h =
 word_of-written count (DropsAll path name) h = rw (parted-append space (codes "drop") (written_path path ++ (space ∷ name)) (name_holds (codes "drop") refl)) (dropping-written path name h.0 h.1)
 word_of-written count (Appends path piece) h =
     rw (parted-append space (codes "append") (written_place path piece) (name_holds (codes "append") refl)) (placing-written count (λ p k. Appends p k) path piece h.0 h.1)
+word_of-written count (AppendsText path piece) h =
+    rw (parted-append space (codes "append-text") (written_place path piece) (name_holds (codes "append-text") refl)) (placing-written count (λ p k. AppendsText p k) path piece h.0 h.1)
 word_of-written count (Attaches path media name piece) h =
     rw (parted-append space (codes "attach") (written_path path ++ (space ∷ (media ++ (space ∷ (name ++ (space ∷ decimal piece)))))) (name_holds (codes "attach") refl)) (attaching-written count path media name piece h.0 h.1 h.2 h.3)
+word_of-written count (AttachesText path media piece) h =
+    rw (parted-append space (codes "attach-text") (written_path path ++ (space ∷ (media ++ (space ∷ decimal piece)))) (name_holds (codes "attach-text") refl)) (attaching_text-written count path media piece h.0 h.1 h.2)

@@ -7,11 +7,11 @@ use Rattle.mk_line.specs.Lines.{TextLine, cut, is_nil}
 use Rattle.mk_script.specs.declared.reasons.Argument.{Argument}
 use Rattle.mk_script.specs.declared.reasons.Argument.TheVariants as takes
 use Rattle.mk_script.specs.declared.reasons.LineFault.{LineFault}
-use Rattle.mk_script.specs.declared.reasons.LineFault.TheVariants.{UnknownWord, Missing, Extra, Spaces, BadPath, BadNumber, NoSuchPiece, BadEncoding, Grouped, BadBegin, NoGroup, NotEdit}
+use Rattle.mk_script.specs.declared.reasons.LineFault.TheVariants.{UnknownWord, Missing, Extra, Spaces, BadPath, BadNumber, NoSuchPiece, BadEncoding, BadFieldName, Grouped, BadBegin, NoGroup, NotEdit}
 use Rattle.mk_script.specs.Paths.{number_of, parted, path_of}
-use Rattle.mk_script.specs.Script.{ScriptLine, Edits, Undoes, Redoes, Begins, Ends, line_of}
+use Rattle.mk_script.specs.Script.{ScriptLine, Edits, Undoes, Redoes, Begins, Ends, line_of, past_charset}
 use Rattle.mk_script.specs.ScriptSteps.{ScriptStep, script_as_one, script_of}
-use Rattle.mk_script.specs.Targets.{count_of, is_name}
+use Rattle.mk_script.specs.Targets.{count_of, is_field_name, is_name}
 
 -- a name among others
 abbrev pub is_among : List ℕ → List (List ℕ) → Bool
@@ -23,7 +23,7 @@ are_given_text name = is_among name (codes "add" ∷ codes "top" ∷ codes "put"
 
 -- the words that take a path and a piece
 abbrev pub are_given_piece : List ℕ → Bool
-are_given_piece name = is_among name (codes "body" ∷ codes "replace" ∷ codes "content" ∷ codes "put-piece" ∷ codes "append" ∷ [])
+are_given_piece name = is_among name (codes "body" ∷ codes "replace" ∷ codes "content" ∷ codes "put-piece" ∷ codes "append" ∷ codes "append-text" ∷ [])
 
 -- what the words take that are left; nothing where there is no such word
 abbrev pub other_arguments_of : List ℕ → List Argument
@@ -31,8 +31,9 @@ other_arguments_of name =
     if bytes_eq name (codes "remove") then takes.Paths ∷ []
     else (if bytes_eq name (codes "wrap") then takes.Path ∷ takes.Name ∷ takes.Text ∷ []
     else (if bytes_eq name (codes "encode") then takes.Path ∷ takes.Encoding ∷ []
-    else (if bytes_eq name (codes "drop") then takes.Path ∷ takes.Name ∷ []
-    else (if bytes_eq name (codes "attach") then takes.Path ∷ takes.Name ∷ takes.Name ∷ takes.Piece ∷ [] else []))))
+    else (if bytes_eq name (codes "drop") then takes.Path ∷ takes.FieldName ∷ []
+    else (if bytes_eq name (codes "attach") then takes.Path ∷ takes.Name ∷ takes.Name ∷ takes.Piece ∷ []
+    else (if bytes_eq name (codes "attach-text") then takes.Path ∷ takes.Name ∷ takes.Piece ∷ [] else [])))))
 
 -- what a word of a name takes
 abbrev pub arguments_of : List ℕ → List Argument
@@ -53,6 +54,7 @@ is_there (Some x) = true
 abbrev pub is_argument : Argument → List ℕ → Bool
 is_argument takes.Path text = is_there (path_of text)
 is_argument takes.Name text = is_name text
+is_argument takes.FieldName text = is_field_name text
 is_argument takes.Count text = is_there (count_of text)
 is_argument takes.Paths text = true
 is_argument takes.Piece text = true
@@ -64,6 +66,7 @@ abbrev pub fault_of : Argument → List ℕ → LineFault
 fault_of takes.Path text = BadPath
 fault_of takes.Paths text = BadPath
 fault_of takes.Name text = Spaces
+fault_of takes.FieldName text = BadFieldName
 fault_of takes.Count text = BadNumber
 fault_of takes.Piece text = if is_there (number_of text) then NoSuchPiece else BadNumber
 fault_of takes.Encoding text = BadEncoding
@@ -115,9 +118,22 @@ are_taken (argument ∷ others) = true
 abbrev pub bare_fault : List ℕ → LineFault
 bare_fault name = if are_taken (arguments_of name) then Missing else UnknownWord
 
+-- what stands after the option of a word: `content` alone has one
+abbrev pub past_option : List ℕ → List ℕ → Option (List ℕ)
+past_option name rest = if bytes_eq name (codes "content") then past_charset rest else None
+
+-- what is wrong with what a word is given, without an option or after one: a charset, a path and a piece
+abbrev pub fault_after : List ℕ → List ℕ → Option (List ℕ) → LineFault
+fault_after name rest None = arguments_fault (arguments_of name) rest
+fault_after name rest (Some more) = arguments_fault (takes.Name ∷ takes.Path ∷ takes.Piece ∷ []) more
+
+-- what is wrong with what a word is given
+abbrev pub word_arguments_fault : List ℕ × List ℕ → LineFault
+word_arguments_fault p = fault_after p.0 p.1 (past_option p.0 p.1)
+
 -- a word with something after it
 abbrev pub given_fault : List ℕ × List ℕ → LineFault
-given_fault p = if is_nil p.0 then Spaces else (if is_bare p.0 then Extra else arguments_fault (arguments_of p.0) p.1)
+given_fault p = if is_nil p.0 then Spaces else (if is_bare p.0 then Extra else word_arguments_fault p)
 
 -- what is wrong with a line that says nothing, parted at its first space
 abbrev pub fault_parted : List ℕ → Option (List ℕ × List ℕ) → LineFault

@@ -7,7 +7,7 @@ use Rattle.mk_line.specs.Lines.{TextLine, cut}
 use Rattle.mk_script.specs.declared.script.ChosenEncoding.{ChosenEncoding}
 use Rattle.mk_script.specs.declared.script.ChosenEncoding.TheVariants.{QuotedPrintable, Base64, EightBit}
 use Rattle.mk_script.specs.Paths.{parted, pieces_of, number_of, path_of}
-use Rattle.mk_script.specs.Targets.{Target, is_name, count_of, whole_target, target_front}
+use Rattle.mk_script.specs.Targets.{Target, is_name, is_field_name, count_of, whole_target, target_front}
 
 -- b'#'
 abbrev pub number_sign : ℕ
@@ -25,12 +25,15 @@ pub data ScriptWord : Type 0 where
   Removes : (paths : List (List ℕ)) → ScriptWord
   Wraps : (path subtype boundary : List ℕ) → ScriptWord
   SetsContent : (path : List ℕ) (piece : ℕ) → ScriptWord
+  SetsText : (charset path : List ℕ) (piece : ℕ) → ScriptWord
   Encodes : (path : List ℕ) (to : ChosenEncoding) → ScriptWord
   Puts : (path field : List ℕ) → ScriptWord
   PutsPiece : (path : List ℕ) (piece : ℕ) → ScriptWord
   DropsAll : (path name : List ℕ) → ScriptWord
   Appends : (path : List ℕ) (piece : ℕ) → ScriptWord
+  AppendsText : (path : List ℕ) (piece : ℕ) → ScriptWord
   Attaches : (path media name : List ℕ) (piece : ℕ) → ScriptWord
+  AttachesText : (path media : List ℕ) (piece : ℕ) → ScriptWord
 
 -- what one line of a script says: an edit, to take the last step back, to make it again, and where a group begins and ends
 pub data ScriptLine : Type 0 where
@@ -72,7 +75,7 @@ with_piece count p = option_and_then (λ path. option_map (λ piece. (path, piec
 abbrev pub placed : ℕ → List ℕ → Option (List ℕ × ℕ)
 placed count rest = option_and_then (with_piece count) (parted space rest)
 
--- `body`, `replace`, `content`, `put-piece` and `append` are given a path and a piece
+-- `body`, `replace`, `content`, `put-piece`, `append` and `append-text` are given a path and a piece
 abbrev pub placing : ℕ → (List ℕ → ℕ → ScriptWord) → List ℕ → Option ScriptWord
 placing count word rest = option_map (λ p. word p.0 p.1) (placed count rest)
 
@@ -129,9 +132,9 @@ encoding rest = option_and_then (λ p. option_and_then (λ path. option_map (λ 
 abbrev pub putting : List ℕ → Option ScriptWord
 putting rest = option_and_then (λ p. option_map (λ path. Puts path p.1) (path_of p.0)) (parted space rest)
 
--- `drop` is given a path and a name
+-- `drop` is given a path and the name of fields, with its colon or without it
 abbrev pub dropping : List ℕ → Option ScriptWord
-dropping rest = option_and_then (λ p. option_and_then (λ path. if is_name p.1 then Some (DropsAll path p.1) else None) (path_of p.0)) (parted space rest)
+dropping rest = option_and_then (λ p. option_and_then (λ path. if is_field_name p.1 then Some (DropsAll path p.1) else None) (path_of p.0)) (parted space rest)
 
 -- a name and a piece after a path and a type
 abbrev pub with_name : ℕ → List ℕ → List ℕ → List ℕ × List ℕ → Option ScriptWord
@@ -145,16 +148,39 @@ with_media count path p = if is_name p.0 then option_and_then (with_name count p
 abbrev pub attaching : ℕ → List ℕ → Option ScriptWord
 attaching count rest = option_and_then (λ p. option_and_then (λ path. option_and_then (with_media count path) (parted space p.1)) (path_of p.0)) (parted space rest)
 
+-- a piece after a path and a media type
+abbrev pub with_text : ℕ → List ℕ → List ℕ × List ℕ → Option ScriptWord
+with_text count path p = if is_name p.0 then option_map (λ piece. AttachesText path p.0 piece) (piece_of count p.1) else None
+
+-- `attach-text` is given a path, a media type and a piece
+abbrev pub attaching_text : ℕ → List ℕ → Option ScriptWord
+attaching_text count rest = option_and_then (λ p. option_and_then (λ path. option_and_then (with_text count path) (parted space p.1)) (path_of p.0)) (parted space rest)
+
+-- `content --charset` is given a charset, a path and a piece
+abbrev pub with_charset : ℕ → List ℕ → Option ScriptWord
+with_charset count rest = option_and_then (λ p. if is_name p.0 then placing count (λ path piece. SetsText p.0 path piece) p.1 else None) (parted space rest)
+
+-- what stands after `--charset`, where a text begins with it
+abbrev pub past_charset : List ℕ → Option (List ℕ)
+past_charset rest = option_and_then (λ p. if bytes_eq p.0 (codes "--charset") then Some p.1 else None) (parted space rest)
+
+-- `content` is given a path and a piece, after a charset where there is one
+abbrev pub content_by : ℕ → List ℕ → Option (List ℕ) → Option ScriptWord
+content_by count rest None = placing count (λ path piece. SetsContent path piece) rest
+content_by count rest (Some more) = with_charset count more
+
 -- a word that stands for more than one edit, where there are so many pieces
 abbrev pub job_of : ℕ → List ℕ × List ℕ → Option ScriptWord
 job_of count p =
-    if bytes_eq p.0 (codes "content") then placing count (λ path piece. SetsContent path piece) p.1
+    if bytes_eq p.0 (codes "content") then content_by count p.1 (past_charset p.1)
     else (if bytes_eq p.0 (codes "encode") then encoding p.1
     else (if bytes_eq p.0 (codes "put") then putting p.1
     else (if bytes_eq p.0 (codes "put-piece") then placing count (λ path piece. PutsPiece path piece) p.1
     else (if bytes_eq p.0 (codes "drop") then dropping p.1
     else (if bytes_eq p.0 (codes "append") then placing count (λ path piece. Appends path piece) p.1
-    else (if bytes_eq p.0 (codes "attach") then attaching count p.1 else None))))))
+    else (if bytes_eq p.0 (codes "append-text") then placing count (λ path piece. AppendsText path piece) p.1
+    else (if bytes_eq p.0 (codes "attach") then attaching count p.1
+    else (if bytes_eq p.0 (codes "attach-text") then attaching_text count p.1 else None))))))))
 
 -- a word that changes more than fields, where there are so many pieces
 abbrev pub word_on : ℕ → List ℕ × List ℕ → Option ScriptWord

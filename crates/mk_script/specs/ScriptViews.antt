@@ -3,7 +3,7 @@ use Rattle.std.specs.Prelude.{◌≡◌, ℕ, List, Result, Err, map}
 use Rattle.std.specs.Global.{Vec}
 use Rattle.std.specs.Option.{option_map}
 use Rattle.mk_script.specs.declared.script.Word.{Word}
-use Rattle.mk_script.specs.declared.script.Word.TheVariants.{Add, Delete, Rename, Set, Body, Replace, Insert, Remove, Wrap, Content, Encode, Put, PutPiece, DropAll, Append, Attach}
+use Rattle.mk_script.specs.declared.script.Word.TheVariants.{Add, Delete, Rename, Set, Body, Replace, Insert, Remove, Wrap, Content, Text, Encode, Put, PutPiece, DropAll, Append, AppendText, Attach, AttachText}
 use Rattle.mk_script.specs.declared.script.Said.{Said}
 use Rattle.mk_script.specs.declared.script.Said.TheVariants.{Edit, Undo, Redo, Begin, End}
 use Rattle.mk_script.specs.declared.script.NumberedLine.{NumberedLine as NumberedLineIn}
@@ -14,7 +14,7 @@ use Rattle.mk_script.specs.declared.groups.ScriptError.{ScriptError}
 use Rattle.mk_script.specs.declared.groups.ScriptError.TheVariants.{Syntax, Memory}
 use Rattle.mk_script.specs.declared.targets.Target.{Target as TargetIn}
 use Rattle.mk_script.specs.Targets.{Target}
-use Rattle.mk_script.specs.Script.{ScriptWord, Adds, Deletes, Renames, Sets, Bodies, Replaces, Inserts, Removes, Wraps, SetsContent, Encodes, Puts, PutsPiece, DropsAll, Appends, Attaches, ScriptLine, Edits, Undoes, Redoes, Begins, Ends, NumberedLine}
+use Rattle.mk_script.specs.Script.{ScriptWord, Adds, Deletes, Renames, Sets, Bodies, Replaces, Inserts, Removes, Wraps, SetsContent, SetsText, Encodes, Puts, PutsPiece, DropsAll, Appends, AppendsText, Attaches, AttachesText, ScriptLine, Edits, Undoes, Redoes, Begins, Ends, NumberedLine}
 use Rattle.mk_script.specs.ScriptSteps.{ScriptStep, Makes, Groups, TakesBack, MakesAgain}
 
 -- the field that a word picks
@@ -37,12 +37,15 @@ said_by (Insert path place piece) = Inserts path.items place piece
 said_by (Remove paths) = Removes (paths_in paths.items)
 said_by (Wrap path subtype boundary) = Wraps path.items subtype.items boundary.items
 said_by (Content path piece) = SetsContent path.items piece
+said_by (Text charset path piece) = SetsText charset.items path.items piece
 said_by (Encode path to) = Encodes path.items to
 said_by (Put path field) = Puts path.items field.items
 said_by (PutPiece path piece) = PutsPiece path.items piece
 said_by (DropAll path name) = DropsAll path.items name.items
 said_by (Append path piece) = Appends path.items piece
+said_by (AppendText path piece) = AppendsText path.items piece
 said_by (Attach path media name piece) = Attaches path.items media.items name.items piece
+said_by (AttachText path media piece) = AttachesText path.items media.items piece
 
 -- what a line says
 abbrev pub line_by : Said → ScriptLine

@@ -3,7 +3,8 @@ use Rattle.std.specs.Prelude.{◌==◌, ◌&&◌, if◌then◌else◌, ℕ, Bool
 use Rattle.std.specs.List.{list_any}
 use Rattle.std.specs.Option.{option_map, option_and_then}
 use Rattle.std.specs.Str.{bytes_eq}
-use Rattle.mk_line.specs.Ascii.{space}
+use Rattle.mk_line.specs.Ascii.{colon, space}
+use Rattle.mk_line.specs.Kinds as field
 use Rattle.mk_line.specs.Lines.{is_nil}
 use Rattle.mk_script.specs.Paths.{parted, number_of, path_of}
 
@@ -16,6 +17,19 @@ pub record Target : Type 0 where
 -- a name is not empty and holds no space
 abbrev pub is_name : List ℕ → Bool
 is_name text = not (is_nil text) && not (list_any (λ byte. byte == space) text)
+
+-- what stands before a colon at the end of a text, or the whole text where there is none
+abbrev pub before_colon : List ℕ → Option (List ℕ × List ℕ) → List ℕ
+before_colon text None = text
+before_colon text (Some p) = if is_nil p.1 then p.0 else text
+
+-- the name of fields that a text writes, with its colon or without it
+abbrev pub field_name_in : List ℕ → List ℕ
+field_name_in text = before_colon text (parted colon text)
+
+-- a text that writes the name of a field (RFC 5322, 2.2)
+abbrev pub is_field_name : List ℕ → Bool
+is_field_name text = field.is_name (field_name_in text)
 
 -- the number that a text writes: 0, or one from 1 on without leading zeros
 abbrev pub count_of : List ℕ → Option ℕ

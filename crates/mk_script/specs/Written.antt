@@ -5,8 +5,8 @@ use Rattle.mk_line.specs.Ascii.{space}
 use Rattle.mk_script.specs.declared.script.ChosenEncoding.{ChosenEncoding}
 use Rattle.mk_script.specs.declared.script.ChosenEncoding.TheVariants.{QuotedPrintable, Base64, EightBit}
 use Rattle.mk_script.specs.Paths.{dot, max_components}
-use Rattle.mk_script.specs.Targets.{Target, is_name}
-use Rattle.mk_script.specs.Script.{ScriptWord, Adds, Deletes, Renames, Sets, Bodies, Replaces, Inserts, Removes, Wraps, SetsContent, Encodes, Puts, PutsPiece, DropsAll, Appends, Attaches, ScriptLine, Edits, Undoes, Redoes, Begins, Ends, line_of}
+use Rattle.mk_script.specs.Targets.{Target, is_field_name, is_name}
+use Rattle.mk_script.specs.Script.{ScriptWord, Adds, Deletes, Renames, Sets, Bodies, Replaces, Inserts, Removes, Wraps, SetsContent, SetsText, Encodes, Puts, PutsPiece, DropsAll, Appends, AppendsText, Attaches, AttachesText, ScriptLine, Edits, Undoes, Redoes, Begins, Ends, line_of}
 
 -- numbers from 1 on that fit 32 bits
 abbrev pub AreComponents : List ℕ → Type 0
@@ -56,12 +56,15 @@ IsWord count (Inserts path place piece) = IsPath path × (place < 2 ^ 32) × IsP
 IsWord count (Removes paths) = (0 < length paths) × ArePaths paths
 IsWord count (Wraps path subtype boundary) = IsPath path × (is_name subtype ≡ true)
 IsWord count (SetsContent path piece) = IsPath path × IsPiece count piece
+IsWord count (SetsText charset path piece) = (is_name charset ≡ true) × IsPath path × IsPiece count piece
 IsWord count (Encodes path to) = IsPath path
 IsWord count (Puts path field) = IsPath path
 IsWord count (PutsPiece path piece) = IsPath path × IsPiece count piece
-IsWord count (DropsAll path name) = IsPath path × (is_name name ≡ true)
+IsWord count (DropsAll path name) = IsPath path × (is_field_name name ≡ true)
 IsWord count (Appends path piece) = IsPath path × IsPiece count piece
+IsWord count (AppendsText path piece) = IsPath path × IsPiece count piece
 IsWord count (Attaches path media name piece) = IsPath path × (is_name media ≡ true) × (is_name name ≡ true) × IsPiece count piece
+IsWord count (AttachesText path media piece) = IsPath path × (is_name media ≡ true) × IsPiece count piece
 
 -- a line that may be written where there are so many pieces
 abbrev pub IsLine : ℕ → ScriptLine → Type 0
@@ -93,12 +96,15 @@ written (Inserts path place piece) = codes "insert" ++ (space ∷ (written_path 
 written (Removes paths) = codes "remove" ++ (space ∷ join_with_byte space (map written_path paths))
 written (Wraps path subtype boundary) = codes "wrap" ++ (space ∷ (written_path path ++ (space ∷ (subtype ++ (space ∷ boundary)))))
 written (SetsContent path piece) = codes "content" ++ (space ∷ written_place path piece)
+written (SetsText charset path piece) = codes "content" ++ (space ∷ (codes "--charset" ++ (space ∷ (charset ++ (space ∷ written_place path piece)))))
 written (Encodes path to) = codes "encode" ++ (space ∷ (written_path path ++ (space ∷ encoding_word to)))
 written (Puts path field) = codes "put" ++ (space ∷ (written_path path ++ (space ∷ field)))
 written (PutsPiece path piece) = codes "put-piece" ++ (space ∷ written_place path piece)
 written (DropsAll path name) = codes "drop" ++ (space ∷ (written_path path ++ (space ∷ name)))
 written (Appends path piece) = codes "append" ++ (space ∷ written_place path piece)
+written (AppendsText path piece) = codes "append-text" ++ (space ∷ written_place path piece)
 written (Attaches path media name piece) = codes "attach" ++ (space ∷ (written_path path ++ (space ∷ (media ++ (space ∷ (name ++ (space ∷ decimal piece)))))))
+written (AttachesText path media piece) = codes "attach-text" ++ (space ∷ (written_path path ++ (space ∷ (media ++ (space ∷ decimal piece)))))
 
 -- a line is written as its word
 abbrev pub written_line : ScriptLine → List ℕ

@@ -2,14 +2,17 @@
 
 ghost use Rattle.std.specs.Prelude.{◌≡◌, IfOk};
 ghost use Rattle.std.specs.Option.{option_map};
-ghost use Rattle.mk_script.specs.Script.{attaching, chosen, dropping, encoding, job_of, placing, putting, Appends, PutsPiece, SetsContent};
+ghost use Rattle.mk_script.specs.Script.{attaching, attaching_text, chosen, content_by, dropping, encoding, job_of, past_charset, placing, putting, with_charset, Appends, AppendsText, PutsPiece};
 ghost use Rattle.mk_script.specs.ScriptViews.{said_by};
 
 use crate::paths::{parted, path};
 use crate::pieces::{piece, placed};
 use crate::script::{ChosenEncoding, Word};
-use crate::targets::{SPACE, is_name};
+use crate::targets::{SPACE, is_field_name, is_name};
 use std::alloc::{AllocError, Global};
+
+/// The option of `content` that names a charset.
+const CHARSET: &[u8] = b"--charset";
 
 /// The word of a name that stands for a list of edits, where the script is given so many pieces.
 pub(crate) fn read_job(
@@ -38,20 +41,60 @@ pub(crate) fn read_job(
     if name == b"append".as_slice() {
         return read_append(alloc, rest, pieces);
     }
+    if name == b"append-text".as_slice() {
+        return read_append_text(alloc, rest, pieces);
+    }
     if name == b"attach".as_slice() {
         return read_attach(alloc, rest, pieces);
+    }
+    if name == b"attach-text".as_slice() {
+        return read_attach_text(alloc, rest, pieces);
     }
     Ok(None)
 }
 
-// The word for another content, which is given a path and a piece.
+// The word for another content, which is given a path and a piece, after a charset where there is one.
 fn read_content(alloc: Global, rest: &[u8], pieces: usize) -> Result<Option<Word>, AllocError>
-    ensures { IfOk result (λ word. option_map said_by word ≡ placing pieces (λ path piece. SetsContent path piece) rest.now) }
+    ensures { IfOk result (λ word. option_map said_by word ≡ content_by pieces rest.now (past_charset rest.now)) }
 {
+    if let Some(more) = after_charset(rest) {
+        return read_text(alloc, more, pieces);
+    }
     match placed(alloc, rest, pieces)? {
         Some((path, piece)) => Ok(Some(Word::Content { path, piece })),
         None => Ok(None),
     }
+}
+
+/// What stands after `--charset`, where a text begins with it.
+pub(crate) fn after_charset(rest: &[u8]) -> Option<&[u8]>
+    ensures { option_map (λ more. more.now) result ≡ past_charset rest.now }
+{
+    match parted(rest, SPACE) {
+        Some((option, more)) if option == CHARSET => Some(more),
+        _ => None,
+    }
+}
+
+// The word for another text, which is given its charset, a path and a piece.
+fn read_text(alloc: Global, rest: &[u8], pieces: usize) -> Result<Option<Word>, AllocError>
+    ensures { IfOk result (λ word. option_map said_by word ≡ with_charset pieces rest.now) }
+{
+    let Some((charset, place)) = parted(rest, SPACE) else {
+        return Ok(None);
+    };
+    if !is_name(charset) {
+        return Ok(None);
+    }
+    let Some((path, piece)) = placed(alloc, place, pieces)? else {
+        return Ok(None);
+    };
+    let charset = Vec::from_slice(alloc, charset)?;
+    Ok(Some(Word::Text {
+        charset,
+        path,
+        piece,
+    }))
 }
 
 // The word for another transfer encoding, which is given a path and the encoding.
@@ -120,7 +163,7 @@ fn read_drop(alloc: Global, rest: &[u8]) -> Result<Option<Word>, AllocError>
     let Some(path) = path(alloc, place)? else {
         return Ok(None);
     };
-    if !is_name(name) {
+    if !is_field_name(name) {
         return Ok(None);
     }
     let name = Vec::from_slice(alloc, name)?;
@@ -133,6 +176,16 @@ fn read_append(alloc: Global, rest: &[u8], pieces: usize) -> Result<Option<Word>
 {
     match placed(alloc, rest, pieces)? {
         Some((path, piece)) => Ok(Some(Word::Append { path, piece })),
+        None => Ok(None),
+    }
+}
+
+// The word for a text as the last part, which is given a path and a piece.
+fn read_append_text(alloc: Global, rest: &[u8], pieces: usize) -> Result<Option<Word>, AllocError>
+    ensures { IfOk result (λ word. option_map said_by word ≡ placing pieces (λ path piece. AppendsText path piece) rest.now) }
+{
+    match placed(alloc, rest, pieces)? {
+        Some((path, piece)) => Ok(Some(Word::AppendText { path, piece })),
         None => Ok(None),
     }
 }
@@ -170,4 +223,27 @@ fn read_attach(alloc: Global, rest: &[u8], pieces: usize) -> Result<Option<Word>
         name,
         piece,
     }))
+}
+
+// The word for a text of a media type as the last part, which is given a path, the type and a piece.
+fn read_attach_text(alloc: Global, rest: &[u8], pieces: usize) -> Result<Option<Word>, AllocError>
+    ensures { IfOk result (λ word. option_map said_by word ≡ attaching_text pieces rest.now) }
+{
+    let Some((place, more)) = parted(rest, SPACE) else {
+        return Ok(None);
+    };
+    let Some(path) = path(alloc, place)? else {
+        return Ok(None);
+    };
+    let Some((text_type, number)) = parted(more, SPACE) else {
+        return Ok(None);
+    };
+    if !is_name(text_type) {
+        return Ok(None);
+    }
+    let Some(piece) = piece(number, pieces) else {
+        return Ok(None);
+    };
+    let media = Vec::from_slice(alloc, text_type)?;
+    Ok(Some(Word::AttachText { path, media, piece }))
 }

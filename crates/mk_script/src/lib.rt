@@ -16,4 +16,4 @@ pub use groups::{ScriptError, Step, steps, steps_as_one};
 pub use paths::{numbers, parted, path};
 pub use reasons::{InvalidLine, LineFault, first_invalid};
 pub use script::{ChosenEncoding, NumberedWord, Word};
-pub use targets::{SPACE, Target};
+pub use targets::{SPACE, Target, field_name};

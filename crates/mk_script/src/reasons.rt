@@ -3,15 +3,19 @@
 ghost use Rattle.std.specs.Prelude.{◌≡◌, IfOk};
 ghost use Rattle.std.specs.Option.{option_map};
 ghost use Rattle.mk_line.specs.Lines.{cut as lines_of_text};
-ghost use Rattle.mk_script.specs.Reasons.{are_given_piece, are_given_text, arguments_fault as fault_of_arguments, arguments_of, bare_fault as fault_of_bare, begins_blank as begins_with_blank, fault_at as fault_there, fault_of as own_fault_of, first_invalid as first_invalid_line, given_fault as fault_of_given, is_argument as may_stand, is_bare as takes_nothing, last_fault as fault_of_last, line_text as text_of_line, number_of_fault, other_arguments_of as others_of, place_fault as fault_of_place, steps_of, word_fault as fault_of_word};
+ghost use Rattle.mk_script.specs.Reasons.{are_given_piece, are_given_text, arguments_fault as fault_of_arguments, arguments_of, bare_fault as fault_of_bare, begins_blank as begins_with_blank, fault_at as fault_there, fault_of as own_fault_of, first_invalid as first_invalid_line, given_fault as fault_of_given, is_argument as may_stand, is_bare as takes_nothing, last_fault as fault_of_last, line_text as text_of_line, number_of_fault, other_arguments_of as others_of, past_option, place_fault as fault_of_place, steps_of, word_arguments_fault as fault_of_word_arguments, word_fault as fault_of_word};
 ghost use Rattle.mk_script.specs.ScriptViews.{line_by};
 
 use crate::groups::{ScriptError, steps, steps_as_one};
+use crate::jobs::after_charset;
 use crate::paths::{count, number, parted, path};
 use crate::script::{Said, read_line};
-use crate::targets::{SPACE, is_name};
+use crate::targets::{SPACE, is_field_name, is_name};
 use mk_line::cut;
 use std::alloc::{AllocError, Global};
+
+/// What `content --charset` takes.
+const TEXT_ARGUMENTS: &[Argument] = &[Argument::Name, Argument::Path, Argument::Piece];
 
 /// What a word takes at a place.
 #[derive(Clone, Copy, Debug, PartialEq, Eq)]
@@ -20,6 +24,8 @@ pub(crate) enum Argument {
     /// One path or more.
     Paths,
     Name,
+    /// The name of fields, with its colon or without it.
+    FieldName,
     Count,
     Piece,
     Encoding,
@@ -46,6 +52,8 @@ pub enum LineFault {
     NoSuchPiece,
     /// The transfer encoding isn't `qp`, `base64` or `8bit`.
     BadEncoding,
+    /// No field has such a name.
+    BadFieldName,
     /// `undo` and `redo` don't stand in a group.
     Grouped,
     /// A `begin` stands in a group, or has no `end`.
@@ -164,7 +172,28 @@ fn given_fault(alloc: Global, name: &[u8], rest: &[u8]) -> Result<LineFault, All
     if is_bare(name) {
         return Ok(LineFault::Extra);
     }
-    arguments_fault(alloc, arguments(name), rest)
+    word_arguments_fault(alloc, name, rest)
+}
+
+// What is wrong with what a word is given. A charset may stand before the arguments of `content`.
+fn word_arguments_fault(alloc: Global, name: &[u8], rest: &[u8]) -> Result<LineFault, AllocError>
+    ensures { IfOk result (λ fault. fault ≡ fault_of_word_arguments (name.now, rest.now)) }
+{
+    match after_option(name, rest) {
+        Some(more) => arguments_fault(alloc, TEXT_ARGUMENTS, more),
+        None => arguments_fault(alloc, arguments(name), rest),
+    }
+}
+
+// What stands after the option of a word; `content` alone has one.
+fn after_option<'a>(name: &[u8], rest: &'a [u8]) -> Option<&'a [u8]>
+    ensures { option_map (λ more. more.now) result ≡ past_option name.now rest.now }
+{
+    if name == b"content".as_slice() {
+        after_charset(rest)
+    } else {
+        None
+    }
 }
 
 // Whether a word takes nothing.
@@ -219,7 +248,7 @@ fn other_arguments(name: &[u8]) -> &'static [Argument]
     } else if name == b"encode".as_slice() {
         &[Argument::Path, Argument::Encoding]
     } else if name == b"drop".as_slice() {
-        &[Argument::Path, Argument::Name]
+        &[Argument::Path, Argument::FieldName]
     } else if name == b"attach".as_slice() {
         &[
             Argument::Path,
@@ -227,6 +256,8 @@ fn other_arguments(name: &[u8]) -> &'static [Argument]
             Argument::Name,
             Argument::Piece,
         ]
+    } else if name == b"attach-text".as_slice() {
+        &[Argument::Path, Argument::Name, Argument::Piece]
     } else {
         &[]
     }
@@ -248,6 +279,7 @@ fn takes_piece(name: &[u8]) -> bool
         || name == b"content".as_slice()
         || name == b"put-piece".as_slice()
         || name == b"append".as_slice()
+        || name == b"append-text".as_slice()
 }
 
 // What is wrong with arguments: where all but the last are well, it is the last.
@@ -287,6 +319,7 @@ fn is_argument(alloc: Global, argument: Argument, text: &[u8]) -> Result<bool, A
     match argument {
         Argument::Path => Ok(path(alloc, text)?.is_some()),
         Argument::Name => Ok(is_name(text)),
+        Argument::FieldName => Ok(is_field_name(text)),
         Argument::Count => Ok(count(text).is_some()),
         Argument::Paths | Argument::Piece | Argument::Encoding | Argument::Text => Ok(true),
     }
@@ -333,6 +366,7 @@ fn own_fault(argument: Argument, text: &[u8]) -> LineFault
     match argument {
         Argument::Path | Argument::Paths => LineFault::BadPath,
         Argument::Name => LineFault::Spaces,
+        Argument::FieldName => LineFault::BadFieldName,
         Argument::Count => LineFault::BadNumber,
         Argument::Piece if number(text).is_some() => LineFault::NoSuchPiece,
         Argument::Piece => LineFault::BadNumber,

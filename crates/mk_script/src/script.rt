@@ -77,6 +77,12 @@ pub enum Word {
         path: Vec<u32>,
         piece: u32,
     },
+    /// `content --charset NAME PATH PIECE`.
+    Text {
+        charset: Vec<u8>,
+        path: Vec<u32>,
+        piece: u32,
+    },
     /// `encode PATH qp|base64|8bit`.
     Encode {
         path: Vec<u32>,
@@ -92,7 +98,7 @@ pub enum Word {
         path: Vec<u32>,
         piece: u32,
     },
-    /// `drop PATH NAME`.
+    /// `drop PATH NAME`. The name is as it is written: its colon may stand after it.
     DropAll {
         path: Vec<u32>,
         name: Vec<u8>,
@@ -102,11 +108,22 @@ pub enum Word {
         path: Vec<u32>,
         piece: u32,
     },
+    /// `append-text PATH PIECE`.
+    AppendText {
+        path: Vec<u32>,
+        piece: u32,
+    },
     /// `attach PATH TYPE NAME PIECE`.
     Attach {
         path: Vec<u32>,
         media: Vec<u8>,
         name: Vec<u8>,
+        piece: u32,
+    },
+    /// `attach-text PATH TYPE PIECE`.
+    AttachText {
+        path: Vec<u32>,
+        media: Vec<u8>,
         piece: u32,
     },
 }

@@ -3,13 +3,16 @@
 ghost use Rattle.std.specs.Prelude.{◌≡◌, IfOk};
 ghost use Rattle.std.specs.Option.{option_map};
 ghost use Rattle.mk_script.specs.ScriptViews.{picked_by};
-ghost use Rattle.mk_script.specs.Targets.{is_name as names, target_of, whole_target as whole_of, target_front as front_of};
+ghost use Rattle.mk_script.specs.Targets.{field_name_in, is_field_name as names_fields, is_name as names, target_of, whole_target as whole_of, target_front as front_of};
 
 use crate::paths::{count, parted, path};
+use mk_line as lines;
 use std::alloc::{AllocError, Global};
 
 /// What parts the words of a line.
 pub const SPACE: u8 = b' ';
+
+const COLON: u8 = b':';
 
 /// A field of the section at a path: the k-th of a name, counted from 1.
 #[derive(Debug, PartialEq, Eq, Drop)]
@@ -24,6 +27,23 @@ pub fn is_name(text: &[u8]) -> bool
     ensures { result ≡ names text.now }
 {
     !text.is_empty() && !text.contains(&SPACE)
+}
+
+/// The name of fields that a text writes: without the colon at its end, where it has one.
+pub fn field_name(text: &[u8]) -> &[u8]
+    ensures { result.now ≡ field_name_in text.now }
+{
+    match parted(text, COLON) {
+        Some((name, rest)) if rest.is_empty() => name,
+        _ => text,
+    }
+}
+
+/// Whether a text writes the name of a field (RFC 5322, 2.2), with its colon or without it.
+pub(crate) fn is_field_name(text: &[u8]) -> bool
+    ensures { result ≡ names_fields text.now }
+{
+    lines::is_name(field_name(text))
 }
 
 /// The field that a whole text picks.

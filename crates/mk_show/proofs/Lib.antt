@@ -5,3 +5,4 @@ pub mod PackLemmas
 pub mod ShownLemmas
 pub mod UnpackLemmas
 pub mod ChoosingLemmas
+pub mod TurnedParts

@@ -14,10 +14,9 @@ use Rattle.mk_show.specs.Parts.{last_of}
 use Rattle.mk_build.specs.declared.building.BuildError.TheVariants as refused
 use Rattle.mk_build.specs.Building.{Attached, build_refusal, built, first_failing, is_free_field}
 use Rattle.mk_build.specs.declared.attachment.Attach.{Attach}
-use Rattle.mk_build.specs.BuildViews.{attached_of}
 use Rattle.mk_build.specs.Multiparts.{built_as, refusal_as}
 use Rattle.mk_build.proofs.Envelopes.{none_held}
-use Rattle.mk_show.specs.Packing.{Manner, boundary_for, boundary_with, fields_given, fields_in_front, has_body, multipart_with, packed, packed_as, packed_in, part_in, told}
+use Rattle.mk_show.specs.Packing.{Manner, boundary_for, boundary_with, fields_given, fields_in_front, files_in, has_body, multipart_with, packed, packed_as, packed_in, parts_in, told}
 use Rattle.mk_show.proofs.FreeBoundaries.{free_own}
 use Rattle.mk_transfer.specs.Said.{shown}
 use Rattle.mk_script.proofs.PathLemmas.{pieces_of-parted, pieces_of-whole}
@@ -83,10 +82,11 @@ same_boundary None fields parts = free_own fields parts
 same_boundary (Some boundary) fields parts = refl
 
 pub packed_alone : (m : Manner) (parts : List Attach) (text : List ℕ)
-    → packed_in m parts [] text ≡ packed_as (multipart_with m (boundary_for m.boundary (fields_given (cut text)) (map attached_of parts))) (map (part_in m.form) parts) text
+    → packed_in m parts [] text ≡ packed_as (multipart_with m (boundary_for m.boundary (fields_given (cut text)) (files_in m text parts))) (parts_in m text parts) text
 packed_alone m parts text =
     let fields = fields_given (cut text) in
-    let listed = map (part_in m.form) parts in
-    let boundary = boundary_with m.boundary fields (map attached_of parts) [] in
+    let files = files_in m text parts in
+    let listed = parts_in m text parts in
+    let boundary = boundary_with m.boundary fields files [] in
     ap (told (built_as (eol_of (cut text)) fields listed (multipart_with m boundary))) (none_held boundary (refusal_as fields listed (multipart_with m boundary)))
-    ∙ ap (λ b. packed_as (multipart_with m b) listed text) (same_boundary m.boundary fields (map attached_of parts))
+    ∙ ap (λ b. packed_as (multipart_with m b) listed text) (same_boundary m.boundary fields files)

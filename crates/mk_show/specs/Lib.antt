@@ -9,3 +9,4 @@ pub mod FreeBoundary
 pub mod Packing
 pub mod Parts
 pub mod Alone
+pub mod inner

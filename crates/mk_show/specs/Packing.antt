@@ -6,6 +6,8 @@ use Rattle.mk_line.specs.Lines.{TextLine, cut, eol_of}
 use Rattle.mk_head.specs.Split.{behind_head, fields_from}
 use Rattle.mk_head.specs.Splits.{has_line}
 use Rattle.mk_head.specs.Fields.{fields_of}
+use Rattle.mk_line.specs.declared.cutting.Ending.{Ending}
+use Rattle.mk_script.specs.Endings.{turned_to}
 use Rattle.mk_build.specs.declared.attachment.Attach.{Attach}
 use Rattle.mk_build.specs.declared.building.BuildError.{BuildError}
 use Rattle.mk_build.specs.declared.building.BuildError.TheVariants as refused
@@ -16,6 +18,7 @@ use Rattle.mk_build.specs.Multiparts.{Multipart, built_as, refusal_as}
 use Rattle.mk_show.specs.declared.packing.PackOptions.{PackOptions}
 use Rattle.mk_show.specs.FreeBoundary.{free_boundary}
 use Rattle.mk_show.specs.OwnBoundary.{own_boundary}
+use Rattle.mk_show.specs.Parts.{is_text}
 use Rattle.mk_transfer.specs.Said.{Run, shown}
 use Rattle.mk_view.specs.declared.text_names.NameForm.{NameForm}
 use Rattle.mk_view.specs.declared.text_names.NameForm.TheVariants.{Plain, Utf8}
@@ -83,16 +86,33 @@ packed boundary parts text =
 abbrev pub IsPacked : List ℕ → List Attached → List ℕ → Run → Type 0
 IsPacked boundary parts text run = run ≡ packed boundary parts text
 
--- how a message is packed: the form of its names, the subtype of its multipart, and the charset and the boundary where they are given
+-- how a message is packed: the form of its names, the subtype of its multipart, the charset and the boundary where they are given, and
+-- whether the lines of texts end as those of the fields do
 pub record Manner : Type 0 where
   pub form : NameForm
   pub subtype : List ℕ
   pub charset : Option (List ℕ)
   pub boundary : Option (List ℕ)
+  pub turned : Bool
 
 -- what is in memory
 abbrev pub manner_of : PackOptions → Manner
-manner_of o = record { form = o.form; subtype = o.subtype.now; charset = option_map (λ c. c.now) o.charset; boundary = option_map (λ b. b.now) o.boundary }
+manner_of o = record { form = o.form; subtype = o.subtype.now; charset = option_map (λ c. c.now) o.charset; boundary = option_map (λ b. b.now) o.boundary; turned = o.turned }
+
+-- a part whose lines, where it is a text, end so (own)
+abbrev pub turned_part : Ending → Attached → Attached
+turned_part eol a = record { media = a.media; name = a.name; said = a.said; text = if is_text a.media then turned_to eol a.text else a.text; base64 = a.base64 }
+
+-- such parts, where that is asked for
+abbrev pub turned_parts : Bool → Ending → List Attached → List Attached
+turned_parts turned eol parts = if turned then map (turned_part eol) parts else parts
+
+-- the parts that are packed in a manner, after the fields that a text gives: under their names, and in the form of their names
+abbrev pub files_in : Manner → List ℕ → List Attach → List Attached
+files_in m text parts = turned_parts m.turned (eol_of (cut text)) (map attached_of parts)
+
+abbrev pub parts_in : Manner → List ℕ → List Attach → List Attached
+parts_in m text parts = turned_parts m.turned (eol_of (cut text)) (map (part_in m.form) parts)
 
 -- the boundary that is given, or else the one that is made of the fields and the parts
 abbrev pub boundary_for : Option (List ℕ) → List (List ℕ) → List Attached → List ℕ
@@ -111,7 +131,7 @@ packed_as m parts text =
 
 -- the message of the fields that a text gives and of these parts, packed in a manner
 abbrev pub IsPackedAs : Manner → List Attach → List ℕ → Run → Type 0
-IsPackedAs m parts text run = run ≡ packed_as (multipart_with m (boundary_for m.boundary (fields_given (cut text)) (map attached_of parts))) (map (part_in m.form) parts) text
+IsPackedAs m parts text run = run ≡ packed_as (multipart_with m (boundary_for m.boundary (fields_given (cut text)) (files_in m text parts))) (parts_in m text parts) text
 
 -- the boundary that is given, or else one that is made of the fields, the parts and the messages
 abbrev pub boundary_with : Option (List ℕ) → List (List ℕ) → List Attached → List Forwarded → List ℕ
@@ -127,7 +147,7 @@ packed_with m parts messages text =
 -- the message of the fields that a text gives, of these parts and of messages, packed in a manner
 abbrev pub packed_in : Manner → List Attach → List Forwarded → List ℕ → Run
 packed_in m parts messages text =
-    packed_with (multipart_with m (boundary_with m.boundary (fields_given (cut text)) (map attached_of parts) messages)) (map (part_in m.form) parts) messages text
+    packed_with (multipart_with m (boundary_with m.boundary (fields_given (cut text)) (files_in m text parts) messages)) (parts_in m text parts) messages text
 
 -- the same as a fact
 abbrev pub IsPackedWith : Manner → List Attach → List Forwarded → List ℕ → Run → Type 0

@@ -19,6 +19,7 @@ pub use folder::Folder;
 pub use mk_build::{Forward, MIXED};
 pub use packing::{
     PackOptions, run_pack, try_pack, try_pack_in, try_pack_with, try_pack_with_messages,
+    turned_parts,
 };
 pub use parts::Spec;
 pub use portions::Portion;

@@ -8,15 +8,18 @@ ghost use Rattle.mk_build.specs.Multiparts.{multipart_of};
 ghost use Rattle.mk_transfer.specs.RunClauses.{held, counts, reason, IsBlamed, SameFailures, ReadFailed, WriteFailed, ends_itself};
 ghost use Rattle.mk_show.specs.Shown.{LeavesShown, LeavesShownSoFar, run_of_answer};
 ghost use Rattle.mk_line.specs.Lines.{cut as lines_of};
-ghost use Rattle.mk_show.specs.Packing.{IsPacked, IsPackedAs, IsPackedWith, manner_of, multipart_with, part_in, build_name, told, fields_given, fields_in_front as fields_of_front, has_body as has_a_body, index_of as index_named, pack_line};
+ghost use Rattle.mk_show.specs.Packing.{IsPacked, IsPackedAs, IsPackedWith, manner_of, multipart_with, part_in, build_name, told, fields_given, fields_in_front as fields_of_front, has_body as has_a_body, index_of as index_named, pack_line, turned_part as turned_so};
+ghost use Rattle.mk_show.specs.inner.PackedFrom.{packed_from};
 
 use crate::answers::Answer;
 use crate::boundaries::free_boundary;
+use crate::parts::is_text;
 use crate::showing::print;
 use mk_build::{Attach, BuildError, Forward, MIXED, Multipart, build_with, build_with_in_utf8};
 use mk_head::{each_field, header};
 use mk_line::{Ending, eol_of};
 use mk_mailbox::{Sink, Source};
+use mk_script::turned;
 use mk_transfer::{Cause, Status, give_up, read_all, reading};
 use mk_view::NameForm;
 use std::alloc::{AllocError, Global};
@@ -31,6 +34,8 @@ pub struct PackOptions<'a> {
     pub charset: Option<&'a [u8]>,
     /// The boundary between the parts. Where there is none, one is made of what is packed.
     pub boundary: Option<&'a [u8]>,
+    /// Whether the lines of texts end as those of the fields do.
+    pub turned: bool,
 }
 
 /// Builds the message of the fields that the input gives and of these parts, and prints it. The fields are read without an
@@ -111,6 +116,7 @@ pub fn try_pack_in<S: Source, O: Sink, E: Sink>(
         subtype: MIXED,
         charset: None,
         boundary: Some(boundary),
+        turned: false,
     };
     try_pack_with(alloc, input, out, err, options, parts)
 }
@@ -180,16 +186,65 @@ fn message(
     ensures { IfOk result (λ a. IsPackedWith (manner_of options.entry) parts.now (map forwarded_of messages.now) text.now (run_of_answer a)) }
 {
     let fields = fields(alloc, text)?;
-    let (form, eol) = (options.form, eol_of(text));
+    let eol = eol_of(text);
+    if options.turned {
+        let parts = turned_parts(alloc, parts, eol)?;
+        message_of(alloc, &fields, options, &parts, messages, eol)
+    } else {
+        message_of(alloc, &fields, options, parts, messages, eol)
+    }
+}
+
+/// Copies parts, with the lines of texts ended so.
+pub fn turned_parts(alloc: Global, parts: &[Attach], eol: Ending) -> Result<Vec<Attach>, AllocError>
+    ensures { IfOk result (λ turned. map attached_of turned.items ≡ map (turned_so eol) (map attached_of parts.now)) }
+{
+    let mut all = Vec::new(alloc);
+    for part in parts {
+        all.push(turned_part(alloc, part, eol)?)?;
+    }
+    Ok(all)
+}
+
+// A part whose lines, where it is a text, end so.
+fn turned_part(alloc: Global, part: &Attach, eol: Ending) -> Result<Attach, AllocError>
+    ensures { IfOk result (λ turned. attached_of turned ≡ turned_so eol (attached_of part.now)) }
+{
+    let text = if is_text(&part.media) {
+        turned(alloc, &part.text, eol)?
+    } else {
+        part.text.clone()?
+    };
+    Ok(Attach {
+        media: part.media.clone()?,
+        name: part.name.clone()?,
+        text,
+        base64: part.base64,
+    })
+}
+
+// The message of these fields, parts and messages, packed as the options say, or the reason against it.
+fn message_of(
+    alloc: Global,
+    fields: &[Vec<u8>],
+    options: PackOptions<'_>,
+    parts: &[Attach],
+    messages: &[Forward],
+    eol: Ending,
+) -> Result<Answer, AllocError>
+    requires { eol ≢ Ending.Missing }
+    ensures { IfOk result (λ a. run_of_answer a ≡ packed_from (manner_of options.entry) eol (map (λ f. f.items) fields.now) (map attached_of parts.now) (map (part_in options.entry.form) parts.now) (map forwarded_of messages.now)) }
+{
+    let form = options.form;
     match options.boundary {
         Some(boundary) => {
             let multipart = multipart(options, boundary);
-            answer(alloc, form, &fields, parts, messages, &multipart, eol)
+            answer(alloc, form, fields, parts, messages, &multipart, eol)
         }
         None => {
-            let boundary = free_boundary(alloc, &fields, parts, messages)?;
+            let boundary = free_boundary(alloc, fields, parts, messages)?;
             let multipart = multipart(options, &boundary);
-            answer(alloc, form, &fields, parts, messages, &multipart, eol)
+            answer(alloc, form, fields, parts, messages, &multipart, eol)
         }
     }
 }

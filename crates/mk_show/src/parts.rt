@@ -25,7 +25,7 @@ impl<'a> Spec<'a> {
     ghost use Rattle.std.specs.Prelude.{◌≡◌, IfOk};
     ghost use Rattle.std.specs.Option.{option_map};
     ghost use Rattle.mk_build.specs.BuildViews.{attached_of};
-    ghost use Rattle.mk_show.specs.Parts.{attached_file, inlined_file, spec_of, spec_view};
+    ghost use Rattle.mk_show.specs.Parts.{attached_file, inlined_file, is_text as is_of_text, spec_of, spec_view};
 
     /// What a word names, which is cut at its first colon. `None` where it has none.
     pub fn of(word: &'a [u8]) -> Option<Spec<'a>>
@@ -35,6 +35,13 @@ impl<'a> Spec<'a> {
             Some((media, path)) => Some(Spec { media, path }),
             None => None,
         }
+    }
+
+    /// Whether its media type is one of texts, in any case (RFC 2046, 4.1).
+    pub fn is_text(&self) -> bool
+        ensures { result ≡ is_of_text (spec_view self.now).media }
+    {
+        is_text(self.media)
     }
 
     /// The part for the file, where it holds these bytes.
@@ -76,8 +83,8 @@ fn file_name(path: &[u8]) -> &[u8]
     name
 }
 
-// Whether a media type is one of texts, in any case.
-fn is_text(media: &[u8]) -> bool
+/// Whether a media type is one of texts, in any case.
+pub(crate) fn is_text(media: &[u8]) -> bool
     ensures { result ≡ is_of_text media.now }
 {
     match parted(media, SLASH) {

@@ -4,10 +4,11 @@ use crate::commands::name_form;
 use crate::faults::{Problem, usage};
 use crate::files::{attachments, forwards};
 use clap::ArgMatches;
+use mk_line::Ending;
 use mk_mail::{Sink, Source};
 use mk_run::Status;
-use mk_show::{MIXED, PackOptions, try_pack_with_messages, try_part_with};
-use mk_words::options::{BOUNDARY, CHARSET, FORWARD, INLINE, PART, SPEC, SUBTYPE};
+use mk_show::{MIXED, PackOptions, try_pack_with_messages, try_part_with, turned_parts};
+use mk_words::options::{BOUNDARY, CHARSET, EOL, FORWARD, INLINE, PART, SPEC, SUBTYPE};
 use std::rt::Files;
 
 /// mimetool pack
@@ -22,8 +23,13 @@ pub fn pack<R: Files + AllocGlobal, S: Source, O: Sink, E: Sink>(
     let form = name_form(matches);
     let charset = matches.get_str(CHARSET).map(|word| word.as_bytes());
     let inline = matches.get_flag(INLINE);
+    let turned = matches.get_flag(EOL);
     if let Some(word) = matches.get_str(PART) {
-        return match attachments(rt, &[word], inline)?.first() {
+        let mut parts = attachments(rt, &[word], inline)?;
+        if turned {
+            parts = turned_parts(alloc, &parts, Ending::Lf)?;
+        }
+        return match parts.first() {
             Some(part) => Ok(try_part_with(alloc, out, err, form, charset, part)?),
             None => Ok(usage(err)),
         };
@@ -35,6 +41,7 @@ pub fn pack<R: Files + AllocGlobal, S: Source, O: Sink, E: Sink>(
         subtype: subtype(matches),
         charset,
         boundary: matches.get_str(BOUNDARY).map(|word| word.as_bytes()),
+        turned,
     };
     Ok(try_pack_with_messages(alloc, input, out, err, options, &parts, &messages)?)
 }

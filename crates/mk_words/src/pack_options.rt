@@ -1,11 +1,11 @@
 //! The words of `pack`.
 
-use crate::options::{BOUNDARY, CHARSET, FORWARD, INLINE, PACK, PART, SPEC, SUBTYPE, flag, utf8};
+use crate::options::{BOUNDARY, CHARSET, EOL, FORWARD, INLINE, PACK, PART, SPEC, SUBTYPE, flag, utf8};
 use clap::{Arg, ArgAction, Command};
 use std::alloc::{AllocError, Global};
 
-/// mimetool pack [-b BOUNDARY] [-m SUBTYPE] [--inline] [--charset NAME] [--utf8] [--forward FILE].. SPEC..
-/// mimetool pack [--inline] [--charset NAME] [--utf8] --part SPEC
+/// mimetool pack [-b BOUNDARY] [-m SUBTYPE] [--inline] [--charset NAME] [--eol] [--utf8] [--forward FILE].. SPEC..
+/// mimetool pack [--inline] [--charset NAME] [--eol] [--utf8] --part SPEC
 pub fn pack_command<'a>(alloc: Global) -> Result<Command<'a>, AllocError> {
     let command = Command::new(alloc, PACK)
         .about("Builds a multipart from files, after the fields on standard input, and prints it")
@@ -53,6 +53,12 @@ fn with_parts<'a>(alloc: Global, command: Command<'a>) -> Result<Command<'a>, Al
     command
         .arg(forward(alloc))?
         .arg(part(alloc)?)?
+        .arg(flag(
+            alloc,
+            EOL,
+            "End the lines of texts as the lines of the fields end",
+        )
+        .long(EOL))?
         .arg(utf8(
             alloc,
             "Write names of files that aren't ASCII as they are, too, for unpack --utf8",

@@ -14,7 +14,7 @@ use Rattle.mk_edit.specs.History.{History}
 use Rattle.mk_edit.specs.Histories.{text_now, with_step}
 use Rattle.mk_expand.specs.declared.errors.WordError.{WordError}
 use Rattle.mk_expand.specs.declared.errors.WordError.TheVariants as error
-use Rattle.mk_expand.specs.Meanings.{Meaning, WordFault, UnknownEncoding, BadBase64, BadType, BadName}
+use Rattle.mk_expand.specs.Meanings.{Meaning, WordFault, UnknownEncoding, BadBase64, BadType, BadName, BadCharset, BinaryContent}
 use Rattle.mk_run.specs.declared.making.StepError.{StepError}
 use Rattle.mk_run.specs.declared.making.StepError.TheVariants as step
 use Rattle.mk_run.specs.WordSteps.{StepRefusal, EditRefused, WordRefused, made_by}
@@ -37,6 +37,8 @@ fault_in error.UnknownEncoding = Some UnknownEncoding
 fault_in error.BadBase64 = Some BadBase64
 fault_in error.BadType = Some BadType
 fault_in error.BadName = Some BadName
+fault_in error.BadCharset = Some BadCharset
+fault_in error.BinaryContent = Some BinaryContent
 fault_in error.Memory = None
 
 -- the reason that an error names; running out of memory is none

@@ -130,13 +130,27 @@ output: Content-Type: multipart/mixed; boundary=b\r\n\r\n--b\r\n\r\none\r\n--b\r
 status: Well
 
 == a content, before it is encoded
+message: A: 1\r\nContent-Transfer-Encoding: quoted-printable\r\n\r\nx\r\n
+script: content 1 1\n
+piece: b=\n
+output: A: 1\r\nContent-Transfer-Encoding: quoted-printable\r\n\r\nb=3D\r\n
+status: Well
+
+== a content in base64 stays as it is
 message: A: 1\r\nContent-Transfer-Encoding: base64\r\n\r\nYQ==\r\n
 script: content 1 1\n
 piece: b\n
-output: A: 1\r\nContent-Transfer-Encoding: base64\r\n\r\nYg0K
+output: A: 1\r\nContent-Transfer-Encoding: base64\r\n\r\nYgo=
 status: Well
 
-== a file that is attached stays as it is
+== a text that is attached
+message: Content-Type: multipart/mixed; boundary=b\r\n\r\n--b\r\n\r\none\r\n--b--\r\n
+script: attach 1 TEXT/x-c n.c 1\n
+piece: a\n
+output: Content-Type: multipart/mixed; boundary=b\r\n\r\n--b\r\n\r\none\r\n--b\r\nContent-Type: TEXT/x-c; name="n.c"\r\nContent-Disposition: attachment; filename="n.c"\r\nContent-Transfer-Encoding: quoted-printable\r\n\r\na\r\n\r\n--b--\r\n
+status: Well
+
+== another file that is attached stays as it is
 message: Content-Type: multipart/mixed; boundary=b\r\n\r\n--b\r\n\r\none\r\n--b--\r\n
 script: attach 1 image/gif n.gif 1\n
 piece: a\n

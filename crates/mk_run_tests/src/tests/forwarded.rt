@@ -236,6 +236,7 @@ fn check_memory(rt: &impl Abort, alloc: Global, mut out: Page, mut err: Page, me
         subtype: MIXED,
         charset: None,
         boundary: None,
+        turned: false,
     };
     match try_pack_with_messages(
         alloc,

@@ -5,10 +5,10 @@ use std::test::Fail;
 
 const ROWS: &str = r#"
 == contents go in as their leaves are encoded
-message: Content-Type: multipart/mixed; boundary=b\n\n--b\nContent-Transfer-Encoding: quoted-printable\n\none\n--b\nContent-Transfer-Encoding: base64\n\nYQ==\n--b--\n
+message: Content-Type: multipart/mixed; boundary=b\n\n--b\nContent-Type: text/plain; charset=iso-8859-1\nContent-Transfer-Encoding: quoted-printable\n\none\n--b\nContent-Type: image/gif\nContent-Transfer-Encoding: base64\n\nYQ==\n--b--\n
 script: content 1.1 1\ncontent 1.2 1\n
 piece: a=b\xe9\n
-output: Content-Type: multipart/mixed; boundary=b\n\n--b\nContent-Transfer-Encoding: quoted-printable\n\na=3Db=E9\n\n--b\nContent-Transfer-Encoding: base64\n\nYT1i6Qo=\n--b--\n
+output: Content-Type: multipart/mixed; boundary=b\n\n--b\nContent-Type: text/plain; charset=iso-8859-1\nContent-Transfer-Encoding: quoted-printable\n\na=3Db=E9\n\n--b\nContent-Type: image/gif\nContent-Transfer-Encoding: base64\n\nYT1i6Qo=\n--b--\n
 status: Well
 
 == a content that isn't encoded keeps a CR before the line after it
@@ -211,7 +211,7 @@ step: put 1\x20
 
 == a name of fields
 step: drop 1 Subject
-step: drop 1.2 a:b
+step: drop 1.2 a_b
 
 == one path or several
 step: remove 1.1 1.3

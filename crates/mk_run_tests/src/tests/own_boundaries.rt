@@ -77,6 +77,7 @@ fn check_row(rt: &impl Abort, alloc: Global, row: &Row) -> Result<(), Fail> {
         subtype: MIXED,
         charset: None,
         boundary: None,
+        turned: false,
     };
     for size in SIZES {
         let mut input = Text::new(row.bytes("fields"), size);
@@ -123,6 +124,7 @@ fn check_memory(rt: &impl Abort, alloc: Global, mut out: Page, mut err: Page, pa
         subtype: MIXED,
         charset: None,
         boundary: None,
+        turned: false,
     };
     match try_pack_with(alloc, &mut input, &mut out, &mut err, options, parts) {
         Ok(status) => {

@@ -45,6 +45,17 @@ holds: hi
 output: MIME-Version: 1.0\nContent-Type: multipart/related; boundary="b"\n\n--b\nContent-Type: image/gif; name="x"\nContent-Disposition: attachment; filename="x"\nContent-Transfer-Encoding: base64\n\naGk=\n--b--\n
 status: Well
 
+== texts get the endings of the fields, and other files stay
+fields: Subject: s\r\n
+turned: yes
+boundary: b
+file: text/plain:n.txt
+holds: a\nb\r\n
+file: image/gif:x
+holds: \n
+output: Subject: s\r\nMIME-Version: 1.0\r\nContent-Type: multipart/mixed; boundary="b"\r\n\r\n--b\r\nContent-Type: text/plain; name="n.txt"\r\nContent-Disposition: attachment; filename="n.txt"\r\nContent-Transfer-Encoding: quoted-printable\r\n\r\na\r\nb\r\n\r\n--b\r\nContent-Type: image/gif; name="x"\r\nContent-Disposition: attachment; filename="x"\r\nContent-Transfer-Encoding: base64\r\n\r\nCg==\r\n--b--\r\n
+status: Well
+
 == a text in capitals is a text, whatever its name
 fields:
 inline: yes
@@ -210,6 +221,7 @@ pub fn options(row: &Row) -> PackOptions<'_> {
         subtype: bytes(row.get("subtype")).unwrap_or(MIXED),
         charset: bytes(row.get("charset")),
         boundary: bytes(row.get("boundary")),
+        turned: row.get("turned").is_some(),
     }
 }
 
