@@ -1,5 +1,6 @@
 """Command lines that are invalid as they stand, and what is said of each. The words are those of clap."""
 
+A_TEXT = "write a name, a colon and a text on one line, as 'Subject:[list] '"
 A_PAIR = "write two names with a colon between them, as Subject:X-Subject"
 A_FIELD = "write a name, a colon and a value, as 'X-Seen: yes'"
 A_FIELD_OR_NAME = A_FIELD + ", or a name and a colon alone, as X-Seen:"
@@ -29,7 +30,7 @@ OPTIONS = {
     "unpack": {"-C <DIR>": "d", "-s <PATH>": "1"},
     "pack": {"-b <BOUNDARY>": "b", "-m <SUBTYPE>": "related", "--charset <NAME>": "utf-8", "--forward <FILE>": "f"},
     "field": {
-        "--drop <NAME:>": "A:", "--rename <OLD:NEW>": "A:B", "-a <FIELD>": "A: 1", "-A <FIELD>": "A: 1", "-i <FIELD>": "A: 1", "-I <FIELD>": "A: 1",
+        "--prepend <NAME:TEXT>": "A:b", "--drop <NAME:>": "A:", "--rename <OLD:NEW>": "A:B", "-a <FIELD>": "A: 1", "-A <FIELD>": "A: 1", "-i <FIELD>": "A: 1", "-I <FIELD>": "A: 1",
         "-u <NAME:>": "A:", "-U <NAME:>": "A:", "-x <NAME:>": "A:", "-X <NAME:>": "A:",
     },
 }
@@ -57,6 +58,8 @@ VALUES = [
       for letter in ("-a", "-A") for value in ("", "x", "A:", "A: ", "A: \t", ": x", "A b: c", "A: b\n", "A: b\nC: d")],
     *[(["field", letter, value], f"{letter} <FIELD>", value, A_FIELD_OR_NAME)
       for letter in ("-i", "-I") for value in ("", "x", ":", ": x", "A b: c", "A: b\n", "A: b\nC: d")],
+    *[(["field", "--prepend", value], "--prepend <NAME:TEXT>", value, A_TEXT)
+      for value in ("", "A", ":", "A:", "A: ", "A:\t", ":b", "A b:c", "A:b\nc", "A:b\r")],
     *[(["field", "--drop", value], "--drop <NAME:>", value, A_NAME_OR_FRONT)
       for value in ("", "A", ":", "A: b", "A b:", "A:B:", "*:", "*", "A b*:", "A*")],
     (["field", "--drop", "A:", "--drop", "B"], "--drop <NAME:>", "B", A_NAME_OR_FRONT),
@@ -73,7 +76,7 @@ VALUES = [
 BESIDE = [
     ["-x", "A:", "-X", "A:"],
     *[[letter, "A:", *other] for letter in ("-x", "-X") for other in (
-        ["--drop", "A:"], ["--rename", "A:B"], ["-a", "A: 1"], ["-A", "A: 1"], ["-i", "A: 1"], ["-I", "A: 1"], ["-u", "A:"], ["-U", "A:"])],
+        ["--prepend", "A:b"], ["--drop", "A:"], ["--rename", "A:B"], ["-a", "A: 1"], ["-A", "A: 1"], ["-i", "A: 1"], ["-I", "A: 1"], ["-u", "A:"], ["-U", "A:"])],
 ]
 
 # Other command lines, and all that has to be said of each.
@@ -130,7 +133,7 @@ NO_TEXT = [
 
 
 # Options that may be given again.
-REPEATED = {("edit", "-e"), ("unpack", "-s"), ("pack", "--forward"), *(("field", letter) for letter in ("--drop", "--rename", "-a", "-A", "-i", "-I", "-u", "-U"))}
+REPEATED = {("edit", "-e"), ("unpack", "-s"), ("pack", "--forward"), *(("field", letter) for letter in ("--prepend", "--drop", "--rename", "-a", "-A", "-i", "-I", "-u", "-U"))}
 
 
 def doubled():

@@ -10,7 +10,7 @@ _mimetool_options() {
         extract) options='--from -n --rfc4155 -s --raw --head --prefix -h --help' ;;
         unpack) options='--from -n --rfc4155 -f -t -s --silent --paths --utf8 -C -h --help' ;;
         pack) options='-b -m --inline --charset --eol --forward --part --utf8 -h --help' ;;
-        field) options='--from --in-place -p --drop --rename -a -A -i -I -u -U -x -X --unfold --decode --encode --eol --refused-ok -s --rfc4155 -h --help' ;;
+        field) options='--from --in-place -p --prepend --drop --rename -a -A -i -I -u -U -x -X --unfold --decode --encode --eol --refused-ok -s --rfc4155 -h --help' ;;
         messages) options='--from --rfc4155 -h --help' ;;
         help) options='' ;;
         '') options='-h --help -V --version' ;;
@@ -36,7 +36,7 @@ _mimetool() {
         unpack:-C)
             mapfile -t COMPREPLY < <(compgen -d -- "$cur")
             return ;;
-        edit:-e | *:-n | extract:-s | unpack:-s | pack:-b | pack:-m | pack:--charset | field:--drop | field:--rename | field:-[aAiIpuUxX])
+        edit:-e | *:-n | extract:-s | unpack:-s | pack:-b | pack:-m | pack:--charset | field:--prepend | field:--drop | field:--rename | field:-[aAiIpuUxX])
             return ;;
     esac
     if [[ $cur == -* ]]; then

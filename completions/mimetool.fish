@@ -43,11 +43,13 @@ complete -c mimetool -n '__fish_seen_subcommand_from pack' -s b -x -d 'The bound
 complete -c mimetool -n '__fish_seen_subcommand_from pack' -s m -x -a 'alternative digest mixed parallel related' -d 'Make a multipart of this kind'
 complete -c mimetool -n '__fish_seen_subcommand_from pack' -l inline -d 'Give texts no name and messages no disposition, so that they are shown'
 complete -c mimetool -n '__fish_seen_subcommand_from pack' -l charset -x -a 'iso-8859-1 us-ascii utf-8' -d 'Say that texts are in this charset'
+complete -c mimetool -n '__fish_seen_subcommand_from pack' -l eol -d 'End the lines of texts as the lines of the fields end'
 complete -c mimetool -n '__fish_seen_subcommand_from pack' -l forward -r -F -d 'Add this message as it is'
 complete -c mimetool -n '__fish_seen_subcommand_from pack' -l part -r -F -d 'Print one part alone, for insert'
 complete -c mimetool -n '__fish_seen_subcommand_from pack' -l utf8 -d 'Write names that are not ASCII as they are, too'
 complete -c mimetool -n '__fish_seen_subcommand_from pack' -F
 complete -c mimetool -n '__fish_seen_subcommand_from field' -s p -x -d 'Work on the fields of a section'
+complete -c mimetool -n '__fish_seen_subcommand_from field' -l prepend -x -d 'Put a text before what the fields say'
 complete -c mimetool -n '__fish_seen_subcommand_from field' -l drop -x -d 'Remove the fields'
 complete -c mimetool -n '__fish_seen_subcommand_from field' -l rename -x -d 'Give the fields OLD the name NEW'
 complete -c mimetool -n '__fish_seen_subcommand_from field' -s a -x -d 'Add a field, unless there is one of its name'

@@ -13,6 +13,7 @@ const MESSAGES: usize = 60;
 /// No letter.
 pub fn no_letters(alloc: Global) -> Letters {
     Letters {
+        prepend: None,
         drops: Vec::new(alloc),
         rename: None,
         add_if: None,

@@ -17,9 +17,10 @@ use Rattle.mk_code.proofs.WordsKept.{unfold_byte, words_kept}
 use Rattle.mk_script.specs.Paths.{parted}
 use Rattle.mk_script.proofs.PieceLemmas.{HoldsNo, parted-append}
 use Rattle.mk_field.specs.Filtering.{behind_colon, part_behind}
-use Rattle.mk_field.specs.Wording.{decoded_value, is_plain, line_byte, worded_by, worded_field, worded_parts}
-use Rattle.mk_field.proofs.Wordings.{needed, plain_stays}
-use Rattle.mk_field.specs.WordLaws.{WordedFieldsAreRead, is_one_line}
+use Rattle.mk_mail.specs.Prepended.{is_one_line, is_plain}
+use Rattle.mk_field.specs.Wording.{decoded_value, line_byte, worded_by, worded_field, worded_parts}
+use Rattle.mk_mail.proofs.Plainness.{needed, plain_stays}
+use Rattle.mk_field.specs.WordLaws.{WordedFieldsAreRead}
 
 -- a space before a value stays before what it says
 space_shown : (rs : List Run) → shown false (run_before 32 rs) ≡ 32 ∷ shown false rs

@@ -1,15 +1,18 @@
 -- Letters as words of the command line (own, after formail).
-use Rattle.std.specs.Prelude.{◌==◌, ◌-◌, ◌&&◌, if◌then◌else◌, ℕ, Bool, true, false, Option, None, Some, List, [], is_some, length, map, slice_index, take, unwrap_or}
-use Rattle.std.specs.List.{list_all}
+use Rattle.std.specs.Prelude.{◌==◌, ◌-◌, ◌&&◌, if◌then◌else◌, ℕ, Bool, true, false, Option, None, Some, List, [], drop, is_some, length, map, slice_index, take, unwrap_or}
+use Rattle.std.specs.List.{list_all, prefix_len}
 use Rattle.std.specs.Option.{option_and_then, option_map}
-use Rattle.mk_line.specs.Ascii.{colon}
+use Rattle.mk_line.specs.Ascii.{colon, is_blank}
 use Rattle.mk_line.specs.Lines.{is_nil}
 use Rattle.mk_mail.specs.Letters.{PlainLetters, PlainPattern, passes}
+use Rattle.mk_mail.specs.Prepended.{PlainPrepend}
 use Rattle.mk_script.specs.Paths.{parted}
 use Rattle.mk_field.specs.declared.letters.LetterWords.{LetterWords}
 
 -- the words that stand after letters, each where its letter was given
 pub record PlainWords : Type 0 where
+  -- --prepend
+  pub prepend : Option (List ℕ)
   -- --drop, each time
   pub drops : List (List ℕ)
   -- --rename
@@ -34,6 +37,7 @@ pub record PlainWords : Type 0 where
 -- words as they are
 abbrev pub words_of : LetterWords → PlainWords
 words_of w = record {
+  prepend = option_map (λ s. s.now) w.prepend;
   drops = map (λ s. s.now) w.drops.items;
   rename = option_map (λ s. s.now) w.rename;
   add_if = option_map (λ s. s.now) w.add_if;
@@ -59,7 +63,7 @@ name_in word = name_of_parts (parted colon word)
 abbrev pub is_name_word : List ℕ → Bool
 is_name_word word = is_some (name_in word)
 
--- a word that is two names with a colon between them
+-- a word with a colon, as those of two names and those of a name and a text have it
 abbrev pub is_pair_word : List ℕ → Bool
 is_pair_word word = is_some (parted colon word)
 
@@ -80,14 +84,19 @@ pattern_in name =
 abbrev pub pattern_asked : List ℕ → PlainPattern
 pattern_asked word = pattern_in (unwrap_or (name_in word) [])
 
+-- the text of `--prepend` after its name and colon, without the blanks at its start
+abbrev pub prepend_in : List ℕ × List ℕ → PlainPrepend
+prepend_in p = record { name = p.0; text = drop (prefix_len is_blank p.1) p.1 }
+
 -- the words that take names have their colons
 abbrev pub have_colons : PlainWords → Bool
 have_colons w =
-    list_all is_name_word w.drops && passes is_name_word w.first && (passes is_name_word w.last && (passes is_name_word w.take && (passes is_name_word w.whole && passes is_pair_word w.rename)))
+    list_all is_name_word w.drops && passes is_name_word w.first && (passes is_name_word w.last && (passes is_name_word w.take && (passes is_name_word w.whole && (passes is_pair_word w.rename && passes is_pair_word w.prepend))))
 
 -- what words ask for, each by the letter that takes it
 abbrev pub letters_asked : PlainWords → PlainLetters
 letters_asked w = record {
+  prepend = option_map prepend_in (option_and_then (parted colon) w.prepend);
   drops = map pattern_asked w.drops;
   rename = option_and_then (parted colon) w.rename;
   add_if = w.add_if;

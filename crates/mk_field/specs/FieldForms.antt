@@ -22,6 +22,7 @@ in_form form eol field = turned_if form eol (encoded_if form eol field)
 -- words of the command line of which those that are fields are in a form
 abbrev pub words_in_form : FieldForm → Ending → PlainWords → PlainWords
 words_in_form form eol w = record {
+  prepend = w.prepend;
   drops = w.drops;
   rename = w.rename;
   add_if = option_map (in_form form eol) w.add_if;

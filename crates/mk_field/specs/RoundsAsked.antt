@@ -11,7 +11,7 @@ use Rattle.mk_field.specs.FieldForms.{words_in_form}
 use Rattle.mk_field.specs.declared.filters.RoundLetters.{RoundLetters}
 use Rattle.mk_field.specs.declared.forms.FieldForm.{FieldForm}
 use Rattle.mk_field.specs.declared.words.Letter.{Letter}
-use Rattle.mk_field.specs.declared.words.Letter.TheVariants.{Drops, Rename, AddIf, Add, Prefixed, Only, First, Last, Take, Whole}
+use Rattle.mk_field.specs.declared.words.Letter.TheVariants.{Prepend, Drops, Rename, AddIf, Add, Prefixed, Only, First, Last, Take, Whole}
 use Rattle.mk_field.specs.declared.words.LetterWord.{LetterWord}
 
 -- a letter, and the word after it
@@ -25,10 +25,11 @@ word_of w = record { letter = w.letter; word = w.word.now }
 
 -- no words
 abbrev pub no_words : PlainWords
-no_words = record { drops = []; rename = None; add_if = None; add = None; prefixed = None; only = None; first = None; last = None; take = None; whole = None }
+no_words = record { prepend = None; drops = []; rename = None; add_if = None; add = None; prefixed = None; only = None; first = None; last = None; take = None; whole = None }
 
 -- whether a round has its one word of a letter; it may have any number of `--drop`
 abbrev pub is_given : Letter → PlainWords → Bool
+is_given Prepend w = is_some w.prepend
 is_given Drops w = false
 is_given Rename w = is_some w.rename
 is_given AddIf w = is_some w.add_if
@@ -42,6 +43,7 @@ is_given Whole w = is_some w.whole
 
 -- the words of a round, and this one of a letter
 abbrev pub with_letter : Letter → List ℕ → PlainWords → PlainWords
+with_letter Prepend word w = record w { prepend = Some word }
 with_letter Drops word w = record w { drops = w.drops ++ word ∷ [] }
 with_letter Rename word w = record w { rename = Some word }
 with_letter AddIf word w = record w { add_if = Some word }

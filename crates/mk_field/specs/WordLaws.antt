@@ -1,18 +1,13 @@
 -- A value that is written in encoded words is read again (RFC 2047).
-use Rattle.std.specs.Prelude.{◌≡◌, ◌==◌, ◌||◌, ◌++◌, ℕ, Bool, not, true, List, codes}
-use Rattle.std.specs.List.{list_all}
+use Rattle.std.specs.Prelude.{◌≡◌, ◌++◌, ℕ, true, List, codes}
 use Rattle.std.specs.Str.{IsUtf8}
 use Rattle.base64.specs.GeneralPurpose.{IsBytes}
 use Rattle.mk_line.specs.declared.cutting.Ending.{Ending}
-use Rattle.mk_line.specs.Ascii.{carriage_return, line_feed}
 use Rattle.mk_line.specs.Kinds.{is_name}
 use Rattle.mk_head.specs.Values.{stripped}
+use Rattle.mk_mail.specs.Prepended.{is_one_line}
 use Rattle.mk_field.specs.Filtering.{behind_colon}
 use Rattle.mk_field.specs.Wording.{decoded_value, worded_field}
-
--- no byte ends a line
-abbrev pub is_one_line : List ℕ → Bool
-is_one_line text = list_all (λ byte. not (byte == carriage_return || byte == line_feed)) text
 
 -- a text in UTF-8 that `--encode` puts into a field comes back by `--decode`, if it is one line without blanks at its ends
 abbrev pub WordedFieldsAreRead : Type 0

@@ -1,13 +1,12 @@
 -- Values of fields as people write them: on one line (RFC 5322, 2.2.3), encoded words read and made (RFC 2047; where they are read and
 -- made is our own).
-use Rattle.std.specs.Prelude.{◌==◌, ◌&&◌, ◌||◌, ◌++◌, if◌then◌else◌, ℕ, Bool, not, Option, None, Some, List, [], ◌∷◌, codes, map}
-use Rattle.std.specs.List.{list_all}
-use Rattle.std.specs.Str.{is_utf8}
+use Rattle.std.specs.Prelude.{◌==◌, ◌||◌, ◌++◌, if◌then◌else◌, ℕ, Option, None, Some, List, [], ◌∷◌, codes, map}
 use Rattle.mk_line.specs.declared.cutting.Ending.{Ending}
-use Rattle.mk_line.specs.Ascii.{carriage_return, colon, equals_sign, line_feed, question_mark, space}
+use Rattle.mk_line.specs.Ascii.{carriage_return, colon, line_feed, space}
 use Rattle.mk_line.specs.Marks.{trimmed}
 use Rattle.mk_head.specs.Values.{stripped}
-use Rattle.mk_code.specs.EncodedWords.{has_pair, is_shown, unfolded, words_decoded, words_encoded}
+use Rattle.mk_code.specs.EncodedWords.{unfolded, words_decoded, words_encoded}
+use Rattle.mk_mail.specs.Prepended.{needs_words}
 use Rattle.mk_script.specs.Paths.{parted}
 use Rattle.mk_field.specs.declared.filters.ValueForm.{ValueForm}
 use Rattle.mk_field.specs.declared.filters.ValueForm.TheVariants.{AsWritten, Unfolded, Decoded}
@@ -33,14 +32,6 @@ abbrev pub printed_value : ValueForm → List ℕ → List ℕ
 printed_value AsWritten value = value
 printed_value Unfolded value = one_line (unfolded value)
 printed_value Decoded value = one_line (words_decoded value)
-
--- a value that stays: it is printable ASCII, and nothing in it begins like an encoded word
-abbrev pub is_plain : List ℕ → Bool
-is_plain value = list_all is_shown value && not (has_pair equals_sign question_mark value)
-
--- any other value needs encoded words, where it is UTF-8
-abbrev pub needs_words : List ℕ → Bool
-needs_words value = is_utf8 value && not (is_plain value)
 
 -- a field of a name and a value, or as it is given, where its value needs no encoded words
 abbrev pub worded_parts : Ending → List ℕ → List ℕ → List ℕ → List ℕ

@@ -1,18 +1,14 @@
 //! What a filter gives of a document that asks for the fields of a name.
 
-ghost use Rattle.std.specs.Prelude.{◌≡◌, false, map, IfOk};
-ghost use Rattle.mk_line.specs.Lines.{cut};
-ghost use Rattle.mk_head.specs.Fields.{fields_of};
-ghost use Rattle.mk_head.specs.Split.{fields_from};
+ghost use Rattle.std.specs.Prelude.{◌≡◌, map, IfOk};
 ghost use Rattle.mk_mail.specs.LetterViews.{bytes_in, letters_of};
-ghost use Rattle.mk_mail.specs.Letters.{fields_at};
 ghost use Rattle.mk_field.specs.FilterViews.{round_of};
 ghost use Rattle.mk_field.specs.Filtering.{behind_colon as is_behind_colon, given_by, given_of, values_named, wholes_named};
 
 use crate::filters::{FieldFilter, ValueForm};
 use crate::wording::push_value;
 use mk_head::each_field;
-use mk_mail::Letters;
+use mk_mail::{Letters, head_at};
 use mk_script::parted;
 use mk_tree::Doc;
 use std::alloc::{AllocError, Global};
@@ -88,16 +84,6 @@ fn wholes(alloc: Global, doc: &Doc, path: &[u32], name: &[u8]) -> Result<Vec<u8>
         }
     }
     Ok(text)
-}
-
-// The fields of the section at a path as they stand, none where there is no such section.
-fn head_at<'a>(doc: &'a Doc, path: &[u32]) -> &'a [u8]
-    ensures { fields_of (fields_from false (cut result.now)) ≡ fields_at path.now doc.now }
-{
-    match doc.section(path) {
-        Some(section) => section.head(),
-        None => b"",
-    }
 }
 
 // What follows the colon of a field.

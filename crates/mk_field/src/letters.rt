@@ -4,15 +4,15 @@ ghost use Rattle.std.specs.Prelude.{◌≡◌, ◌≢◌, IfOk, map};
 ghost use Rattle.std.specs.List.{list_all};
 ghost use Rattle.std.specs.Option.{option_and_then, option_map};
 ghost use Rattle.mk_line.specs.Ascii.{colon};
-ghost use Rattle.mk_mail.specs.LetterViews.{bytes_in, pattern_of};
+ghost use Rattle.mk_mail.specs.LetterViews.{bytes_in, pattern_of, prepend_of};
 ghost use Rattle.mk_mail.specs.Letters.{passes};
-ghost use Rattle.mk_field.specs.Asked.{is_name_word, is_pair_word, name_in as name_in_word, pattern_asked, pattern_in};
+ghost use Rattle.mk_field.specs.Asked.{is_name_word, is_pair_word, name_in as name_in_word, pattern_asked, pattern_in, prepend_in};
 ghost use Rattle.mk_field.specs.FieldForms.{in_form as made_in_form};
 ghost use Rattle.mk_script.specs.Paths.{parted as parted_at};
 
 use crate::forms::{FieldForm, in_form};
-use mk_line::Ending;
-use mk_mail::{Letters, NamePattern};
+use mk_line::{Ending, leading_blanks};
+use mk_mail::{Letters, NamePattern, Prepend};
 use mk_script::parted;
 use std::alloc::{AllocError, Global};
 
@@ -24,6 +24,8 @@ const ASTERISK: u8 = b'*';
 /// The words that stand after the letters of `field`, each where its letter was given.
 #[derive(Debug, Drop)]
 pub struct LetterWords<'a> {
+    /// `--prepend NAME:TEXT`
+    pub prepend: Option<&'a str>,
     /// `--drop NAME:` and `--drop NAME*:`, each time
     pub drops: Vec<&'a str>,
     /// `--rename OLD:NEW`
@@ -61,6 +63,7 @@ impl LetterWords<'_> {
             return Ok(None);
         }
         Ok(Some(Letters {
+            prepend: prepend(alloc, self.prepend)?,
             drops: patterns(alloc, &self.drops)?,
             rename: names(alloc, self.rename)?,
             add_if: field(alloc, self.add_if)?,
@@ -95,7 +98,7 @@ impl LetterWords<'_> {
         Ok(Some(letters))
     }
 
-    // Whether each word that is a name has its colon, and that of `--rename` one between its names.
+    // Whether each word that is a name has its colon, and so those of `--rename` and `--prepend` after a name.
     fn have_colons(&self) -> bool
         ensures { result ≡ words_have_colons (words_of self.now) }
     {
@@ -104,7 +107,8 @@ impl LetterWords<'_> {
             && may_name(self.last)
             && may_name(self.take)
             && may_name(self.whole)
-            && may_rename(self.rename)
+            && may_part(self.rename)
+            && may_part(self.prepend)
     }
 }
 
@@ -138,7 +142,7 @@ fn may_name(word: Option<&str>) -> bool
 }
 
 // Whether a word has a colon, where there is one.
-fn may_rename(word: Option<&str>) -> bool
+fn may_part(word: Option<&str>) -> bool
     ensures { result ≡ passes is_pair_word (option_map (λ s. s.now) word.entry) }
 {
     match word {
@@ -230,6 +234,23 @@ fn pattern(alloc: Global, name: &[u8]) -> Result<NamePattern, AllocError>
             text: Vec::from_slice(alloc, name)?,
             is_front: false,
         }),
+    }
+}
+
+// The name of a word, and the text after its colon without the blanks at its start.
+fn prepend(alloc: Global, word: Option<&str>) -> Result<Option<Prepend>, AllocError>
+    ensures { IfOk result (λ prepend. option_map prepend_of prepend ≡ option_map prepend_in (option_and_then (parted_at colon) (option_map (λ s. s.now) word.entry))) }
+{
+    let Some(word) = word else {
+        return Ok(None);
+    };
+    match parted(word.as_bytes(), COLON) {
+        Some((name, behind)) => {
+            let name = Vec::from_slice(alloc, name)?;
+            let text = Vec::from_slice(alloc, &behind[leading_blanks(behind)..])?;
+            Ok(Some(Prepend { name, text }))
+        }
+        None => Ok(None),
     }
 }
 

@@ -1,17 +1,14 @@
 //! Values of fields as people write them: encoded words read and made (RFC 2047).
 
-ghost use Rattle.std.specs.Prelude.{◌≡◌, ◌≢◌, ◌++◌, true, false, IfOk, MatchOption, OnOk, map};
-ghost use Rattle.std.specs.List.{list_all};
-ghost use Rattle.mk_line.specs.Ascii.{equals_sign, question_mark};
+ghost use Rattle.std.specs.Prelude.{◌≡◌, ◌≢◌, ◌++◌, IfOk, OnOk, map};
 ghost use Rattle.mk_head.specs.Values.{stripped};
-ghost use Rattle.mk_code.specs.EncodedWords.{has_pair, is_shown as shown};
-ghost use Rattle.mk_field.specs.Wording.{is_plain as stays_plain, line_byte as byte_of_line, needs_words, one_line as text_on_one_line, printed_value, worded_field as field_in_words, worded_parts};
+ghost use Rattle.mk_field.specs.Wording.{line_byte as byte_of_line, one_line as text_on_one_line, printed_value, worded_field as field_in_words, worded_parts};
 
 use crate::filters::ValueForm;
-use memchr::memmem;
 use mk_code::{words_decode, words_encode};
 use mk_head::without_endings;
 use mk_line::{Ending, leading_blanks, trimmed};
+use mk_mail::text_for_words;
 use mk_script::parted;
 use std::alloc::{AllocError, Global};
 
@@ -20,9 +17,6 @@ const COLON: u8 = b':';
 const LINE_FEED: u8 = b'\n';
 
 const CARRIAGE_RETURN: u8 = b'\r';
-
-/// What an encoded word begins with.
-const MARK: &[u8; 2] = b"=?";
 
 /// Writes a value after a text, in one of its forms. A line break that an encoded word holds becomes a space.
 pub(crate) fn push_value(
@@ -106,39 +100,4 @@ fn in_words(
         }
         None => Vec::from_slice(alloc, field),
     }
-}
-
-// The value as text, where it needs encoded words.
-fn text_for_words(value: &[u8]) -> Option<&str>
-    ensures { MatchOption result (needs_words value.now ≡ false) (λ text. (needs_words value.now ≡ true) × (text.now ≡ value.now)) }
-{
-    match std::str::from_utf8(value) {
-        Ok(text) if !is_plain(value) => Some(text),
-        _ => None,
-    }
-}
-
-// Whether a value is printable ASCII and holds no `=?`.
-fn is_plain(value: &[u8]) -> bool
-    ensures { result ≡ stays_plain value.now }
-{
-    are_shown(value) && !has_mark(value)
-}
-
-fn has_mark(value: &[u8]) -> bool
-    ensures { result ≡ has_pair equals_sign question_mark value.now }
-{
-    memmem::find(value, MARK).is_some()
-}
-
-fn are_shown(value: &[u8]) -> bool
-    ensures { result ≡ list_all shown value.now }
-{
-    value.iter().all(|byte| is_shown(*byte))
-}
-
-fn is_shown(byte: u8) -> bool
-    ensures { result ≡ shown byte }
-{
-    byte >= b' ' && byte <= b'~'
 }

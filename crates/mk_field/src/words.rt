@@ -15,6 +15,8 @@ use std::mem;
 /// A letter of `field`.
 #[derive(Clone, Copy, Debug, PartialEq, Eq)]
 pub enum Letter {
+    /// `--prepend`
+    Prepend,
     /// `--drop`, which may be given again in a round
     Drops,
     /// `--rename`
@@ -94,6 +96,7 @@ impl<'a> LetterWords<'a> {
         ensures { words_of result ≡ no_words }
     {
         LetterWords {
+            prepend: None,
             drops: Vec::new(alloc),
             rename: None,
             add_if: None,
@@ -112,6 +115,7 @@ impl<'a> LetterWords<'a> {
         ensures { result ≡ is_given letter (words_of self.now) }
     {
         match letter {
+            Letter::Prepend => self.prepend.is_some(),
             Letter::Drops => false,
             Letter::Rename => self.rename.is_some(),
             Letter::AddIf => self.add_if.is_some(),
@@ -130,6 +134,7 @@ impl<'a> LetterWords<'a> {
         ensures { OnOk result (words_of self.new ≡ with_word (word_of word.entry) (words_of self.old)) }
     {
         match word.letter {
+            Letter::Prepend => self.prepend = Some(word.word),
             Letter::Drops => self.drops.push(word.word)?,
             Letter::Rename => self.rename = Some(word.word),
             Letter::AddIf => self.add_if = Some(word.word),

@@ -4,8 +4,9 @@ use Rattle.std.specs.List.{list_any}
 use Rattle.std.proofs.lemmas.Bool.{cases_Bool, or_parts}
 use Rattle.std.proofs.lemmas.List.Elements.{filter-append}
 use Rattle.std.proofs.lemmas.List.{map-append}
+use Rattle.mk_line.specs.declared.cutting.Ending.{Ending}
 use Rattle.mk_line.specs.Lines.{cut}
-use Rattle.mk_head.specs.Fields.{fields_of}
+use Rattle.mk_head.specs.Fields.{FieldText, fields_of}
 use Rattle.mk_head.specs.Split.{fields_from}
 use Rattle.mk_head.specs.Splits.{IsRun}
 use Rattle.mk_tree.specs.Documents.{tree}
@@ -13,7 +14,8 @@ use Rattle.mk_tree.specs.Sections.{Placed, head_text, section_at, section_fields
 use Rattle.mk_tree.specs.Tree.{field_lines}
 use Rattle.mk_decide.proofs.FieldPlaces.{run_all}
 use Rattle.mk_decide.proofs.SectionSites.{head_cut, head_is_run, site}
-use Rattle.mk_mail.specs.Letters.{PlainPattern, Work, dropped, fields_at, fields_in, is_dropped, names_at, others, respelling, respelt, same_name, then_do, those, with_first}
+use Rattle.mk_mail.specs.Letters.{PlainPattern, Work, dropped, fields_at, fields_in, is_dropped, names_at, others, prepending, respelling, respelt, same_name, then_do, those, with_first}
+use Rattle.mk_mail.specs.Prepended.{PlainPrepend}
 use Rattle.mk_decide.specs.Edits.{PlainEdit, RemoveField}
 use Rattle.mk_mailbox.proofs.Intaking.{true_or_false}
 
@@ -141,6 +143,15 @@ rest_respelt old new own o list now all names rest n e k h =
 pub rest_respelling : (path old new own : List ℕ) (o : Option ℕ) (list all : List PlainEdit) (names rest : List (List ℕ)) → o ≡ None → names ≡ own ∷ rest → list ++ respelling path old new o names ≡ all → list ++ respelling path old new o rest ≡ all
 rest_respelling path old new own o list all names rest n e h =
     (λ i. list ++ respelling path old new (n i) rest) ∙ (ap (λ ys. list ++ ys) (none_respelling path old new rest) ∙ ((λ i. list ++ respelling path old new (sym n i) (sym e i)) ∙ h))
+
+none_prepending : (path : List ℕ) (eol : Ending) (p : PlainPrepend) (fields : List FieldText) → prepending path eol p None fields ≡ []
+none_prepending path eol p [] = refl
+none_prepending path eol p (f ∷ fields) = refl
+
+pub rest_prepending : (path : List ℕ) (eol : Ending) (p : PlainPrepend) (f : FieldText) (o : Option ℕ) (list all : List PlainEdit) (fields rest : List FieldText) → o ≡ None → fields ≡ f ∷ rest
+    → list ++ prepending path eol p o fields ≡ all → list ++ prepending path eol p o rest ≡ all
+rest_prepending path eol p f o list all fields rest n e h =
+    (λ i. list ++ prepending path eol p (n i) rest) ∙ (ap (λ ys. list ++ ys) (none_prepending path eol p rest) ∙ ((λ i. list ++ prepending path eol p (sym n i) (sym e i)) ∙ h))
 
 -- one edit more
 edits_more : (f : List ℕ → PlainEdit) (old now new : List PlainEdit) (done more : List (List ℕ)) (x : List ℕ) → now ≡ old ++ map f done → new ≡ now ++ f x ∷ [] → more ≡ done ++ x ∷ [] → new ≡ old ++ map f more

@@ -8,7 +8,7 @@ use Rattle.std.proofs.lemmas.Bool.{cases_Bool}
 use Rattle.mk_line.specs.declared.cutting.Ending.{Ending}
 use Rattle.mk_line.specs.Kinds.{is_continuation, is_field_start, is_from_line, is_name}
 use Rattle.mk_line.specs.Lines.{TextLine, cut, eol_of, is_nil}
-use Rattle.mk_head.specs.Fields.{is_one_field}
+use Rattle.mk_head.specs.Fields.{FieldText, is_named, is_one_field}
 use Rattle.mk_head.specs.Split.{option_line}
 use Rattle.mk_head.specs.Splits.{IsRun}
 use Rattle.mk_tree.specs.Documents.{Document, document_lines, document_of, enveloped, printed, tree}
@@ -24,15 +24,16 @@ use Rattle.mk_decide.specs.EditSplices.{splices_of}
 use Rattle.mk_decide.specs.FieldEdits.{field_at, renamed}
 use Rattle.mk_edit.specs.Groups.{Together, behind, made_on, together}
 use Rattle.mk_decide.specs.Outcomes.{edited, judged_by}
-use Rattle.mk_decide.specs.Plans.{Plan, add_plan, drop_plan, plan_at, plan_of, place_of, planned, rename_plan, unless, with_place}
+use Rattle.mk_decide.specs.Plans.{Plan, add_plan, change_plan, drop_plan, plan_at, plan_of, place_of, planned, rename_plan, unless, with_place}
 use Rattle.mk_decide.specs.Reasons.{added as with_added}
 use Rattle.mk_splice.specs.Splices.{Splice}
 use Rattle.mk_decide.proofs.Answered.{Holds, field_holds, unless_holds}
 use Rattle.mk_edit.proofs.GroupFacts.{groups_read_back_lem}
 use Rattle.mk_decide.proofs.Late.{IsFair, fair, told}
 use Rattle.mk_decide.proofs.SectionSites.{head_cut, head_is_run, site}
-use Rattle.mk_mail.specs.Filtered.{FilteredStayApart, filtered, filtered_in, outcome, text_left}
-use Rattle.mk_mail.specs.Letters.{PlainLetters, PlainPattern, Work, add_if_letter, added, added_full, dropped, edits_of, first_letter, is_bare, is_dropped, last_of, letter, made_old, name_in, next_number, old_name, only_letter, prefixed_letter, removed_all, rename_letter, renamed_all, respelling, respelt_all, names_at, root_path, same_name, those, untouched, worked}
+use Rattle.mk_mail.specs.Filtered.{FilteredStayApart, IsFielded, LettersChangeFieldsAlone, filtered, filtered_in, outcome, text_left}
+use Rattle.mk_mail.specs.Letters.{PlainLetters, PlainPattern, Work, add_if_letter, added, added_full, dropped, edits_of, first_letter, is_bare, is_dropped, last_of, letter, made_old, name_in, next_number, old_name, only_letter, fields_at, letter_edits, prepend_letter, prepending, prefixed_letter, removed_all, rename_letter, renamed_all, respelling, respelt_all, names_at, root_path, same_name, those, untouched, worked}
+use Rattle.mk_mail.specs.Prepended.{PlainPrepend}
 use Rattle.mk_mailbox.specs.Dates.{ends_with_date}
 use Rattle.mk_mail.proofs.FieldNames.{both_true}
 use Rattle.mk_mailbox.specs.Places.{begins_from, ends_empty}
@@ -45,7 +46,7 @@ abbrev IsRootEdit : PlainEdit → Type 0
 IsRootEdit (AddField path top text) = path ≡ root_path
 IsRootEdit (RemoveField path name k) = path ≡ root_path
 IsRootEdit (RenameField path name k to) = path ≡ root_path
-IsRootEdit (SetField path name k text) = ⊥
+IsRootEdit (SetField path name k text) = path ≡ root_path
 IsRootEdit (SetBody path text) = ⊥
 IsRootEdit (SetSection path text) = ⊥
 IsRootEdit (InsertPart path place text) = ⊥
@@ -130,16 +131,31 @@ worked_root eol l names =
     (letter_root (add_if_letter root_path eol) l.add_if renamed (λ field ns. add_if_root eol field ns)
     (letter_root (rename_letter root_path) l.rename (dropped root_path l.drops names) (λ p ns. rename_root p ns) (dropped_root l.drops names))))))
 
+named_root : (eol : Ending) (l : PlainLetters) (names : List (List ℕ)) → AreRootEdits (letter_edits root_path eol l names)
+named_root eol l names =
+    let w = worked root_path eol l names in
+    joined w.edits (last_of root_path l.last w.names) (worked_root eol l names) (last_root l.last w.names)
+
+prepending_root : (eol : Ending) (p : PlainPrepend) (o : Option ℕ) (fs : List FieldText) → AreRootEdits (prepending root_path eol p o fs)
+prepending_root eol p o [] = tt
+prepending_root eol p None (f ∷ fs) = tt
+prepending_root eol p (Some k) (f ∷ fs) =
+    elim (cases_Bool (is_named p.name f)) [
+      | inl t ↦ rw t (refl, prepending_root eol p (next_number k) fs)
+      | inr n ↦ rw n (prepending_root eol p (Some k) fs)
+    ]
+
+prepend_root : (eol : Ending) (o : Option PlainPrepend) (fs : List FieldText) → AreRootEdits (prepend_letter root_path eol o fs)
+prepend_root eol None fs = tt
+prepend_root eol (Some p) fs = prepending_root eol p (Some 1) fs
+
 edits_root : (text : List ℕ) (l : PlainLetters) → AreRootEdits (edits_of text l)
 edits_root text l =
-    let w = worked root_path (eol_of (cut text)) l (names_at root_path text) in
-    joined w.edits (last_of root_path l.last w.names) (worked_root (eol_of (cut text)) l (names_at root_path text)) (last_root l.last w.names)
+    let eol = eol_of (cut text) in
+    joined (prepend_letter root_path eol l.prepend (fields_at root_path text)) (letter_edits root_path eol l (names_at root_path text))
+    (prepend_root eol l.prepend (fields_at root_path text)) (named_root eol l (names_at root_path text))
 
 -- ---- what such edits give has other fields, and all else as it was
-
-record IsFielded (t u : Document) : Type 0 where
-  fields : List TextLine
-  same : u ≡ record { envelope = t.envelope; root = with_fields fields t.root }
 
 own_fields : (e : Entity) → with_fields (field_lines e) e ≡ e
 own_fields (leaf h ls) = refl
@@ -176,7 +192,10 @@ root_plan (RenameField path name k to) t h =
     at_root (RenameField path name k to) path t h
     (field_holds (IsFieldsPlan t.root) (field_at name k (field_lines t.root)) (λ f. unless (not (is_name to)) BadName (Ok (rename_plan [] t.root to f)))
     (λ f o. unless_holds (IsFieldsPlan t.root) (not (is_name to)) BadName (Ok (rename_plan [] t.root to f)) (λ k. (refl, (f.before ++ (renamed to f.start ∷ (f.more ++ f.after)), refl)))))
-root_plan (SetField path name k text) t h = absurd h
+root_plan (SetField path name k text) t h =
+    at_root (SetField path name k text) path t h
+    (field_holds (IsFieldsPlan t.root) (field_at name k (field_lines t.root)) (λ f. unless (not (is_one_field (cut text))) BadField (Ok (change_plan [] t.root (cut text) f)))
+    (λ f o. unless_holds (IsFieldsPlan t.root) (not (is_one_field (cut text))) BadField (Ok (change_plan [] t.root (cut text) f)) (λ k. (refl, (f.before ++ (cut text ++ f.after), refl)))))
 root_plan (SetBody path text) t h = absurd h
 root_plan (SetSection path text) t h = absurd h
 root_plan (InsertPart path place text) t h = absurd h
@@ -203,8 +222,11 @@ made_fielded : (t : Document) (ss : List Splice) (es : List PlainEdit) (r : Resu
 made_fielded t ss es (Ok u) k others = behind_fielded t u ss (together es u) (k u refl) (others u)
 made_fielded t ss es (Err e) k others = tt
 
+as_it_was : (t : Document) → IsFielded t t
+as_it_was t = record { fields = field_lines t.root; same = ap (λ r. record { envelope = t.envelope; root = r }) (sym (own_fields t.root)) }
+
 together_fielded : (es : List PlainEdit) (t : Document) → AreRootEdits es → FieldedBy t (together es t)
-together_fielded [] t h = record { fields = field_lines t.root; same = ap (λ r. record { envelope = t.envelope; root = r }) (sym (own_fields t.root)) }
+together_fielded [] t h = as_it_was t
 together_fielded (e ∷ es) t h =
     made_fielded t (splices_of e t) es (edited e t) (λ u k. planned_so t u (plan_of e t) (root_plan e t h.0) (fair e t) k) (λ u. together_fielded es u h.1)
 
@@ -302,6 +324,13 @@ fielded_kept way text u a stable w =
 kept_by : (way : FromLines) (l : PlainLetters) (text : List ℕ) (r : Together) → outcome l text ≡ r → FieldedBy (tree text) r → IsWhole way false (cut text) → IsKept way (cut text) (cut (text_left text r))
 kept_by way l text (Ok q) e a w = fielded_kept way text q.0 a (groups_read_back_lem (edits_of text l) text q.0 q.1 e) w
 kept_by way l text (Err q) e a w = record { whole = w; ends = λ h. h; begins = λ h. h }
+
+fielded_by : (l : PlainLetters) (text : List ℕ) (r : Together) → outcome l text ≡ r → FieldedBy (tree text) r → IsFielded (tree text) (tree (text_left text r))
+fielded_by l text (Ok q) e a = record { fields = a.fields; same = groups_read_back_lem (edits_of text l) text q.0 q.1 e ∙ a.same }
+fielded_by l text (Err q) e a = as_it_was (tree text)
+
+pub fields_alone : LettersChangeFieldsAlone
+fields_alone l text = fielded_by l text (outcome l text) refl (together_fielded (edits_of text l) (tree text) (edits_root text l))
 
 pub filtered_kept : (way : FromLines) (l : PlainLetters) (text : List ℕ) → IsWhole way false (cut text) → IsKept way (cut text) (cut (filtered l text))
 filtered_kept way l text w = kept_by way l text (outcome l text) refl (together_fielded (edits_of text l) (tree text) (edits_root text l)) w

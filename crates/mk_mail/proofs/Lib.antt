@@ -14,3 +14,5 @@ pub mod FilteredMail
 pub mod RoundsMade
 pub mod SectionsApart
 pub mod LackedNames
+pub mod Plainness
+pub mod PutIn

@@ -1,8 +1,9 @@
 -- What letters make of the messages of a mailbox (own).
 use Rattle.std.specs.Prelude.{◌≡◌, if◌then◌else◌, ℕ, Bool, not, Ok, Err, List, filter, map}
 use Rattle.std.specs.List.{flat_map}
-use Rattle.mk_line.specs.Lines.{is_nil}
-use Rattle.mk_tree.specs.Documents.{printed, tree}
+use Rattle.mk_line.specs.Lines.{TextLine, is_nil}
+use Rattle.mk_tree.specs.Documents.{Document, printed, tree}
+use Rattle.mk_tree.specs.Tree.{with_fields}
 use Rattle.mk_edit.specs.Groups.{Together, together}
 use Rattle.mk_mail.specs.Letters.{PlainLetters, edits_at, root_path}
 use Rattle.mk_mailbox.specs.declared.from_lines.FromLines.{FromLines}
@@ -28,6 +29,15 @@ filtered l text = text_left text (outcome l text)
 -- what is left of a message of a mailbox that is cut at these From-lines
 abbrev pub filtered_in : FromLines → PlainLetters → List ℕ → List ℕ
 filtered_in way l text = if is_left_alone way text then text else filtered l text
+
+-- two documents that differ in the fields of the root alone
+pub record IsFielded (t u : Document) : Type 0 where
+  pub fields : List TextLine
+  pub same : u ≡ record { envelope = t.envelope; root = with_fields fields t.root }
+
+-- what letters leave of a message has other fields, and all else as it was
+abbrev pub LettersChangeFieldsAlone : Type 0
+LettersChangeFieldsAlone = (l : PlainLetters) (text : List ℕ) → IsFielded (tree text) (tree (filtered l text))
 
 -- a byte of it is left
 abbrev pub is_left : List ℕ → Bool

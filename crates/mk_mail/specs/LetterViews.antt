@@ -4,7 +4,9 @@ use Rattle.std.specs.Global.{Vec}
 use Rattle.std.specs.Option.{option_map}
 use Rattle.mk_mail.specs.declared.letters.Letters.{Letters}
 use Rattle.mk_mail.specs.declared.patterns.NamePattern.{NamePattern}
+use Rattle.mk_mail.specs.declared.prepending.Prepend.{Prepend}
 use Rattle.mk_mail.specs.Letters.{PlainLetters, PlainPattern}
+use Rattle.mk_mail.specs.Prepended.{PlainPrepend}
 
 -- the bytes of a text, where there is one
 abbrev pub bytes_in : Option (Vec ℕ) → Option (List ℕ)
@@ -14,9 +16,14 @@ bytes_in o = option_map (λ v. v.items) o
 abbrev pub pattern_of : NamePattern → PlainPattern
 pattern_of p = record { text = p.text.items; is_front = p.is_front }
 
+-- a text before fields as it is
+abbrev pub prepend_of : Prepend → PlainPrepend
+prepend_of p = record { name = p.name.items; text = p.text.items }
+
 -- letters as they are
 abbrev pub letters_of : Letters → PlainLetters
 letters_of l = record {
+  prepend = option_map prepend_of l.prepend;
   drops = map pattern_of l.drops.items;
   rename = option_map (λ p. (p.0.items, p.1.items)) l.rename;
   add_if = bytes_in l.add_if;

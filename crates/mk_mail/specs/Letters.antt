@@ -5,13 +5,14 @@ use Rattle.std.specs.Str.{bytes_eq, str_to_ascii_lowercase}
 use Rattle.mk_line.specs.declared.cutting.Ending.{Ending}
 use Rattle.mk_line.specs.Ascii.{colon, is_blank, is_name_byte}
 use Rattle.mk_line.specs.Lines.{cut, ending_bytes, eol_of}
-use Rattle.mk_head.specs.Fields.{FieldText, is_one_field}
+use Rattle.mk_head.specs.Fields.{FieldText, is_named, is_one_field}
 use Rattle.mk_line.specs.Parting.{behind}
 use Rattle.mk_tree.specs.Documents.{tree}
 use Rattle.mk_tree.specs.Sections.{Placed, section_at, section_fields}
-use Rattle.mk_decide.specs.Edits.{PlainEdit, AddField, RemoveField, RenameField}
+use Rattle.mk_decide.specs.Edits.{PlainEdit, AddField, RemoveField, RenameField, SetField}
 use Rattle.mk_line.specs.Kinds.{is_name}
 use Rattle.mk_line.specs.Lines.{ends_open}
+use Rattle.mk_mail.specs.Prepended.{PlainPrepend, is_prepend, prepended}
 
 -- names of fields: one, or all that begin so
 pub record PlainPattern : Type 0 where
@@ -20,6 +21,8 @@ pub record PlainPattern : Type 0 where
 
 -- what is asked for; a name stands without its colon
 pub record PlainLetters : Type 0 where
+  -- `--prepend`: a text before what the fields of a name say
+  pub prepend : Option PlainPrepend
   -- `--drop`: the fields of these names go
   pub drops : List PlainPattern
   -- `--rename`: each field of a name gets another
@@ -66,9 +69,13 @@ abbrev pub passes : {X : Type 0} → (X → Bool) → Option X → Bool
 passes test None = true
 passes test (Some x) = test x
 
+-- whether a letter is there that works by the names of fields
+abbrev pub edits_by_names : PlainLetters → Bool
+edits_by_names l = not (length l.drops == 0) || is_some l.rename || is_some l.add_if || is_some l.add || is_some l.prefixed || is_some l.only || is_some l.first || is_some l.last
+
 -- whether a letter that edits is there
 abbrev pub edits_some : PlainLetters → Bool
-edits_some l = not (length l.drops == 0) || is_some l.rename || is_some l.add_if || is_some l.add || is_some l.prefixed || is_some l.only || is_some l.first || is_some l.last
+edits_some l = is_some l.prepend || edits_by_names l
 
 -- `-x` and `-X` stand alone
 abbrev pub stand_together : PlainLetters → Bool
@@ -77,7 +84,7 @@ stand_together l = not (is_some l.take && is_some l.whole) && not ((is_some l.ta
 -- the values that letters may have
 abbrev pub have_values : PlainLetters → Bool
 have_values l =
-    list_all is_pattern l.drops && passes are_names l.rename && passes is_full_field l.add_if && passes is_full_field l.add && passes is_given_field l.prefixed && passes is_given_field l.only
+    passes is_prepend l.prepend && list_all is_pattern l.drops && passes are_names l.rename && passes is_full_field l.add_if && passes is_full_field l.add && passes is_given_field l.prefixed && passes is_given_field l.only
     && passes is_name l.first && passes is_name l.last && passes is_name l.take && passes is_name l.whole
 
 -- letters that may be asked for
@@ -257,9 +264,23 @@ fields_at path text = fields_in (section_at path (tree text))
 abbrev pub names_at : List ℕ → List ℕ → List (List ℕ)
 names_at path text = map (λ f. f.name) (fields_at path text)
 
+-- the edits that put a text before what the fields of a name say, the next of which has a number, or none has
+abbrev pub prepending : List ℕ → Ending → PlainPrepend → Option ℕ → List FieldText → List PlainEdit
+prepending path eol p number [] = []
+prepending path eol p None (f ∷ fs) = []
+prepending path eol p (Some k) (f ∷ fs) =
+    if is_named p.name f then SetField path p.name k (prepended eol p.text f.raw) ∷ prepending path eol p (next_number k) fs
+    else prepending path eol p (Some k) fs
+
+-- `--prepend`, where it is asked for: it works before the other letters, and leaves the names of all fields
+abbrev pub prepend_letter : List ℕ → Ending → Option PlainPrepend → List FieldText → List PlainEdit
+prepend_letter path eol None fields = []
+prepend_letter path eol (Some p) fields = prepending path eol p (Some 1) fields
+
 -- the edits of letters on the section at a path of the document of a text, whose ending they give
 abbrev pub edits_at : List ℕ → List ℕ → PlainLetters → List PlainEdit
-edits_at path text l = letter_edits path (eol_of (cut text)) l (names_at path text)
+edits_at path text l =
+    prepend_letter path (eol_of (cut text)) l.prepend (fields_at path text) ++ letter_edits path (eol_of (cut text)) l (names_at path text)
 
 -- the edits of letters on its root
 abbrev pub edits_of : List ℕ → PlainLetters → List PlainEdit

@@ -1,4 +1,5 @@
 pub mod BuiltLaws
+pub mod Prepended
 pub mod Letters
 pub mod Filtered
 pub mod Rounds

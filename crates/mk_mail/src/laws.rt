@@ -2,7 +2,8 @@
 //! clause is the law.
 ghost use Rattle.mk_mail.specs.Apart.{SectionsStayApart};
 ghost use Rattle.mk_mail.specs.BuiltLaws.{BuiltMessagesGiveBack, BuiltMultipartsGiveBack, BuiltNamesAreSaid, ForwardedMessagesGiveBack};
-ghost use Rattle.mk_mail.specs.Filtered.{FilteredStayApart};
+ghost use Rattle.mk_mail.specs.Filtered.{FilteredStayApart, LettersChangeFieldsAlone};
+ghost use Rattle.mk_mail.specs.Prepended.{PrependedFieldsKeepTheirBytes};
 ghost use Rattle.mk_mail.specs.Rounds.{OneRoundFilters, RoundsArePiped, RoundsStayApart};
 
 pub use mk_mailbox::laws::{
@@ -30,6 +31,17 @@ pub fn forwarded_messages_give_back()
 /// The part of a file whose name is written as people write it has just that name, in each message that is built in UTF-8.
 pub fn built_names_are_said()
     ensures { BuiltNamesAreSaid }
+{}
+
+/// What letters leave of a message has other fields than the message, and all else as it was.
+pub fn letters_change_fields_alone()
+    ensures { LettersChangeFieldsAlone }
+{}
+
+/// A field with a text put before what it says has all its bytes, in their order: those of the text stand after its colon and
+/// white space.
+pub fn prepended_fields_keep_their_bytes()
+    ensures { PrependedFieldsKeepTheirBytes }
 {}
 
 /// The messages of a mailbox, each filtered by letters, are a mailbox of these messages: none is cut in two and no two

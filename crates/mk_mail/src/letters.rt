@@ -3,13 +3,15 @@ ghost use Rattle.std.specs.Prelude.{◌≡◌, true, map, IfOk, OnOk};
 ghost use Rattle.std.specs.Option.{option_map};
 ghost use Rattle.mk_line.specs.Kinds.{is_name as is_one_name};
 ghost use Rattle.mk_decide.specs.Views.{edit_of};
-ghost use Rattle.mk_mail.specs.LetterViews.{bytes_in, letters_of};
+ghost use Rattle.mk_mail.specs.LetterViews.{bytes_in, letters_of, prepend_of};
 ghost use Rattle.mk_mail.specs.LetterWork.{work_of};
-ghost use Rattle.mk_mail.specs.Letters.{add_if_letter, added, are_allowed, are_names, edits_at, edits_of, edits_some as some_edits, first_letter, have_values as values_are_had, is_full_field as full_field, is_given_field as given_field, letter, only_letter, passes, prefixed_letter, rename_letter, stand_together as stand_so};
+ghost use Rattle.mk_mail.specs.Prepended.{is_prepend};
+ghost use Rattle.mk_mail.specs.Letters.{add_if_letter, added, are_allowed, are_names, edits_at, edits_of, edits_by_names as by_names, edits_some as some_edits, first_letter, have_values as values_are_had, is_full_field as full_field, is_given_field as given_field, letter, letter_edits as edits_of_letters, names_at, only_letter, passes, prefixed_letter, rename_letter, stand_together as stand_so};
 
 use crate::field_names::is_bare;
 use crate::filtering::Filter;
 use crate::patterns::{NamePattern, are_patterns};
+use crate::prepending::{Prepend, prepend_edits};
 use mk_edit::Edit;
 use mk_head::one_field;
 use mk_line::{Ending, ends_open, eol_of, is_name};
@@ -23,6 +25,8 @@ const ROOT: [u32; 1] = [1];
 /// ending of its last line. They work in this order, each on the fields that those before it left.
 #[derive(Debug, Drop)]
 pub struct Letters {
+    /// `--prepend`: puts a text before what the fields of a name say.
+    pub prepend: Option<Prepend>,
     /// `--drop`: removes the fields of these names.
     pub drops: Vec<NamePattern>,
     /// `--rename`: gives each field of the first name the second.
@@ -57,7 +61,8 @@ impl Letters {
     fn have_values(&self) -> bool
         ensures { result ≡ values_are_had (letters_of self.now) }
     {
-        are_patterns(&self.drops)
+        may_prepend(&self.prepend)
+            && are_patterns(&self.drops)
             && may_rename(&self.rename)
             && is_full_field(&self.add_if)
             && is_full_field(&self.add)
@@ -80,6 +85,13 @@ impl Letters {
 
     fn edits_some(&self) -> bool
         ensures { result ≡ some_edits (letters_of self.now) }
+    {
+        self.prepend.is_some() || self.edits_by_names()
+    }
+
+    // Whether a letter is there that works by the names of fields.
+    fn edits_by_names(&self) -> bool
+        ensures { result ≡ by_names (letters_of self.now) }
     {
         !self.drops.is_empty()
             || self.rename.is_some()
@@ -112,6 +124,27 @@ pub fn field_edits_at(
     ensures { IfOk result (λ edits. map edit_of edits.items ≡ edits_at path.now doc.now (letters_of letters.now)) }
 {
     let eol = eol_of(doc.text());
+    let mut others = letter_edits(alloc, doc, path, letters, eol)?;
+    match &letters.prepend {
+        Some(prepend) => {
+            let mut edits = prepend_edits(alloc, doc, path, prepend, eol)?;
+            edits.append(&mut others)?;
+            Ok(edits)
+        }
+        None => Ok(others),
+    }
+}
+
+// The edits of the letters that work by the names of fields.
+fn letter_edits(
+    alloc: Global,
+    doc: &Doc,
+    path: &[u32],
+    letters: &Letters,
+    eol: Ending,
+) -> Result<Vec<Edit>, AllocError>
+    ensures { IfOk result (λ edits. map edit_of edits.items ≡ edits_of_letters path.now eol (letters_of letters.now) (names_at path.now doc.now)) }
+{
     let mut filter = Filter::new(alloc, doc, path)?;
     filter.drop_fields(path, &letters.drops)?;
     rename(&mut filter, path, &letters.rename)?;
@@ -203,6 +236,15 @@ fn keep_first(
     match name {
         Some(name) => filter.keep_first(path, name),
         None => Ok(()),
+    }
+}
+
+fn may_prepend(prepend: &Option<Prepend>) -> bool
+    ensures { result ≡ passes is_prepend (option_map prepend_of prepend.now) }
+{
+    match prepend {
+        Some(prepend) => prepend.ok(),
+        None => true,
     }
 }
 

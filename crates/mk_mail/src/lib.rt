@@ -8,7 +8,9 @@ mod filtering;
 pub mod laws;
 mod letters;
 mod patterns;
+mod prepending;
 mod section_names;
+mod word_texts;
 
 pub use letters::{Letters, field_edits, field_edits_at};
 pub use mk_build::{Attach, AttachError, BuildError, attach, build, build_in_utf8};
@@ -18,3 +20,6 @@ pub use mk_view::{
     numbered, push_path, push_type,
 };
 pub use patterns::NamePattern;
+pub use prepending::Prepend;
+pub use section_names::head_at;
+pub use word_texts::text_for_words;

@@ -5,7 +5,7 @@ ghost use Rattle.mk_line.specs.Lines.{cut};
 ghost use Rattle.mk_head.specs.Fields.{fields_of};
 ghost use Rattle.mk_head.specs.Split.{fields_from};
 ghost use Rattle.mk_mail.specs.LetterWork.{texts_of};
-ghost use Rattle.mk_mail.specs.Letters.{names_at, same_name};
+ghost use Rattle.mk_mail.specs.Letters.{fields_at, names_at, same_name};
 
 use crate::patterns::is_same;
 use mk_head::each_field;
@@ -21,9 +21,16 @@ pub(crate) fn names_of<'a>(
 ) -> Result<Vec<CowSlice<'a, u8>>, AllocError>
     ensures { IfOk result (λ names. texts_of names.items ≡ names_at path.now doc.now) }
 {
+    names_in(alloc, head_at(doc, path))
+}
+
+/// The bytes of the fields of the section at a path, none where there is no such section.
+pub fn head_at<'a>(doc: &'a Doc, path: &[u32]) -> &'a [u8]
+    ensures { fields_of (fields_from false (cut result.now)) ≡ fields_at path.now doc.now }
+{
     match doc.section(path) {
-        Some(section) => names_in(alloc, section.head()),
-        None => Ok(Vec::new(alloc)),
+        Some(section) => section.head(),
+        None => b"",
     }
 }
 

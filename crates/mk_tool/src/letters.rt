@@ -8,8 +8,8 @@ ghost use Rattle.mk_tool.specs.Found.{AreInOrder, letter_found, letters_found, p
 use clap::ArgMatches;
 use mk_run::{Letter, LetterWord, LetterWords};
 use mk_words::options::{
-    ADD, ADD_IF, DECODE, DROP, ENCODE, EOL, FIRST, LAST, ONLY, PREFIXED, RENAME, TAKE, UNFOLD,
-    WHOLE,
+    ADD, ADD_IF, DECODE, DROP, ENCODE, EOL, FIRST, LAST, ONLY, PREFIXED, PREPEND, RENAME, TAKE,
+    UNFOLD, WHOLE,
 };
 use std::alloc::{AllocError, Global};
 
@@ -43,6 +43,7 @@ pub fn placed_words<'a>(
     ensures { IfOk result (λ placed. map placed_word placed.items ≡ letters_found (found_of matches.now)) }
 {
     let mut placed = Vec::new(alloc);
+    place(&mut placed, matches, Letter::Prepend, PREPEND)?;
     place(&mut placed, matches, Letter::Drops, DROP)?;
     place(&mut placed, matches, Letter::Rename, RENAME)?;
     place(&mut placed, matches, Letter::AddIf, ADD_IF)?;
@@ -98,6 +99,8 @@ fn place_each<'a>(
 }
 
 /// What a letter takes.
+const A_TEXT: &str = "write a name, a colon and a text on one line, as 'Subject:[list] '";
+
 const A_PAIR: &str = "write two names with a colon between them, as Subject:X-Subject";
 
 const A_FIELD: &str = "write a name, a colon and a value, as 'X-Seen: yes'";
@@ -189,6 +192,7 @@ fn is_taken(alloc: Global, word: LetterWord<'_>) -> Result<bool, AllocError> {
 // A letter as help writes it, and what it takes.
 fn shown(letter: Letter) -> (&'static str, &'static str) {
     match letter {
+        Letter::Prepend => ("--prepend <NAME:TEXT>", A_TEXT),
         Letter::Drops => ("--drop <NAME:>", A_NAME_OR_FRONT),
         Letter::Rename => ("--rename <OLD:NEW>", A_PAIR),
         Letter::AddIf => ("-a <FIELD>", A_FIELD),

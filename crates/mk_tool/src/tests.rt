@@ -10,6 +10,7 @@ mod in_place;
 mod journals;
 mod letters;
 mod mailboxes;
+mod prepends;
 mod section_fields;
 mod usage;
 

@@ -3,7 +3,7 @@
 use crate::mailbox_options::rfc4155;
 use crate::options::{
     ADD, ADD_IF, DECODE, DROP, EACH, ENCODE, EOL, FIELD, FIRST, LAST, ONLY, PATH, PREFIXED,
-    REFUSED_OK, RENAME, TAKE, UNFOLD, WHOLE, flag, from, in_place,
+    PREPEND, REFUSED_OK, RENAME, TAKE, UNFOLD, WHOLE, flag, from, in_place,
 };
 use clap::{Arg, ArgAction, Command};
 use std::alloc::{AllocError, Global};
@@ -13,13 +13,20 @@ const A_FIELD: &str = "FIELD";
 
 const A_NAME: &str = "NAME:";
 
-/// mimetool field [-p PATH] [--drop NAME:] [-a FIELD] [-A FIELD] [-i FIELD] [-I FIELD] [-u NAME:] [-U NAME:] [-x NAME:] [-X NAME:] [--rename OLD:NEW] [--unfold] [--decode] [--encode] [--eol] [--refused-ok] [-s [--rfc4155]]
+/// mimetool field [-p PATH] [--prepend NAME:TEXT] [--drop NAME:] [-a FIELD] [-A FIELD] [-i FIELD] [-I FIELD] [-u NAME:] [-U NAME:] [-x NAME:] [-X NAME:] [--rename OLD:NEW] [--unfold] [--decode] [--encode] [--eol] [--refused-ok] [-s [--rfc4155]]
 pub fn field_command<'a>(alloc: Global) -> Result<Command<'a>, AllocError> {
     let rename = letter(alloc, RENAME, "OLD:NEW", "Give the fields OLD the name NEW").long(RENAME);
+    let prepend = letter(
+        alloc,
+        PREPEND,
+        "NAME:TEXT",
+        "Put TEXT before what the fields NAME say; all else in them stays as it is",
+    )
+    .long(PREPEND);
     let command = Command::new(alloc, FIELD)
         .about("Adds, renames and removes fields of a message, or prints those of a name")
         .after_help(
-            "A letter that is given again works on what the earlier ones made, as in a pipe.\n\nExamples:\n  mimetool field -I 'X-Seen: yes' --in-place message\n  mimetool field -I 'X-Seen: yes' -I 'X-By: me' < message\n  mimetool field -s -x Subject: --from mailbox\n  mimetool field -p 1.2 -x Content-Type: < message",
+            "Letters work in this order, whatever the order of the command line: --prepend, --drop, --rename, -a, -A, -i, -I, -u, -U. A letter that is given again works on what the earlier ones made, as in a pipe.\n\nExamples:\n  mimetool field -I 'X-Seen: yes' --in-place message\n  mimetool field -I 'X-Seen: yes' -I 'X-By: me' < message\n  mimetool field --prepend 'Subject:[list] ' < message\n  mimetool field -s -x Subject: --from mailbox\n  mimetool field -p 1.2 -x Content-Type: < message",
         )
         .arg(from(alloc))?
         .arg(
@@ -34,6 +41,7 @@ pub fn field_command<'a>(alloc: Global) -> Result<Command<'a>, AllocError> {
             "Work on the fields of the section at PATH, as 1.2, not those of the message",
         )
         .short('p'))?
+        .arg(prepend)?
         .arg(rename)?;
     let command = with_fields(alloc, command)?;
     let command = with_names(alloc, command)?;

@@ -115,6 +115,9 @@ pub const FORWARD: &str = "forward";
 /// The subcommand that filters the fields of messages.
 pub const FIELD: &str = "field";
 
+/// `--prepend NAME:TEXT`
+pub const PREPEND: &str = "prepend";
+
 /// `--drop NAME:`
 pub const DROP: &str = "drop";
 

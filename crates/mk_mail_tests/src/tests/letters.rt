@@ -2,7 +2,7 @@
 use super::calls::{Call, check};
 use mk_edit::{Edit, Session};
 use mk_line::Meter;
-use mk_mail::{Letters, NamePattern, field_edits};
+use mk_mail::{Letters, NamePattern, Prepend, field_edits};
 use mk_rows::Row;
 use mk_tree::Doc;
 use std::alloc::{AllocError, Global};
@@ -11,6 +11,7 @@ use std::test::Fail;
 /// None of the letters.
 pub fn no_letters(alloc: Global) -> Letters {
     Letters {
+        prepend: None,
         drops: Vec::new(alloc),
         rename: None,
         add_if: None,
@@ -37,6 +38,10 @@ pub fn letters_in(alloc: Global, row: &Row) -> Result<Letters, AllocError> {
         match cell.key {
             "drop" => letters.drops.push(pattern(value, false))?,
             "drop from" => letters.drops.push(pattern(value, true))?,
+            "prepend" => {
+                let text = Vec::from_slice(alloc, row.bytes("text"))?;
+                letters.prepend = Some(Prepend { name: value, text });
+            }
             "rename" => {
                 let new = Vec::from_slice(alloc, row.bytes("to"))?;
                 letters.rename = Some((value, new));
@@ -75,6 +80,36 @@ gives: no
 == a line feed after the colon isn't a blank
 add: A:\n\x20
 gives: yes
+
+== a text before the values of a name
+prepend: A
+text: b
+gives: yes
+
+== no text
+prepend: A
+gives: no
+
+== a text of two lines
+prepend: A
+text: b\nc
+gives: no
+
+== a carriage return in a text
+prepend: A
+text: b\rc
+gives: no
+
+== a text before the values of what is no name
+prepend: A:
+text: b
+gives: no
+
+== a text, and values
+prepend: A
+text: b
+take: A
+gives: no
 
 == a prefix, and no new field
 prefixed: A:
@@ -334,6 +369,32 @@ add: X-New: 1
 add if: X-Old: 2
 message: X-Old: 1\nB: 2\n\n
 gives: B: 2\nX-Old: 2\nX-New: 1\n\n
+
+== a text before what the fields of a name say
+prepend: a
+text: x\x20
+message: A: 1\nB: 2\nA:\n 3\n\n
+gives: A: x 1\nB: 2\nA:\n x 3\n\n
+
+== a text that isn't UTF-8 goes in as it is
+prepend: A
+text: \xe9\x20
+message: A: 1\n\n
+gives: A: \xe9 1\n\n
+
+== a tab isn't printable, and stands at the end as it is
+prepend: A
+text: b\t
+message: A: 1\nA: =?x\n\n
+gives: A: b\t1\nA: =?utf-8?B?Ygk=?= =?x\n\n
+
+== it works before the other letters
+prepend: A
+text: x
+add: A: 2
+last: A
+message: A: 1\n\n
+gives: A: 2\n\n
 
 == letters that only give fields change nothing
 take: A

@@ -6,6 +6,7 @@ use std::alloc::{AllocError, Global};
 
 fn no_letters(alloc: Global) -> Letters {
     Letters {
+        prepend: None,
         drops: Vec::new(alloc),
         rename: None,
         add_if: None,

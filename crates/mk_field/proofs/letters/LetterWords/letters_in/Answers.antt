@@ -9,6 +9,7 @@ returns-in_default c = none_in_form c.args.form c.args.eol (words_of c.args.self
 
 pub returns : goal.returns
 returns c = asked_in_form c.args.form c.args.eol (words_of c.args.self.now) (letters_of c.in-Some.letters) _ (rw c.in-Some.is at c.in_ok-letters.ensures) (λ same. λ i. record {
+  prepend = (same i).prepend;
   drops = (same i).drops;
   rename = (same i).rename;
   add_if = c.in_ok-letters-2.ensures i;

@@ -1,7 +1,7 @@
 use Rattle.std.proofs.Common.{◌∙◌, sym}
-use Rattle.mk_field.proofs.Wordings.{bytes_stay, needed, plain_stays}
-use Rattle.mk_field.proofs.wording.text_for_words.Goals as goal
-use Rattle.mk_field.proofs.wording.text_for_words.Goals.{in_default-via-in-Ok+else-not-is_plain, in_default-via-in_default}
+use Rattle.mk_mail.proofs.Plainness.{bytes_stay, needed, plain_stays}
+use Rattle.mk_mail.proofs.word_texts.text_for_words.Goals as goal
+use Rattle.mk_mail.proofs.word_texts.text_for_words.Goals.{in_default-via-in-Ok+else-not-is_plain, in_default-via-in_default}
 
 pub returns-in-Ok : goal.returns-in-Ok
 returns-in-Ok c = (needed c.args.value.now c.in-Ok.ensures.cases.1 (sym c.if-not-is_plain.ensures), c.in-Ok.ensures.cases.0)
