@@ -1,10 +1,11 @@
 //! The devices over the real system.
 
-ghost use Rattle.std.specs.Prelude.{◌≡◌, ◌<◌};
+ghost use Rattle.std.specs.Prelude.{◌≡◌, ◌<◌, Bool, false, not};
+ghost use Rattle.mk_line.specs.Meters.{ticked};
 
 use mk_mailbox::{Fault, Sink, Source};
 use std::io;
-use std::io::{Read, Write};
+use std::io::{ErrorKind, Read, Write};
 
 /// A reader as a source.
 #[derive(Drop)]
@@ -64,12 +65,23 @@ impl<R: Read + Drop> Source for Input<R> {
     }
 }
 
+/// A sink that may be a pipe.
+pub trait MaybePipe: Sink {
+    ghost broken: { Self → Bool };
+
+    /// Whether a write failed since nobody reads the pipe any more.
+    fn is_broken_pipe(&self) -> bool
+        ensures { result ≡ broken self.now };
+}
+
 /// A writer as a sink.
 #[derive(Drop)]
 pub struct Output<W: Write> {
     writer: W,
     faults: u64,
     is_finished: bool,
+    /// Whether the reader of the pipe is there, as far as a write has told.
+    has_reader: bool,
 }
 
 impl<W: Write + Drop> Output<W> {
@@ -77,12 +89,35 @@ impl<W: Write + Drop> Output<W> {
     pub fn new(writer: W) -> Self
         ensures same { ⟦<Output<W> as Sink>⟧.contents result ≡ W.contents writer }
         ensures well { ⟦<Output<W> as Sink>⟧.failures result ≡ 0 }
+        ensures whole { ⟦<Output<W> as MaybePipe>⟧.broken result ≡ false }
     {
         Output {
             writer,
             faults: 0,
             is_finished: false,
+            has_reader: true,
         }
+    }
+
+    // Counts a failure.
+    fn fail(&mut self, error: &io::Error) -> Fault
+        ensures counted { self.new.faults ≡ ticked self.old.faults }
+        ensures unfinished { self.new.is_finished ≡ self.old.is_finished }
+        ensures kept { self.new.writer ≡ self.old.writer }
+    {
+        self.faults = self.faults.saturating_add(1);
+        if error.kind() == ErrorKind::BrokenPipe {
+            self.has_reader = false;
+        }
+        Fault
+    }
+}
+
+impl<W: Write + Drop> MaybePipe for Output<W> {
+    ghost broken = { λ s. not s.has_reader };
+
+    fn is_broken_pipe(&self) -> bool {
+        !self.has_reader
     }
 }
 
@@ -101,10 +136,7 @@ impl<W: Write + Drop> Sink for Output<W> {
                 }
                 Ok(count)
             }
-            Err(_) => {
-                self.faults = self.faults.saturating_add(1);
-                Err(Fault)
-            }
+            Err(error) => Err(self.fail(&error)),
         }
     }
 
@@ -114,10 +146,7 @@ impl<W: Write + Drop> Sink for Output<W> {
                 self.is_finished = true;
                 Ok(())
             }
-            Err(_) => {
-                self.faults = self.faults.saturating_add(1);
-                Err(Fault)
-            }
+            Err(error) => Err(self.fail(&error)),
         }
     }
 

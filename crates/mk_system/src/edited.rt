@@ -3,14 +3,16 @@
 ghost use Rattle.std.specs.Prelude.{◌≡◌, ◌≤◌, length, None, IfOk};
 ghost use Rattle.mk_line.specs.Meters.{ticked};
 
-use crate::locking::{Stamp, lock};
+use crate::locking::Lock;
 use crate::replacing::{Replacement, followed, open_folder, sync_folder};
+use crate::stamps::Stamp;
 use mk_mailbox::{CHUNK_BYTES, Fault, Sink};
 use std::fs::File;
 use std::io;
 use std::io::{Error, ErrorKind, Read};
 use std::path::PathBuf;
-use std::rt::Files;
+use std::rt::{Clock, Files};
+use std::time::Duration;
 
 /// What is said of a file that another program has written to, or replaced, since it was opened.
 const CHANGED: &str = "another program has changed it";
@@ -34,6 +36,7 @@ enum State {
 pub struct EditedFile<'a, R: Files<File = File> + AllocGlobal> {
     rt: &'a R,
     path: PathBuf,
+    lock: Lock<'a, R>,
     original: File,
     found: Stamp,
     state: State,
@@ -42,11 +45,12 @@ pub struct EditedFile<'a, R: Files<File = File> + AllocGlobal> {
     is_finished: bool,
 }
 
-impl<'a, R: Files<File = File> + AllocGlobal> EditedFile<'a, R> {
-    /// Opens the file at a path, once as a sink and once for reading. A link is followed. It stays locked until the sink is
-    /// dropped; one that another run has locked is an error of the kind `WouldBlock`. So is what isn't a regular file, of the
-    /// kind `InvalidInput`.
-    pub fn open(rt: &'a R, path: &str) -> io::Result<(Self, File)> {
+impl<'a, R: Files<File = File> + Clock + AllocGlobal> EditedFile<'a, R> {
+    /// Opens the file at a path, once as a sink and once for reading. A link is followed. No other run can open it as a sink
+    /// until this one is dropped. If another run has it open, this waits as long as the limit says, or without a limit as long
+    /// as it takes; then that is an error of the kind `WouldBlock`, or `TimedOut` where it waited. What isn't a regular file is
+    /// an error of the kind `InvalidInput`.
+    pub fn open(rt: &'a R, path: &str, limit: Option<Duration>) -> io::Result<(Self, File)> {
         let path = followed(rt, path)?;
         let metadata = std::fs::metadata(rt, path.as_str())?;
         if metadata.is_dir() {
@@ -55,13 +59,14 @@ impl<'a, R: Files<File = File> + AllocGlobal> EditedFile<'a, R> {
         if !metadata.is_file() {
             return Err(Error::new(ErrorKind::InvalidInput, SPECIAL));
         }
+        let lock = Lock::take(rt, &path, limit)?;
         let old = File::open(rt, path.as_str())?;
-        lock(rt, &old, &path)?;
         let found = Stamp::of(&old)?;
         let message = File::open(rt, path.as_str())?;
         let edited = EditedFile {
             rt,
             path,
+            lock,
             original: old,
             found,
             state: State::Same { length: 0 },
@@ -71,7 +76,9 @@ impl<'a, R: Files<File = File> + AllocGlobal> EditedFile<'a, R> {
         };
         Ok((edited, message))
     }
+}
 
+impl<R: Files<File = File> + AllocGlobal> EditedFile<'_, R> {
     /// Gives up what was written, unless the file is finished, and answers the error of the call that failed, if one has.
     pub fn close(self) -> Option<io::Error> {
         if let State::Beside(new) = &self.state {
@@ -124,6 +131,7 @@ impl<'a, R: Files<File = File> + AllocGlobal> EditedFile<'a, R> {
         ensures counted { self.new.faults ≡ self.old.faults }
         ensures unfinished { self.new.is_finished ≡ self.old.is_finished }
     {
+        self.lock.check()?;
         let mut new = Replacement::beside(self.rt, &self.path)?;
         let begun = match new.copy_permissions(&self.original) {
             Ok(()) => new.copy_front(&mut self.original, length),

@@ -3,20 +3,20 @@
 ghost use Rattle.std.specs.Prelude.{◌≡◌, ◌≤◌, length, None, IfOk};
 ghost use Rattle.mk_line.specs.Meters.{ticked};
 
-use crate::locking::lock;
+use crate::locking::Lock;
 use crate::replacing::{Replacement, followed, open_folder, sync_folder};
 use mk_mailbox::{Fault, Sink};
 use std::fs::{File, OpenOptions};
-use std::io;
 use std::io::{Error, ErrorKind, Read, Write};
 use std::path::PathBuf;
-use std::rt::Files;
+use std::rt::{Clock, Files};
+use std::time::Duration;
+use std::{fs, io};
 
 // What was at the path when the run began.
 #[derive(Drop)]
 enum Found {
     Nothing,
-    /// A file, which stays locked as long as it is held.
     Regular(File),
     /// A pipe or a device.
     Special,
@@ -38,6 +38,8 @@ enum State {
 pub struct JournalFile<'a, R: Files<File = File> + AllocGlobal> {
     rt: &'a R,
     path: PathBuf,
+    /// `None` for a pipe or a device.
+    lock: Option<Lock<'a, R>>,
     found: Found,
     state: State,
     error: Option<io::Error>,
@@ -45,14 +47,24 @@ pub struct JournalFile<'a, R: Files<File = File> + AllocGlobal> {
     is_finished: bool,
 }
 
-impl<'a, R: Files<File = File> + AllocGlobal> JournalFile<'a, R> {
-    /// Opens the journal at a path, and reads it where it is there. A link is followed. It stays locked until this value is
-    /// dropped; one that another run has locked is an error of the kind `WouldBlock`.
-    pub fn open(rt: &'a R, path: &str) -> io::Result<(Self, Option<Vec<u8>>)> {
+impl<'a, R: Files<File = File> + Clock + AllocGlobal> JournalFile<'a, R> {
+    /// Opens the journal at a path, and reads it where it is there. A link is followed. No other run can open it until this
+    /// value is dropped. If another run has it open, this waits as long as the limit says, or without a limit as long as it
+    /// takes; then that is an error of the kind `WouldBlock`, or `TimedOut` where it waited.
+    pub fn open(
+        rt: &'a R,
+        path: &str,
+        limit: Option<Duration>,
+    ) -> io::Result<(Self, Option<Vec<u8>>)> {
         let path = followed(rt, path)?;
+        let lock = if is_special(rt, &path)? {
+            None
+        } else {
+            Some(Lock::take(rt, &path, limit)?)
+        };
         let (found, text) = match OpenOptions::new().read(true).open(rt, path.as_str()) {
             Ok(file) => {
-                let (found, text) = read(rt, file, &path)?;
+                let (found, text) = read(rt, file)?;
                 (found, Some(text))
             }
             Err(error) if error.kind() == ErrorKind::NotFound => (Found::Nothing, None),
@@ -61,6 +73,7 @@ impl<'a, R: Files<File = File> + AllocGlobal> JournalFile<'a, R> {
         let journal = JournalFile {
             rt,
             path,
+            lock,
             found,
             state: State::Unwritten,
             error: None,
@@ -69,7 +82,9 @@ impl<'a, R: Files<File = File> + AllocGlobal> JournalFile<'a, R> {
         };
         Ok((journal, text))
     }
+}
 
+impl<R: Files<File = File> + AllocGlobal> JournalFile<'_, R> {
     /// Gives up what was written, unless the journal is finished, and answers the error of the call that failed, if one has.
     pub fn close(self) -> Option<io::Error> {
         if let State::Beside(new) = &self.state {
@@ -89,6 +104,9 @@ impl<'a, R: Files<File = File> + AllocGlobal> JournalFile<'a, R> {
                 .open(self.rt, self.path.as_str())?;
             self.state = State::InPlace(file);
             return Ok(());
+        }
+        if let Some(lock) = &mut self.lock {
+            lock.check()?;
         }
         let new = Replacement::beside(self.rt, &self.path)?;
         let begun = match &self.found {
@@ -144,24 +162,25 @@ impl<'a, R: Files<File = File> + AllocGlobal> JournalFile<'a, R> {
     }
 }
 
-// Reads a file that was opened, and locks it where it is a regular one.
-fn read<R: Files + AllocGlobal>(
-    rt: &R,
-    mut file: File,
-    path: &PathBuf,
-) -> io::Result<(Found, Vec<u8>)> {
+// Whether what is at a path is neither a regular file nor nothing. A folder is an error.
+fn is_special<R: Files>(rt: &R, path: &PathBuf) -> io::Result<bool> {
+    match fs::metadata(rt, path.as_str()) {
+        Ok(metadata) if metadata.is_dir() => Err(Error::from(ErrorKind::IsADirectory)),
+        Ok(metadata) => Ok(!metadata.is_file()),
+        Err(error) if error.kind() == ErrorKind::NotFound => Ok(false),
+        Err(error) => Err(error),
+    }
+}
+
+// Reads a file that was opened.
+fn read<R: Files + AllocGlobal>(rt: &R, mut file: File) -> io::Result<(Found, Vec<u8>)> {
     let mut text = Vec::new(rt.alloc());
-    let metadata = file.metadata()?;
-    if metadata.is_dir() {
-        return Err(Error::from(ErrorKind::IsADirectory));
-    }
-    if !metadata.is_file() {
-        file.read_to_end(&mut text)?;
-        return Ok((Found::Special, text));
-    }
-    lock(rt, &file, path)?;
     file.read_to_end(&mut text)?;
-    Ok((Found::Regular(file), text))
+    if file.metadata()?.is_file() {
+        Ok((Found::Regular(file), text))
+    } else {
+        Ok((Found::Special, text))
+    }
 }
 
 impl<R: Files<File = File> + AllocGlobal> Sink for JournalFile<'_, R> {

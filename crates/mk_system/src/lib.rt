@@ -8,9 +8,11 @@ mod journal;
 mod locking;
 mod placeholders;
 mod replacing;
+mod stamps;
 
-pub use device::{Input, Output};
+pub use device::{Input, MaybePipe, Output};
 pub use edited::EditedFile;
 pub use folder::{Directory, Unwritten};
 pub use journal::JournalFile;
 pub use placeholders::Placeholders;
+pub use stamps::is_one_file;

@@ -20,7 +20,7 @@ const MOST_NAMES: u32 = 10_000;
 const HERE: &str = ".";
 
 /// The name in that of a fresh file, where the other file's own leaves no room for more.
-const SHORT_NAME: &str = "mimetool";
+pub const SHORT_NAME: &str = "mimetool";
 
 /// Where the links at a path lead, be something there or not.
 pub fn followed<R: Files + AllocGlobal>(rt: &R, path: &str) -> io::Result<PathBuf> {

@@ -21,7 +21,7 @@ use mk_words::options::{
 };
 use std::alloc::{AllocError, Global};
 use std::fs::File;
-use std::rt::Files;
+use std::rt::{Clock, Files};
 
 /// The folder that files are written to where none is named.
 const WORKING_FOLDER: &str = ".";
@@ -30,7 +30,7 @@ const WORKING_FOLDER: &str = ".";
 const ROOT: &str = "1";
 
 /// Runs a subcommand, the words of which are valid.
-pub fn run_command<R: Files<File = File> + AllocGlobal, S: Source, O: Sink, E: Sink>(
+pub fn run_command<R: Files<File = File> + Clock + AllocGlobal, S: Source, O: Sink, E: Sink>(
     rt: &R,
     name: &str,
     matches: &ArgMatches<'_>,

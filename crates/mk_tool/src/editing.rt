@@ -1,27 +1,32 @@
 //! `edit`, `undo` and `redo`, over any devices.
 
 use crate::faults::{Problem, usage};
-use crate::files::{read, read_all};
+use crate::files::{read, read_files};
 use crate::mailboxes::{Picked, pick_message};
 use clap::ArgMatches;
 use mk_mail::{Sink, Source};
 use mk_messages::InMemory;
-use mk_run::{Cause, Journal, Pieces, Script, Status, Stop, report_invalid, try_edit};
+use mk_run::{Cause, Journal, Pieces, Script, Status, Stop, read_all, report_invalid, try_edit};
 use mk_script::first_invalid;
-use mk_system::{JournalFile, Output};
-use mk_words::options::{ALL, EOL, EXPLAIN, JOURNAL, LINE, PIECE, SCRIPT};
+use mk_system::{JournalFile, Output, is_one_file};
+use mk_words::options::{ALL, EOL, EXPLAIN, IN_PLACE, JOURNAL, LINE, PIECE, SCRIPT, WAIT};
+use mk_words::waiting::limit;
 use std::alloc::{AllocError, Global};
 use std::fs::File;
 use std::io;
-use std::rt::Files;
+use std::io::ErrorKind;
+use std::rt::{Clock, Files};
 
 /// The scripts of two subcommands.
 const UNDO_SCRIPT: &[u8] = b"undo\n";
 
 const REDO_SCRIPT: &[u8] = b"redo\n";
 
+/// What is said of a journal that is the file of `--in-place`.
+const OWN_JOURNAL: &str = "the file of --in-place can't be its journal";
+
 /// mimetool edit
-pub fn edit<R: Files<File = File> + AllocGlobal, S: Source, O: Sink, E: Sink>(
+pub fn edit<R: Files<File = File> + Clock + AllocGlobal, S: Source, O: Sink, E: Sink>(
     rt: &R,
     matches: &ArgMatches<'_>,
     input: &mut S,
@@ -52,7 +57,7 @@ pub fn edit<R: Files<File = File> + AllocGlobal, S: Source, O: Sink, E: Sink>(
         return Ok(usage(err));
     };
     let script = read(rt, path)?;
-    let pieces = read_all(rt, paths)?;
+    let pieces = read_files(rt, paths)?;
     let script = Script {
         text: &script,
         as_one,
@@ -81,7 +86,7 @@ fn explain<E: Sink>(
 }
 
 /// mimetool undo
-pub fn undo<R: Files<File = File> + AllocGlobal, S: Source, O: Sink, E: Sink>(
+pub fn undo<R: Files<File = File> + Clock + AllocGlobal, S: Source, O: Sink, E: Sink>(
     rt: &R,
     matches: &ArgMatches<'_>,
     input: &mut S,
@@ -92,7 +97,7 @@ pub fn undo<R: Files<File = File> + AllocGlobal, S: Source, O: Sink, E: Sink>(
 }
 
 /// mimetool redo
-pub fn redo<R: Files<File = File> + AllocGlobal, S: Source, O: Sink, E: Sink>(
+pub fn redo<R: Files<File = File> + Clock + AllocGlobal, S: Source, O: Sink, E: Sink>(
     rt: &R,
     matches: &ArgMatches<'_>,
     input: &mut S,
@@ -121,7 +126,7 @@ fn joined(alloc: Global, lines: &[&str]) -> Result<Vec<u8>, AllocError> {
 }
 
 // Edits by a script the input, or the message of it that the command line names.
-fn edit_by<R: Files<File = File> + AllocGlobal, S: Source, O: Sink, E: Sink>(
+fn edit_by<R: Files<File = File> + Clock + AllocGlobal, S: Source, O: Sink, E: Sink>(
     rt: &R,
     matches: &ArgMatches<'_>,
     input: &mut S,
@@ -141,7 +146,7 @@ fn edit_by<R: Files<File = File> + AllocGlobal, S: Source, O: Sink, E: Sink>(
 }
 
 // Edits by a script, with the journal that the command line names, if it names one. The journal is read last.
-fn edit_message<R: Files<File = File> + AllocGlobal, S: Source, O: Sink, E: Sink>(
+fn edit_message<R: Files<File = File> + Clock + AllocGlobal, S: Source, O: Sink, E: Sink>(
     rt: &R,
     matches: &ArgMatches<'_>,
     input: &mut S,
@@ -155,13 +160,47 @@ fn edit_message<R: Files<File = File> + AllocGlobal, S: Source, O: Sink, E: Sink
         texts: pieces,
         turned: matches.get_flag(EOL),
     };
-    let Some(path) = matches.get_str(JOURNAL) else {
-        let mut none = Output::new(io::sink());
-        let journal = Journal::Off;
-        let done = try_edit(alloc, input, out, err, script, pieces, journal, &mut none);
-        return Ok(done?);
-    };
-    let (mut jout, old) = match JournalFile::open(rt, path) {
+    match matches.get_str(JOURNAL) {
+        None => {
+            let mut none = Output::new(io::sink());
+            let journal = Journal::Off;
+            let done = try_edit(alloc, input, out, err, script, pieces, journal, &mut none);
+            Ok(done?)
+        }
+        // Only once all is read may this run wait for the journal: another run that has it may be the one that writes the
+        // message.
+        Some(path) if matches.contains_id(WAIT) => {
+            let message = match read_all(alloc, input) {
+                Ok(message) => message,
+                Err(Stop::Fault) => return Err(Problem::Stopped(Cause::Read)),
+                Err(Stop::Memory) => return Err(Problem::Stopped(Cause::Memory)),
+            };
+            let mut input = InMemory::new(&message);
+            edit_with_journal(rt, matches, path, &mut input, out, err, script, pieces)
+        }
+        Some(path) => edit_with_journal(rt, matches, path, input, out, err, script, pieces),
+    }
+}
+
+// Edits by a script, with the journal at a path.
+fn edit_with_journal<R: Files<File = File> + Clock + AllocGlobal, S: Source, O: Sink, E: Sink>(
+    rt: &R,
+    matches: &ArgMatches<'_>,
+    path: &str,
+    input: &mut S,
+    out: &mut O,
+    err: &mut E,
+    script: Script<'_>,
+    pieces: Pieces<'_>,
+) -> Result<Status, Problem> {
+    let alloc = rt.alloc();
+    if let Some(file) = matches.get_str(IN_PLACE) {
+        if is_one_file(rt, path, file) {
+            let error = io::Error::new(ErrorKind::InvalidInput, OWN_JOURNAL);
+            return Err(Problem::file(alloc, path, error, Cause::Read));
+        }
+    }
+    let (mut jout, old) = match JournalFile::open(rt, path, limit(matches)) {
         Ok(opened) => opened,
         Err(error) => return Err(Problem::file(alloc, path, error, Cause::Read)),
     };

@@ -111,11 +111,7 @@ pub fn say_usage<E: Sink>(alloc: Global, error: &Error, err: &mut E) -> Status {
 
 // The line that names a file and says what is wrong with it.
 fn file_line(alloc: Global, path: &str, error: &io::Error) -> Result<String, AllocError> {
-    if error.kind() == io::ErrorKind::WouldBlock {
-        format!(in alloc; "mimetool: {path}: another run is using it\n")
-    } else {
-        format!(in alloc; "mimetool: {path}: {error}\n")
-    }
+    format!(in alloc; "mimetool: {path}: {error}\n")
 }
 
 /// Says that the command line as a whole is invalid.

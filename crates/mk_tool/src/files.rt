@@ -34,7 +34,7 @@ pub fn read<R: Files + AllocGlobal>(rt: &R, path: &str) -> Result<Vec<u8>, Probl
 }
 
 /// Reads files whole, in their order.
-pub fn read_all<R: Files + AllocGlobal>(rt: &R, paths: &[&str]) -> Result<Vec<Vec<u8>>, Problem> {
+pub fn read_files<R: Files + AllocGlobal>(rt: &R, paths: &[&str]) -> Result<Vec<Vec<u8>>, Problem> {
     let mut texts = Vec::new(rt.alloc());
     for path in paths {
         texts.push(read(rt, *path)?)?;

@@ -3,6 +3,7 @@
 
 mod commands;
 mod editing;
+mod endings;
 mod faults;
 mod files;
 mod letters;
@@ -22,8 +23,8 @@ fn main(rt: HostRuntime) -> ExitCode {
     let mut input = Input::new(rt.stdin());
     let mut out = Output::new(rt.stdout());
     let mut err = Output::new(rt.stderr());
-    let status = program::run(&rt, &mut input, &mut out, &mut err);
-    ExitCode::from(status.code())
+    let ending = program::run(&rt, &mut input, &mut out, &mut err);
+    ExitCode::from(ending.code())
 }
 
 #[cfg(test)]

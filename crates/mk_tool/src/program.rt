@@ -1,6 +1,7 @@
 //! The program: from its command line to its exit status.
 
 use crate::commands::run_command;
+use crate::endings::Ending;
 use crate::faults::{Problem, report, say_usage, usage};
 use crate::files::open;
 use crate::words::check_words;
@@ -8,25 +9,27 @@ use clap::ArgMatches;
 use clap::error::ErrorKind;
 use mk_mail::{Sink, Source};
 use mk_run::{Cause, Status, give_up, write_all};
-use mk_system::{EditedFile, Input};
+use mk_system::{EditedFile, Input, MaybePipe};
+use mk_words::hints::with_hint;
 use mk_words::options::{FROM, IN_PLACE, command};
-use std::alloc::Global;
+use mk_words::waiting::{is_temporary, limit};
+use std::alloc::{AllocError, Global};
 use std::fs::File;
-use std::rt::{Env, Files};
+use std::rt::{Clock, Env, Files};
 use std::{env, io};
 
-/// Does what the command line says and answers the exit status. A command line that isn't text as a whole is a usage fault.
-pub fn run<R: Env + Files<File = File> + AllocGlobal, S: Source, O: Sink, E: Sink>(
+/// Does what the command line says, and answers how the program ends. A command line that isn't text as a whole is a usage fault.
+pub fn run<R: Env + Files<File = File> + Clock + AllocGlobal, S: Source, O: MaybePipe, E: Sink>(
     rt: &R,
     input: &mut S,
     out: &mut O,
     err: &mut E,
-) -> Status {
+) -> Ending {
     match words(rt) {
         Ok(words) => obey(rt, &words, input, out, err),
         Err(error) => match error.kind() {
-            io::ErrorKind::OutOfMemory => give_up(err, Cause::Memory),
-            _ => usage(err),
+            io::ErrorKind::OutOfMemory => Ending::lasting(give_up(err, Cause::Memory)),
+            _ => Ending::lasting(usage(err)),
         },
     }
 }
@@ -37,51 +40,96 @@ fn words<R: Env + AllocGlobal>(rt: &R) -> io::Result<Vec<String>> {
     Ok(words)
 }
 
-/// Does what these words say, the program's name first, and answers the exit status. What clap says goes to the errors;
+/// Does what these words say, the program's name first, and answers how the program ends. What clap says goes to the errors;
 /// help and the version go to the output.
-pub fn obey<R: Files<File = File> + AllocGlobal, S: Source, O: Sink, E: Sink>(
+pub fn obey<R: Files<File = File> + Clock + AllocGlobal, S: Source, O: MaybePipe, E: Sink>(
     rt: &R,
     words: &[String],
     input: &mut S,
     out: &mut O,
     err: &mut E,
-) -> Status {
-    let Ok(command) = command(rt.alloc()) else {
-        return give_up(err, Cause::Memory);
+) -> Ending {
+    let alloc = rt.alloc();
+    let Ok(command) = command(alloc) else {
+        return Ending::lasting(give_up(err, Cause::Memory));
     };
     match command.try_get_matches_from(words) {
         Ok(matches) => match matches.subcommand() {
-            Some((name, matches)) => match start(rt, name, matches, input, out, err) {
-                Ok(status) => status,
-                Err(problem) => report(rt.alloc(), name, &problem, err),
+            Some((name, matches)) => Ending {
+                status: match start(rt, name, matches, input, out, err) {
+                    Ok(status) => status,
+                    Err(problem) => end(alloc, name, &problem, out, err),
+                },
+                is_temporary: is_temporary(name, matches),
             },
-            None => usage(err),
+            None => Ending::lasting(usage(err)),
         },
-        Err(error) => show(rt.alloc(), &error, out, err),
+        Err(error) => Ending::lasting(show(alloc, words, &error, out, err)),
+    }
+}
+
+// Says why a subcommand isn't run to its end. Nothing is said of an output that nobody reads any more.
+fn end<O: MaybePipe, E: Sink>(
+    alloc: Global,
+    name: &str,
+    problem: &Problem,
+    out: &O,
+    err: &mut E,
+) -> Status {
+    match problem {
+        Problem::Stopped(Cause::Write) if out.is_broken_pipe() => Status::Fault,
+        _ => report(alloc, name, problem, err),
     }
 }
 
 // Writes what clap says: help or the version, or why it refuses the command line.
-fn show<O: Sink, E: Sink>(alloc: Global, error: &clap::Error, out: &mut O, err: &mut E) -> Status {
+fn show<O: MaybePipe, E: Sink>(
+    alloc: Global,
+    words: &[String],
+    error: &clap::Error,
+    out: &mut O,
+    err: &mut E,
+) -> Status {
     if error.kind() == ErrorKind::OutOfMemory {
         return give_up(err, Cause::Memory);
-    }
-    if error.use_stderr() {
-        return say_usage(alloc, error, err);
     }
     let Ok(text) = format!(in alloc; "{error}") else {
         return give_up(err, Cause::Memory);
     };
+    if error.use_stderr() {
+        return refuse(alloc, words, error, text.as_str(), err);
+    }
     if write_all(out, text.as_bytes()).is_ok() {
         Status::Well
+    } else if out.is_broken_pipe() {
+        Status::Fault
     } else {
         give_up(err, Cause::Write)
     }
 }
 
+// Writes why clap refuses the command line, and where it is known what to write in place of a word, that too.
+fn refuse<E: Sink>(
+    alloc: Global,
+    words: &[String],
+    error: &clap::Error,
+    text: &str,
+    err: &mut E,
+) -> Status {
+    let told = match error.kind() {
+        ErrorKind::UnknownArgument => with_hint(alloc, words, text),
+        _ => Ok(None),
+    };
+    match told {
+        Ok(Some(error)) => say_usage(alloc, &error, err),
+        Ok(None) => say_usage(alloc, error, err),
+        Err(AllocError) => give_up(err, Cause::Memory),
+    }
+}
+
 // Runs a subcommand on the message of `--in-place` or `--from`, or on the standard input. All its words are looked at before a
 // file is opened.
-fn start<R: Files<File = File> + AllocGlobal, S: Source, O: Sink, E: Sink>(
+fn start<R: Files<File = File> + Clock + AllocGlobal, S: Source, O: Sink, E: Sink>(
     rt: &R,
     name: &str,
     matches: &ArgMatches<'_>,
@@ -100,7 +148,7 @@ fn start<R: Files<File = File> + AllocGlobal, S: Source, O: Sink, E: Sink>(
 }
 
 // Runs a subcommand on the message in a file, and puts what becomes of it in the place of the file.
-fn run_in_place<R: Files<File = File> + AllocGlobal, E: Sink>(
+fn run_in_place<R: Files<File = File> + Clock + AllocGlobal, E: Sink>(
     rt: &R,
     name: &str,
     matches: &ArgMatches<'_>,
@@ -108,7 +156,7 @@ fn run_in_place<R: Files<File = File> + AllocGlobal, E: Sink>(
     err: &mut E,
 ) -> Result<Status, Problem> {
     let alloc = rt.alloc();
-    let (mut edited, message) = match EditedFile::open(rt, path) {
+    let (mut edited, message) = match EditedFile::open(rt, path, limit(matches)) {
         Ok(opened) => opened,
         Err(error) => return Err(Problem::file(alloc, path, error, Cause::Read)),
     };
@@ -126,7 +174,7 @@ fn run_in_place<R: Files<File = File> + AllocGlobal, E: Sink>(
 }
 
 // Runs a subcommand on the message in a file.
-fn run_from<R: Files<File = File> + AllocGlobal, O: Sink, E: Sink>(
+fn run_from<R: Files<File = File> + Clock + AllocGlobal, O: Sink, E: Sink>(
     rt: &R,
     name: &str,
     matches: &ArgMatches<'_>,

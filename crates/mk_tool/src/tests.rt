@@ -9,6 +9,7 @@ mod forwarded;
 mod in_place;
 mod journals;
 mod letters;
+mod locks;
 mod mailboxes;
 mod prepends;
 mod section_fields;
@@ -23,19 +24,21 @@ use std::alloc::{AllocError, Global};
 use std::fs;
 use std::fs::File;
 use std::process::Abort;
-use std::rt::Files;
+use std::rt::{Clock, Files};
 use std::test::Fail;
 
 /// What a run left.
 #[derive(Drop)]
 pub struct Outcome {
     pub status: Status,
+    /// The exit status.
+    pub code: u8,
     pub output: Page,
     pub errors: Page,
 }
 
 /// Runs the program on these words and this message.
-pub fn obeyed<R: Files<File = File> + AllocGlobal>(
+pub fn obeyed<R: Files<File = File> + Clock + AllocGlobal>(
     rt: &R,
     words: &[&str],
     message: &[u8],
@@ -49,9 +52,10 @@ pub fn obeyed<R: Files<File = File> + AllocGlobal>(
     let mut input = Input::new(message);
     let mut output = Page::new(alloc);
     let mut errors = Page::new(alloc);
-    let status = obey(rt, &list, &mut input, &mut output, &mut errors);
+    let ending = obey(rt, &list, &mut input, &mut output, &mut errors);
     Ok(Outcome {
-        status,
+        status: ending.status,
+        code: ending.code(),
         output,
         errors,
     })
@@ -68,7 +72,7 @@ pub fn words_in(alloc: Global, text: &'static str) -> Result<Vec<&'static str>, 
 
 /// Runs the program as each row of a table says, and compares what it leaves. A row has words, a message, and what must
 /// come out.
-pub fn check_rows<R: Files<File = File> + AllocGlobal + Abort>(
+pub fn check_rows<R: Files<File = File> + Clock + AllocGlobal + Abort>(
     rt: &R,
     table: &'static str,
 ) -> Result<(), Fail> {
@@ -78,7 +82,10 @@ pub fn check_rows<R: Files<File = File> + AllocGlobal + Abort>(
     Ok(())
 }
 
-fn check_row<R: Files<File = File> + AllocGlobal + Abort>(rt: &R, row: &Row) -> Result<(), Fail> {
+fn check_row<R: Files<File = File> + Clock + AllocGlobal + Abort>(
+    rt: &R,
+    row: &Row,
+) -> Result<(), Fail> {
     let alloc = rt.alloc();
     let words = words_in(alloc, row.text("words"))?;
     let found = obeyed(rt, &words, row.bytes("message"))?;
@@ -92,7 +99,7 @@ fn check_row<R: Files<File = File> + AllocGlobal + Abort>(rt: &R, row: &Row) -> 
 
 /// Runs the program on each command line of a table: it refuses it as a usage fault, says why, beginning as the row says,
 /// and prints nothing else. A row without words is the program alone.
-pub fn check_refused<R: Files<File = File> + AllocGlobal + Abort>(
+pub fn check_refused<R: Files<File = File> + Clock + AllocGlobal + Abort>(
     rt: &R,
     table: &'static str,
 ) -> Result<(), Fail> {
@@ -110,7 +117,7 @@ pub fn check_refused<R: Files<File = File> + AllocGlobal + Abort>(
     Ok(())
 }
 
-fn check_usage<R: Files<File = File> + AllocGlobal + Abort>(
+fn check_usage<R: Files<File = File> + Clock + AllocGlobal + Abort>(
     rt: &R,
     row: &Row,
     words: &[&str],

@@ -10,6 +10,7 @@ use mk_words::options::{
     EACH, EDIT, EXTRACT, FIELD, JSON, LINE, MESSAGES, NUMBER, PACK, PART, PATH, RFC4155, SCRIPT,
     SECTIONS, SPEC, UNPACK, UTF8,
 };
+use mk_words::waiting::why_no_seconds;
 use std::alloc::{AllocError, Global};
 
 /// What is said of an edit without lines.
@@ -32,6 +33,9 @@ const SECTION_OF_FIELDS: &str = "-p <PATH>";
 /// those of files.
 pub fn check_words(alloc: Global, name: &str, matches: &ArgMatches<'_>) -> Result<(), Problem> {
     if let Some(sentence) = why_no_message(alloc, name, matches)? {
+        return Err(Problem::Usage(sentence));
+    }
+    if let Some(sentence) = why_no_seconds(alloc, matches)? {
         return Err(Problem::Usage(sentence));
     }
     let sentence = if name == EDIT {
@@ -100,10 +104,27 @@ fn why_no_field(alloc: Global, matches: &ArgMatches<'_>) -> Result<Option<String
 
 // Why the words of `edit` give no script, if they don't.
 fn why_no_script(alloc: Global, matches: &ArgMatches<'_>) -> Result<Option<String>, AllocError> {
-    if matches.get_strs(LINE).is_some() || matches.get_str(SCRIPT).is_some() {
+    if let Some(lines) = matches.get_strs(LINE) {
+        return why_no_lines(alloc, lines);
+    }
+    if matches.get_str(SCRIPT).is_some() {
         return Ok(None);
     }
     Ok(Some(String::from_str(alloc, NO_SCRIPT)?))
+}
+
+// Why a word of `-e` is no line, where there is one that isn't.
+fn why_no_lines(alloc: Global, lines: &[&str]) -> Result<Option<String>, AllocError> {
+    for line in lines {
+        if line.contains('\n') {
+            let line = *line;
+            let sentence = format!(in alloc;
+                "invalid value {line:?} for '-e <LINE>': write one line, and -e again before each further one"
+            )?;
+            return Ok(Some(sentence));
+        }
+    }
+    Ok(None)
 }
 
 // Why `sections` gives no names, if it is asked for them in UTF-8 and doesn't.

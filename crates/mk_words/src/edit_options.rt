@@ -2,33 +2,37 @@
 
 use crate::mailbox_options::{number, rfc4155};
 use crate::options::{
-    ALL, EDIT, EOL, EXPLAIN, JOURNAL, LINE, NUMBER, PIECE, REDO, SCRIPT, UNDO, flag, from, in_place,
+    ALL, EDIT, EOL, EXPLAIN, JOURNAL, LINE, NUMBER, PIECE, REDO, SCRIPT, UNDO, flag, from,
+    in_place, with_wait,
 };
+use crate::script_words::EDIT_HELP;
 use clap::{Arg, ArgAction, Command};
 use std::alloc::{AllocError, Global};
 
-/// mimetool undo -j JOURNAL
+/// mimetool undo [--from FILE|--in-place FILE] [--wait[=SECONDS]] [--tempfail] -j JOURNAL
 pub fn undo_command<'a>(alloc: Global) -> Result<Command<'a>, AllocError> {
-    Command::new(alloc, UNDO)
+    let command = Command::new(alloc, UNDO)
         .about("Undoes the last step of an earlier edit, and prints the message")
         .after_help(
             "Examples:\n  mimetool undo -j journal < edited > message\n  mimetool undo -j journal --in-place edited",
         )
         .arg(from(alloc))?
         .arg(in_place(alloc)?)?
-        .arg(journal(alloc).required(true))
+        .arg(journal(alloc).required(true))?;
+    with_wait(alloc, command)
 }
 
-/// mimetool redo -j JOURNAL
+/// mimetool redo [--from FILE|--in-place FILE] [--wait[=SECONDS]] [--tempfail] -j JOURNAL
 pub fn redo_command<'a>(alloc: Global) -> Result<Command<'a>, AllocError> {
-    Command::new(alloc, REDO)
+    let command = Command::new(alloc, REDO)
         .about("Redoes the last step that was undone, and prints the message")
         .after_help(
             "Examples:\n  mimetool redo -j journal < message > edited\n  mimetool redo -j journal --in-place message",
         )
         .arg(from(alloc))?
         .arg(in_place(alloc)?)?
-        .arg(journal(alloc).required(true))
+        .arg(journal(alloc).required(true))?;
+    with_wait(alloc, command)
 }
 
 fn journal<'a>(alloc: Global) -> Arg<'a> {
@@ -39,7 +43,7 @@ fn journal<'a>(alloc: Global) -> Arg<'a> {
         .action(ArgAction::Set)
 }
 
-/// mimetool edit [--from FILE|--in-place FILE] [-n N [--rfc4155]] [-j JOURNAL] [--all] [--eol] [--explain] [-e LINE].. [SCRIPT] [PIECE..]
+/// mimetool edit [--from FILE|--in-place FILE] [--wait[=SECONDS]] [--tempfail] [-n N [--rfc4155]] [-j JOURNAL] [--all] [--eol] [--explain] [-e LINE].. [SCRIPT] [PIECE..]
 pub fn edit_command<'a>(alloc: Global) -> Result<Command<'a>, AllocError> {
     let line = Arg::new(alloc, LINE)
         .short('e')
@@ -56,11 +60,9 @@ pub fn edit_command<'a>(alloc: Global) -> Result<Command<'a>, AllocError> {
     let pieces = Arg::new(alloc, PIECE)
         .help("Files that the script names by number, from 1 on")
         .action(ArgAction::Append);
-    Command::new(alloc, EDIT)
+    let command = Command::new(alloc, EDIT)
         .about("Edits the message by the lines of a script, and prints it")
-        .after_help(
-            "Examples:\n  mimetool edit -e 'add 1 X-Seen: yes' < message > edited\n  mimetool edit -j journal script part --in-place message",
-        )
+        .after_help(EDIT_HELP)
         .arg(from(alloc))?
         .arg(in_place(alloc)?.conflicts_with(NUMBER)?)?
         .arg(number(alloc))?
@@ -81,5 +83,6 @@ pub fn edit_command<'a>(alloc: Global) -> Result<Command<'a>, AllocError> {
         .long(EXPLAIN))?
         .arg(line)?
         .arg(script)?
-        .arg(pieces)
+        .arg(pieces)?;
+    with_wait(alloc, command)
 }

@@ -3,7 +3,7 @@
 use crate::mailbox_options::rfc4155;
 use crate::options::{
     ADD, ADD_IF, DECODE, DROP, EACH, ENCODE, EOL, FIELD, FIRST, LAST, ONLY, PATH, PREFIXED,
-    PREPEND, REFUSED_OK, RENAME, TAKE, UNFOLD, WHOLE, flag, from, in_place,
+    PREPEND, REFUSED_OK, RENAME, TAKE, UNFOLD, WHOLE, flag, from, in_place, with_wait,
 };
 use clap::{Arg, ArgAction, Command};
 use std::alloc::{AllocError, Global};
@@ -13,7 +13,7 @@ const A_FIELD: &str = "FIELD";
 
 const A_NAME: &str = "NAME:";
 
-/// mimetool field [-p PATH] [--prepend NAME:TEXT] [--drop NAME:] [-a FIELD] [-A FIELD] [-i FIELD] [-I FIELD] [-u NAME:] [-U NAME:] [-x NAME:] [-X NAME:] [--rename OLD:NEW] [--unfold] [--decode] [--encode] [--eol] [--refused-ok] [-s [--rfc4155]]
+/// mimetool field [--from FILE|--in-place FILE] [--wait[=SECONDS]] [--tempfail] [-p PATH] [--prepend NAME:TEXT] [--drop NAME:] [-a FIELD] [-A FIELD] [-i FIELD] [-I FIELD] [-u NAME:] [-U NAME:] [-x NAME:] [-X NAME:] [--rename OLD:NEW] [--unfold] [--decode] [--encode] [--eol] [--refused-ok] [-s [--rfc4155]]
 pub fn field_command<'a>(alloc: Global) -> Result<Command<'a>, AllocError> {
     let rename = letter(alloc, RENAME, "OLD:NEW", "Give the fields OLD the name NEW").long(RENAME);
     let prepend = letter(
@@ -45,7 +45,8 @@ pub fn field_command<'a>(alloc: Global) -> Result<Command<'a>, AllocError> {
         .arg(rename)?;
     let command = with_fields(alloc, command)?;
     let command = with_names(alloc, command)?;
-    with_flags(alloc, command)
+    let command = with_flags(alloc, command)?;
+    with_wait(alloc, command)
 }
 
 // The letters that take a field.

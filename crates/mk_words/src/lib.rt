@@ -3,6 +3,9 @@
 
 mod edit_options;
 mod field_options;
+pub mod hints;
 mod mailbox_options;
 pub mod options;
 mod pack_options;
+mod script_words;
+pub mod waiting;

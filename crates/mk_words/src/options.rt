@@ -37,6 +37,12 @@ pub const FROM: &str = "FROM";
 /// `--in-place FILE`: the file to read it from and to replace.
 pub const IN_PLACE: &str = "IN_PLACE";
 
+/// `--wait[=SECONDS]`: how long to wait for a file that another run is using.
+pub const WAIT: &str = "wait";
+
+/// `--tempfail`: a status that says that a later run may do better.
+pub const TEMPFAIL: &str = "tempfail";
+
 /// `--json`: the listing as JSON.
 pub const JSON: &str = "json";
 
@@ -233,6 +239,27 @@ pub fn in_place<'a>(alloc: Global) -> Result<Arg<'a>, AllocError> {
         .allow_hyphen_values(true)
         .action(ArgAction::Set)
         .conflicts_with(FROM)
+}
+
+/// Takes --wait[=SECONDS] and --tempfail too.
+pub fn with_wait<'a>(alloc: Global, command: Command<'a>) -> Result<Command<'a>, AllocError> {
+    command.arg(wait(alloc))?.arg(flag(
+        alloc,
+        TEMPFAIL,
+        "Exit with 75, not 3 or 4, where a read or a write fails or memory runs out",
+    )
+    .long(TEMPFAIL))
+}
+
+// --wait[=SECONDS]
+fn wait<'a>(alloc: Global) -> Arg<'a> {
+    Arg::new(alloc, WAIT)
+        .long(WAIT)
+        .value_name("SECONDS")
+        .help("Wait while another run is using the same file or journal, for SECONDS at most")
+        .num_args(0..=1)
+        .require_equals(true)
+        .action(ArgAction::Set)
 }
 
 // mimetool sections [-n N [--rfc4155]] [--json [--utf8]]

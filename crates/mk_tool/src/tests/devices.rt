@@ -3,6 +3,7 @@
 ghost use Rattle.std.specs.Prelude.{false, None};
 
 use mk_mail::{Fault, Sink, Source};
+use mk_system::MaybePipe;
 use std::alloc::Global;
 
 /// A sink that holds all that it took.
@@ -54,16 +55,37 @@ impl Sink for Page {
     }
 }
 
+impl MaybePipe for Page {
+    ghost broken = { λ _. false };
+
+    fn is_broken_pipe(&self) -> bool {
+        false
+    }
+}
+
 /// A device that fails at each call.
 #[derive(Drop)]
 pub struct Broken {
     faults: u64,
+    /// Whether it is a pipe that nobody reads.
+    is_pipe: bool,
 }
 
 impl Broken {
     /// A device that was not called yet.
     pub fn new() -> Broken {
-        Broken { faults: 0 }
+        Broken {
+            faults: 0,
+            is_pipe: false,
+        }
+    }
+
+    /// A pipe that nobody reads.
+    pub fn pipe() -> Broken {
+        Broken {
+            faults: 0,
+            is_pipe: true,
+        }
     }
 }
 
@@ -107,5 +129,13 @@ impl Sink for Broken {
 
     fn faults(&self) -> u64 {
         self.faults
+    }
+}
+
+impl MaybePipe for Broken {
+    ghost broken = { λ s. s.is_pipe };
+
+    fn is_broken_pipe(&self) -> bool {
+        self.is_pipe
     }
 }

@@ -3,7 +3,7 @@
 use super::{check_entries, obeyed, same};
 use mk_run::Status;
 use std::fs;
-use std::fs::{File, Permissions};
+use std::fs::Permissions;
 use std::os::unix::fs::{MetadataExt, PermissionsExt, symlink};
 use std::rt::Files;
 use std::test::Fail;
@@ -207,17 +207,6 @@ fn what_cant_be_edited_in_place_is_named(rt: HostRuntime) -> Result<(), Fail> {
         b"mimetool: /dev/null: not a regular file\nmimetool: read fault\n",
         Status::Fault,
     );
-    let locked = File::open(&rt, file)?;
-    locked.lock()?;
-    let found = obeyed(&rt, &["field", "-I", "A:", "--in-place", file], b"")?;
-    same(
-        &rt,
-        &found,
-        b"",
-        b"mimetool: mimetool_place_named_test/file: another run is using it\nmimetool: read fault\n",
-        Status::Fault,
-    );
-    locked.unlock()?;
     assert_eq!(rt; fs::read_to_string(&rt, file)?.as_str(), MESSAGE);
     check_entries(&rt, folder, 1)?;
     fs::remove_dir_all(&rt, folder)?;

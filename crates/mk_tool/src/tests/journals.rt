@@ -3,7 +3,7 @@
 use super::{check_entries, obeyed, same};
 use mk_run::Status;
 use std::fs;
-use std::fs::{File, Permissions};
+use std::fs::Permissions;
 use std::os::unix::fs::{PermissionsExt, symlink};
 use std::rt::Files;
 use std::test::Fail;
@@ -128,31 +128,6 @@ fn faults_leave_the_journal(rt: HostRuntime) -> Result<(), Fail> {
     let found = obeyed(&rt, &["edit", "-j", journal, script], MESSAGE)?;
     same(&rt, &found, b"", b"script: line 1: syntax\n", Status::Usage);
     check_entries(&rt, folder, 1)?;
-    fs::remove_dir_all(&rt, folder)?;
-    Ok(())
-}
-
-#[test]
-fn one_run_at_a_time_has_a_journal(rt: HostRuntime) -> Result<(), Fail> {
-    let folder = "mimetool_locked_test";
-    let script = "mimetool_locked_test/script";
-    let journal = "mimetool_locked_test/journal";
-    prepare(&rt, folder, script)?;
-    fs::write(&rt, journal, NOTHING)?;
-    let locked = File::open(&rt, journal)?;
-    locked.lock()?;
-    let found = obeyed(&rt, &["edit", "-j", journal, script], MESSAGE)?;
-    same(
-        &rt,
-        &found,
-        b"",
-        b"mimetool: mimetool_locked_test/journal: another run is using it\nmimetool: read fault\n",
-        Status::Fault,
-    );
-    assert_eq!(rt; fs::read_to_string(&rt, journal)?.as_str(), NOTHING);
-    locked.unlock()?;
-    let found = obeyed(&rt, &["edit", "-j", journal, script], MESSAGE)?;
-    same(&rt, &found, EDITED, b"", Status::Well);
     fs::remove_dir_all(&rt, folder)?;
     Ok(())
 }

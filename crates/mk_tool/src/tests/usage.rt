@@ -1,6 +1,7 @@
 //! Each way in which a command line is invalid: the word is named, and what is wrong with it.
 
-use super::check_refused;
+use super::{check_refused, obeyed, same};
+use mk_run::Status;
 use std::test::Fail;
 
 /// Command lines with an invalid value, and how what is said of it begins.
@@ -153,6 +154,15 @@ begins: error: --encode is for the fields of -a, -A, -i and -I\n
 words: field|-a
 begins: error: a value is required for '-a <FIELD>' but none was supplied\n
 
+== --wait with no number
+words: field|-A|A: b|--wait=x
+words: edit|-e|undo|--wait=-1
+words: undo|-j|j|--wait=4294967296
+words: redo|-j|j|--wait=
+words: field|--wait=+1
+words: field|--wait=1.5
+begins: error: invalid value '
+
 == a letter twice
 words: field|-x|A:|-x|B:
 begins: error: the argument '-x <NAME:>' cannot be used multiple times\n
@@ -285,4 +295,99 @@ begins: error: invalid value 'x' for '<SPEC>...':\x20
 #[test]
 fn words_are_looked_at_before_files(rt: HostRuntime) -> Result<(), Fail> {
     check_refused(&rt, BESIDE_FILES)
+}
+
+/// Values of `-e` that aren't one line, and how they are named.
+const LINES: [(&[&str], &[u8]); 3] = [
+    (
+        &["edit", "-e", "add 1 A: b\nundo"],
+        b"error: invalid value \"add 1 A: b\\nundo\" for '-e <LINE>': write one line, and -e again before each further one\n",
+    ),
+    (
+        &["edit", "-e", "undo", "-e", "undo\n"],
+        b"error: invalid value \"undo\\n\" for '-e <LINE>': write one line, and -e again before each further one\n",
+    ),
+    (
+        &["edit", "-e", "\n", "--from", "mimetool_none"],
+        b"error: invalid value \"\\n\" for '-e <LINE>': write one line, and -e again before each further one\n",
+    ),
+];
+
+#[test]
+fn a_line_of_a_script_is_one_line(rt: HostRuntime) -> Result<(), Fail> {
+    for (words, begins) in LINES {
+        let found = obeyed(&rt, words, b"A: b\n\nx\n")?;
+        assert_eq!(rt; found.status, Status::Usage, "{words:?}");
+        assert!(rt; found.errors.bytes().starts_with(begins), "{words:?}");
+    }
+    let found = obeyed(&rt, &["edit", "-e", "add 1 C: d\re"], b"A: b\n\nx\n")?;
+    same(&rt, &found, b"A: b\nC: d\re\n\nx\n", b"", Status::Well);
+    Ok(())
+}
+
+/// Words that a command doesn't take, and the tip that says what to write instead.
+const TIPS: &str = r"
+== a file
+words: sections|message
+begins: error: unexpected argument 'message' found\n\n  tip: to read the message from a file, write '--from message'\n\nUsage: mimetool sections [OPTIONS]\n
+
+== a file, where a path is wanted too
+words: extract|message|-s|1
+begins: error: unexpected argument 'message' found\n\n  tip: to read the message from a file, write '--from message'\n
+
+== a file for unpack
+words: unpack|a b
+begins: error: unexpected argument 'a b' found\n\n  tip: to read the message from a file, write '--from a b'\n
+
+== a mailbox
+words: messages|box
+begins: error: unexpected argument 'box' found\n\n  tip: to read the message from a file, write '--from box'\n
+
+== a file for undo
+words: undo|message|-j|j
+begins: error: unexpected argument 'message' found\n\n  tip: to read the message from a file, write '--from message'; to edit the file itself, '--in-place message'\n
+
+== a file for field
+words: field|message
+begins: error: unexpected argument 'message' found\n\n  tip: to read the message from a file, write '--from message'; to edit the file itself, '--in-place message'\n
+
+== a field without a letter
+words: field|A: 1
+begins: error: unexpected argument 'A: 1' found\n\n  tip: to add a field, write a letter before it, such as -A\n
+
+== seconds without an equals sign
+words: field|--wait|5
+words: undo|-j|j|--wait|5
+begins: error: unexpected argument '5' found\n\n  tip: to wait so many seconds, write '--wait=5'\n
+
+== -R
+words: field|-R|A|B
+begins: error: unexpected argument '-R' found\n\n  tip: to rename fields, write '--rename OLD:NEW'\n
+
+== -c
+words: field|-c|-x|A:
+words: field|-x|A:|-c
+begins: error: unexpected argument '-c' found\n\n  tip: to print each value on one line, write '--unfold' beside -x\n
+
+== -z
+words: field|-z
+begins: error: unexpected argument '-z' found\n\n  tip: '--unfold' beside -x prints values without the blanks at both ends; nothing removes empty fields\n
+
+== -k
+words: field|-k|-X|A:
+begins: error: unexpected argument '-k' found\n\n  tip: the body is always kept; to print it alone, write 'mimetool extract -s 1'\n
+
+== -r
+words: field|-r
+words: field|-rk
+begins: error: unexpected argument '-r' found\n\n  tip: no replies are written, so there is nothing to write\n
+
+== -D
+words: field|-D|8192|cache
+begins: error: unexpected argument '-D' found\n\n  tip: no Message-IDs are kept between runs, so there is nothing to write\n
+";
+
+#[test]
+fn what_to_write_instead_is_said(rt: HostRuntime) -> Result<(), Fail> {
+    check_refused(&rt, TIPS)
 }

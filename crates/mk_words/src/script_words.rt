@@ -1,0 +1,31 @@
+//! What help says of the lines of a script.
+
+/// What follows the options in the help of `edit`.
+pub const EDIT_HELP: &str = "Lines of a script:
+  add PATH FIELD             Add FIELD after the last field of the section
+  top PATH FIELD             Add FIELD before its first field
+  del PATH NAME K            Remove its K-th field NAME
+  ren PATH NAME K NEW        Give its K-th field NAME the name NEW
+  set PATH NAME K FIELD      Replace its K-th field NAME by FIELD
+  put PATH FIELD             Replace all its fields of that name by FIELD, or add FIELD
+  put-piece PATH PIECE       Do so with the field that a piece is
+  drop PATH NAME             Remove all its fields NAME
+  body PATH PIECE            Replace the body of a leaf by a piece
+  content PATH PIECE         Give a leaf a piece as its content, encoded
+  encode PATH ENCODING       Encode the content of a leaf as qp, base64 or 8bit
+  replace PATH PIECE         Replace the section by the one that a piece is
+  insert PATH PLACE PIECE    Insert such a section into a multipart, after PLACE parts
+  append PATH PIECE          Insert such a section after the last part
+  attach PATH TYPE NAME PIECE
+                             Insert a piece as a file after the last part, encoded
+  remove PATH ..             Remove parts
+  wrap PATH SUBTYPE BOUNDARY Make the section the one part of a multipart
+  undo                       Undo the last step
+  redo                       Redo the last step that was undone
+  begin                      Begin a group, which is made as a whole or not at all
+  end                        End it
+PATH is that of a section, as 1 or 1.2. PIECE and K are numbers from 1, PLACE is one from 0.
+
+Examples:
+  mimetool edit -e 'add 1 X-Seen: yes' < message > edited
+  mimetool edit -j journal script part --in-place message";
