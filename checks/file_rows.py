@@ -137,7 +137,6 @@ def syntax():
     yield Row("undo with --all", ["edit", "--all", "-e", "undo"], errors, 2)
     errors = b"script: line 2: unknown word\nscript: line 2: syntax\n"
     yield Row("a fault in the second -e", ["edit", "-e", "undo", "-e", "x"], errors, 2)
-    yield Row("a fault in the second line of one -e", ["edit", "-e", "undo\nx"], errors, 2)
     yield Row("a fault beside a journal", ["edit", "-e", "undo", "-e", "x", "-j", "j"], errors, 2)
     yield Row("a fault beside a refused journal", ["edit", "-e", "undo", "-e", "x", "-j", "j"], errors, 2, {"j": b"x"})
     yield Row("a fault beside --in-place", ["edit", "-e", "undo", "-e", "x", "--in-place", "f"], errors, 2, {"f": MESSAGE})

@@ -7,8 +7,8 @@ import time
 
 from common import READ_FAULT, WRITE_FAULT, make, names, read
 
-KILLS, MESSAGES, PAIRS, CHANGES = 200, 30, 60, 60
-HELD = b"mimetool: f: another run is using it\n" + READ_FAULT
+KILLS, MESSAGES, PAIRS, CHANGES, AT_ONCE = 200, 30, 60, 60, 30
+HELD = b"mimetool: f: another run is using it (--wait waits for it)\n" + READ_FAULT
 CHANGED = b"mimetool: f: another program has changed it\n" + WRITE_FAULT
 
 
@@ -22,6 +22,11 @@ def time_of(program, folder, words):
     return longest
 
 
+def lock_of(name):
+    """The hidden file by which a run locks a file."""
+    return f".{name}.mimetool.lock"
+
+
 def numbered(number, name):
     """A message of several hundred kilobytes, with a field that says a number."""
     body = b"%d\n" % name + b"a line of the body\n" * (10_000 + name * 500)
@@ -29,7 +34,7 @@ def numbered(number, name):
 
 
 def check_kills(program):
-    """A run that is killed leaves the old text or the new one, and one fresh file at most."""
+    """A run that is killed leaves the old text or the new one, and its lock and one fresh file at most."""
     chance, folder = random.Random(1), program.folder()
     make(folder, {f"m{name}": numbered(0, name) for name in range(MESSAGES)})
     whole = time_of(program, folder, ["field", "-I", "X-Count: 0", "-A", "Z: z", "--in-place", "m29"])
@@ -42,9 +47,9 @@ def check_kills(program):
         time.sleep(chance.random() * whole)
         process.send_signal(signal.SIGKILL)
         process.communicate()
-        text, fresh = read(folder, f"m{name}"), [each for each in names(folder) if each not in there]
+        text, fresh = read(folder, f"m{name}"), [each for each in names(folder) if each not in there and each != lock_of(f"m{name}")]
         program.expect(f"kill {number}", whole=(True, text in (old, new)),
-                       fresh=(True, len(fresh) <= 1 and all(each.endswith(".new") for each in fresh)), others=(True, set(there) <= set(names(folder))))
+                       fresh=(True, len(fresh) <= 1 and all(each.endswith(".new") for each in fresh)), others=(True, set(there) - {lock_of(f"m{name}")} <= set(names(folder))))
         if text != old and fresh:
             program.expect(f"kill {number}: a fresh file beside the new text", fresh=([], fresh))
     left = names(folder)
@@ -52,7 +57,8 @@ def check_kills(program):
         found = program.run(["field", "-I", "X-Count: 999", "--in-place", f"m{name}"], folder, nobody=False)
         program.ended(f"the run after the killed ones on m{name}", found,
                       text=(numbered(999, name), read(folder, f"m{name}")))
-    program.expect("the files after the killed runs", files=(left, names(folder)))
+    locks = {lock_of(f"m{name}") for name in range(MESSAGES)}
+    program.expect("the files after the killed runs", files=([each for each in left if each not in locks], names(folder)))
 
 
 def check_pairs(program):
@@ -80,6 +86,38 @@ def time_of_pair(program):
     folder = program.folder()
     make(folder, {"f": numbered(0, 9)})
     return time_of(program, folder, ["edit", "-e", "top 1 X: 1", "--in-place", "f"])
+
+
+def check_waits(program):
+    """Of many runs at once that wait for one another, each succeeds: no edit is lost."""
+    folder = program.folder()
+    make(folder, {"f": b"A: b\n\nx\n", "g": b"A: b\n\nx\n"})
+    runs = [program.start(["field", "-A", f"X-{number}: {number}", "--in-place", "f", "--wait"], folder) for number in range(AT_ONCE)]
+    ends = [(run.communicate(timeout=60)[1], run.returncode) for run in runs]
+    fields = sorted(b"X-%d: %d" % (number, number) for number in range(AT_ONCE))
+    lines = read(folder, "f").split(b"\n")
+    program.expect(f"{AT_ONCE} runs at once that wait", ends=([(b"", 0)] * AT_ONCE, ends), fields=(fields, sorted(lines[1:-3])),
+                   message=([b"A: b", b"", b"x", b""], lines[:1] + lines[-3:]), files=(["f", "g"], names(folder)))
+    words = [["edit", "-e", f"add 1 X: {number}", "--in-place", "g", "-j", "j", "--wait=60"] for number in range(AT_ONCE)]
+    runs = [program.start(each, folder) for each in words]
+    ends = [(run.communicate(timeout=60)[1], run.returncode) for run in runs]
+    for _ in words:
+        program.run(["undo", "-j", "j", "--in-place", "g"], folder, nobody=False)
+    program.expect(f"{AT_ONCE} runs at once with a journal", ends=([(b"", 0)] * AT_ONCE, ends), undone=(b"A: b\n\nx\n", read(folder, "g")),
+                   files=(["f", "g", "j"], names(folder)))
+
+
+def check_pipe_of_runs(program):
+    """Two runs in one pipe, on one journal: the second reads all before it waits."""
+    folder, message = program.folder(), b"A: b\n\n" + b"a line of the body\n" * 50_000
+    make(folder, {"f": message})
+    first = program.start(["edit", "-e", "add 1 C: d", "-j", "j", "--from", "f", "--wait"], folder)
+    second = program.start(["edit", "-e", "add 1 E: f", "-j", "j", "--wait"], folder, stdin=first.stdout)
+    first.stdout.close()
+    output, errors = second.communicate(timeout=60)
+    first.stderr.close()
+    program.expect("two runs in one pipe that wait", ends=((0, 0, b""), (first.wait(), second.returncode, errors)),
+                   text=(message.replace(b"b\n", b"b\nC: d\nE: f\n", 1), output), files=(["f", "j"], names(folder)))
 
 
 TAIL = b"From z\nA: 9\n\nthe end\n"
@@ -140,4 +178,4 @@ def check_changes(program):
             program.expect(f"{shows}: the text", text=(texts[0], text))
 
 
-CHECKS = [check_kills, check_pairs, check_changes]
+CHECKS = [check_kills, check_pairs, check_waits, check_pipe_of_runs, check_changes]

@@ -1,9 +1,11 @@
 """What `--in-place` gives: the results of the run without it, in the place of FILE."""
 
 import fcntl
+import hashlib
 import os
+import time
 
-from common import MISSING, READ_FAULT, Link, limit_files, make, names, read, read_fault, state
+from common import FIFO, FOLDER, MISSING, READ_FAULT, SECONDS, Link, limit_files, make, names, read, read_fault, state, write_fault
 
 MESSAGES = [
     b"", b"A: b", b"A: b\n\nx\n", b"A: b\r\nC: d\r\n\r\nx\ry\nz", b"From a\nA: b\n\nx\n", b" x\n", b"\xff\x00\n",
@@ -188,23 +190,70 @@ def check_names(program):
         program.ended(" ".join(words), found, text=(b"A: b\n\ny\n", read(folder, "f")))
 
 
+def held(name):
+    return f"mimetool: {name}: another run is using it (--wait waits for it)\n".encode() + READ_FAULT
+
+
 def check_held(program):
-    """A file that another run has is refused."""
+    """A file that another run has is refused, or after a while with --wait."""
     folder = program.folder()
-    make(folder, {"f": b"A: b\n\nx\n", "l": Link("f"), "j": b"", "g": b"A: b\n\nx\n"})
-    with open(os.path.join(folder, "f"), "rb") as file, open(os.path.join(folder, "j"), "rb") as journal:
-        fcntl.flock(file, fcntl.LOCK_EX)
-        fcntl.flock(journal, fcntl.LOCK_EX)
-        for words, name in (
-            (["field", "-A", "C: d", "--in-place", "f"], "f"), (["field", "-A", "C: d", "--in-place", "l"], "l"),
-            (["edit", "-e", "undo", "--in-place", "f"], "f"), (["edit", "-e", "add 1 C: d", "-j", "j", "--in-place", "g"], "j"),
-        ):
+    make(folder, {"f": b"A: b\n\nx\n", "l": Link("f"), "j": b"", "g": b"A: b\n\nx\n", ".f.mimetool.lock": b"", ".j.mimetool.lock": b"", ".n.mimetool.lock": b""})
+    there = names(folder)
+    locks = [open(os.path.join(folder, f".{name}.mimetool.lock"), "rb") for name in "fjn"]
+    for lock in locks:
+        fcntl.flock(lock, fcntl.LOCK_EX)
+    for words, name in (
+        (["field", "-A", "C: d", "--in-place", "f"], "f"), (["field", "-A", "C: d", "--in-place", "l"], "l"),
+        (["edit", "-e", "undo", "--in-place", "f"], "f"), (["edit", "-e", "add 1 C: d", "-j", "j", "--in-place", "g"], "j"),
+        (["edit", "-e", "add 1 C: d", "-j", "n", "--in-place", "g"], "n"),
+    ):
+        for tempfail in ([], ["--tempfail"]):
             before = state(folder, "f"), state(folder, "g"), state(folder, "j")
-            found = program.run(words, folder)
-            program.ended(f"another run has it: {' '.join(words)}", found, 3,
-                          errors=b"mimetool: %s: another run is using it\n" % name.encode() + READ_FAULT,
-                          state=(before, (state(folder, "f"), state(folder, "g"), state(folder, "j"))),
-                          files=(["f", "g", "j", "l"], names(folder)))
+            found = program.run([*words, *tempfail], folder)
+            program.ended(f"another run has it: {' '.join(words + tempfail)}", found, 75 if tempfail else 3, errors=held(name),
+                          state=(before, (state(folder, "f"), state(folder, "g"), state(folder, "j"))), files=(there, names(folder)))
+    begin = time.monotonic()
+    found = program.run(["field", "-A", "C: d", "--in-place", "f", "--wait=1"], folder)
+    waited = time.monotonic() - begin
+    program.ended("another run has it for longer", found, 3, errors=b"mimetool: f: another run is still using it\n" + READ_FAULT,
+                  waited=(True, 1 <= waited < SECONDS / 2), files=(there, names(folder)))
+    waiting = program.start(["edit", "-e", "add 1 C: d", "-j", "n", "--in-place", "f", "--wait"], folder)
+    time.sleep(0.3)
+    for lock in locks:
+        time.sleep(0.1)
+        program.expect("a run that waits", end=(None, waiting.poll()), text=(b"A: b\n\nx\n", read(folder, "f")))
+        lock.close()
+    program.expect("a run that has waited", end=((b"", b""), waiting.communicate(timeout=SECONDS)), status=(0, waiting.returncode),
+                   text=(b"A: b\nC: d\n\nx\n", read(folder, "f")), files=([".j.mimetool.lock", "f", "g", "j", "l", "n"], names(folder)))
 
 
-CHECKS = [check_table, check_journals, check_texts, check_alone, check_permissions, check_links, check_names, check_held]
+def check_other_locks(program):
+    """A lock that another program has on FILE, as flock(1) does, is no matter; nor is one that a killed run has left."""
+    for shows, left in (("a lock on FILE", {}), ("a lock that was left", {".f.mimetool.lock": b"", ".j.mimetool.lock": b""})):
+        folder = program.folder()
+        make(folder, {"f": b"A: b\n\nx\n", "j": b"mimejournal 2\n" + hashlib.sha256(b"A: b\n\nx\n").hexdigest().encode() + b"\n0 0\n", **left})
+        with open(os.path.join(folder, "f"), "rb") as file, open(os.path.join(folder, "j"), "rb") as journal:
+            fcntl.flock(file, fcntl.LOCK_EX)
+            fcntl.flock(journal, fcntl.LOCK_EX)
+            found = program.run(["edit", "-e", "add 1 C: d", "-j", "j", "--in-place", "f"], folder)
+            program.ended(shows, found, text=(b"A: b\nC: d\n\nx\n", read(folder, "f")), files=(["f", "j"], names(folder)))
+    for shows, other in (("a file", b"x"), ("a link", Link("f")), ("a folder", FOLDER), ("a pipe", FIFO)):
+        folder = program.folder()
+        make(folder, {"f": b"A: b\n\nx\n", ".f.mimetool.lock": other})
+        before = state(folder, "f")
+        found = program.run(["field", "-A", "C: d", "--in-place", "f"], folder)
+        program.ended(f"{shows} has the name of the lock", found, 3, errors=write_fault("f", "another file has the name of its lock"),
+                      state=(before, state(folder, "f")), files=([".f.mimetool.lock", "f"], names(folder)))
+
+
+def check_own_journal(program):
+    """FILE isn't its own journal."""
+    folder = program.folder()
+    make(folder, {"f": b"A: b\n\nx\n", "l": Link("f")})
+    for words in (["--wait", "-j", "f"], ["-j", "./f"], ["-j", "l"]):
+        found = program.run(["undo", *words, "--in-place", "f"], folder)
+        program.ended(f"FILE as its own journal: {words}", found, 3, errors=read_fault(words[-1], "the file of --in-place can't be its journal"),
+                      text=(b"A: b\n\nx\n", read(folder, "f")), files=(["f", "l"], names(folder)))
+
+
+CHECKS = [check_table, check_journals, check_texts, check_alone, check_permissions, check_links, check_names, check_held, check_other_locks, check_own_journal]

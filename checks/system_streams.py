@@ -63,7 +63,9 @@ def foreseen(case, streams):
         outputs = [b"", case.output] if case.early else [b""]
         return case.status if case.ended else 3, outputs, [b""], {}
     if case.output and not prints:
-        errors = [case.errors + WRITE_FAULT] + [WRITE_FAULT] * case.early
+        # Nothing is said where nobody reads the pipe any more.
+        fault = b"" if streams[1] == NO_READER else WRITE_FAULT
+        errors = [case.errors + fault] + [fault] * case.early
         return 3, [b""], errors, case.kept
     return case.status, [case.output], [case.errors], case.left
 

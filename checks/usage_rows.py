@@ -8,6 +8,7 @@ A_NAME = "write a name and a colon, as Subject:"
 A_NAME_OR_FRONT = A_NAME + ", or with an asterisk before the colon, as X-*:"
 A_PATH = "write numbers from 1 on with dots between them, as 1.2"
 A_SPEC = "write TYPE:FILE, as image/gif:dot.gif"
+SECONDS = "write a whole number of seconds, from 0 to 4294967295"
 APART = "-x and -X print fields, so neither stands beside another letter"
 
 COMMANDS = ["edit", "undo", "redo", "sections", "extract", "unpack", "pack", "field"]
@@ -43,6 +44,8 @@ FLAGS = {
     "sections": ["--json"], "extract": ["--raw", "--head", "--prefix"], "unpack": ["-f", "-t", "--silent", "--paths", "--utf8"],
     "pack": ["--inline", "--utf8"], "field": ["-s"],
 }
+for command in IN_PLACE:
+    FLAGS[command] = [*FLAGS.get(command, []), "--wait", "--tempfail"]
 
 # Values that a command's argument doesn't take: the words, the argument, the value, and what should stand there.
 VALUES = [
@@ -70,6 +73,9 @@ VALUES = [
     (["field", "-A", "A: 1", "-I", "x y"], "-I <FIELD>", "x y", A_FIELD_OR_NAME),
     (["field", "-x", "A:", "-I", "x"], "-I <FIELD>", "x", A_FIELD_OR_NAME),
     (["field", "-U", "x", "-a", "y", "--rename", "z"], "--rename <OLD:NEW>", "z", A_PAIR),
+    *[([*words, f"--wait={value}"], "--wait[=<SECONDS>]", value, SECONDS)
+      for words in (["edit", "-e", "undo"], ["undo", "-j", "j"], ["redo", "-j", "j"], ["field"])
+      for value in ("", "x", "-1", "+1", "1.5", "1s", " 1", "4294967296", "99999999999999999999")],
 ]
 
 # Letters that don't stand beside each other.
@@ -104,6 +110,16 @@ SAID = [
     ("--json with a value", ["sections", "--json=1"], ["--json", "Usage: mimetool sections"]),
     ("--json of another command", ["unpack", "--json"], ["unexpected argument '--json' found", "Usage: mimetool unpack"]),
     ("--utf8 without --json", ["sections", "--utf8"], ["--utf8 goes only with --json", "Usage: mimetool sections"]),
+    ("a line feed in a line of a script", ["edit", "-e", "undo\nx"],
+     ['invalid value "undo\\nx" for \'-e <LINE>\'', "write one line, and -e again before each further one", "Usage: mimetool edit"]),
+    ("a line feed after a line of a script", ["edit", "-e", "undo", "-e", "undo\n", "-j", "none/j"], ['invalid value "undo\\n"', "Usage: mimetool edit"]),
+    ("seconds without an equals sign", ["field", "--wait", "5"], ["unexpected argument '5' found", "write '--wait=5'", "Usage: mimetool field"]),
+    ("--tempfail with a value", ["undo", "-j", "j", "--tempfail=75"], ["--tempfail", "Usage: mimetool undo"]),
+    ("a file for sections", ["sections", "f"], ["unexpected argument 'f' found", "tip: to read the message from a file, write '--from f'", "Usage: mimetool sections"]),
+    ("a file for redo", ["redo", "-j", "j", "f"], ["unexpected argument 'f' found", "'--from f'", "'--in-place f'", "Usage: mimetool redo"]),
+    *[(f"{words[0]} of formail", ["field", *words], [f"unexpected argument '{words[0]}' found", tip, "Usage: mimetool field"]) for words, tip in (
+        (["-R", "A", "B"], "write '--rename OLD:NEW'"), (["-c", "-x", "A:"], "write '--unfold' beside -x"), (["-z"], "'--unfold' beside -x"),
+        (["-k"], "the body is always kept"), (["-r"], "no replies are written"), (["-D", "99", "f"], "no Message-IDs are kept"))],
     ("a letter in capitals", ["field", "--Rename", "A:B"], ["unexpected argument '--Rename' found", "Usage: mimetool field"]),
 ]
 
