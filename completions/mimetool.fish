@@ -19,6 +19,8 @@ complete -c mimetool -n '__fish_seen_subcommand_from edit undo redo sections ext
 complete -c mimetool -n '__fish_seen_subcommand_from edit undo redo' -s j -r -F -d 'The file that keeps the steps'
 complete -c mimetool -n '__fish_seen_subcommand_from edit undo redo sections extract unpack field messages' -l from -r -F -d 'Read the message from a file'
 complete -c mimetool -n '__fish_seen_subcommand_from edit undo redo field' -l in-place -r -F -d 'Read the message from a file, and replace the file'
+complete -c mimetool -n '__fish_seen_subcommand_from edit undo redo field' -l wait -d 'Wait while another run is using the file or the journal'
+complete -c mimetool -n '__fish_seen_subcommand_from edit undo redo field' -l tempfail -d 'Exit with 75, not 3 or 4, where a read or a write fails or memory runs out'
 complete -c mimetool -n '__fish_seen_subcommand_from edit sections extract unpack' -s n -x -d 'Take the message of this number of a mailbox'
 complete -c mimetool -n '__fish_seen_subcommand_from edit sections extract unpack field messages' -l rfc4155 -d 'Cut the mailbox only at From-lines with a date'
 complete -c mimetool -n '__fish_seen_subcommand_from sections' -l json -d 'Print each section as a JSON object'
