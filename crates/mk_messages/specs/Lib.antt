@@ -1,1 +1,2 @@
 pub mod MessageLines
+pub mod TakenOut

@@ -16,7 +16,7 @@ use Rattle.mk_edit.specs.Histories.{text_now}
 use Rattle.mk_expand.specs.Meanings.{Meaning}
 use Rattle.mk_expand.specs.Pieces.{Pieces, piece_lines}
 use Rattle.mk_expand.specs.Words.{field_text, is_plain, meaning_of}
-use Rattle.mk_script.specs.Script.{ScriptWord, Adds, Deletes, Renames, Sets, Bodies, Replaces, Inserts, Removes, Wraps, SetsContent, Encodes, Puts, PutsPiece, DropsAll, Appends, Attaches}
+use Rattle.mk_script.specs.Script.{ScriptWord, Adds, Deletes, Renames, Sets, Bodies, Replaces, Inserts, Removes, Wraps, SetsContent, SetsText, Encodes, Puts, PutsPiece, DropsAll, Appends, AppendsText, Attaches, AttachesText}
 use Rattle.mk_run.specs.WordSteps.{EditRefused, Made, edits_made, made_by, after_splices, then_make, words_made, words_step, stepped}
 use Rattle.mk_run.specs.inner.Making.{MadeSo, path_in}
 
@@ -52,12 +52,15 @@ means_one pieces eol t (Removes (path ∷ [])) p = refl
 means_one pieces eol t (Removes (path ∷ other ∷ others)) p = absurd (let bad : false ≡ true = p in cc)
 means_one pieces eol t (Wraps path subtype boundary) p = refl
 means_one pieces eol t (SetsContent path piece) p = absurd (let bad : false ≡ true = p in cc)
+means_one pieces eol t (SetsText charset path piece) p = absurd (let bad : false ≡ true = p in cc)
 means_one pieces eol t (Encodes path to) p = absurd (let bad : false ≡ true = p in cc)
 means_one pieces eol t (Puts path field) p = absurd (let bad : false ≡ true = p in cc)
 means_one pieces eol t (PutsPiece path piece) p = absurd (let bad : false ≡ true = p in cc)
 means_one pieces eol t (DropsAll path name) p = absurd (let bad : false ≡ true = p in cc)
 means_one pieces eol t (Appends path piece) p = absurd (let bad : false ≡ true = p in cc)
+means_one pieces eol t (AppendsText path piece) p = absurd (let bad : false ≡ true = p in cc)
 means_one pieces eol t (Attaches path media name piece) p = absurd (let bad : false ≡ true = p in cc)
+means_one pieces eol t (AttachesText path media piece) p = absurd (let bad : false ≡ true = p in cc)
 
 -- the edits of words
 abbrev pub edits_in : Pieces → Ending → List (ℕ × ScriptWord) → List PlainEdit

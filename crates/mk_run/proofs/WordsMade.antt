@@ -1,5 +1,5 @@
 -- Words made one after another, as edits made one after another.
-use Rattle.std.proofs.Common.{◌≡◌, ◌+◌, ◌++◌, ◌<◌, ◌≤◌, ℕ, zero, suc, true, List, [], ◌∷◌, Option, None, Some, IfSome, Result, Ok, Err, length, map, take, get_or, nat_lt, slice_index_or, refl, sym, ap, ◌∙◌, subst, append_assoc, append-nil, arith}
+use Rattle.std.proofs.Common.{◌≡◌, ◌+◌, ◌++◌, ◌<◌, ◌≤◌, ℕ, zero, suc, true, List, [], ◌∷◌, Option, None, Some, IfSome, Result, Ok, Err, length, map, take, get_or, nat_lt, slice_index_or, refl, sym, ap, ◌∙◌, subst, append_assoc, append-nil, arith, IfOk}
 use Rattle.std.proofs.lemmas.Bool.{ltb-true}
 use Rattle.std.proofs.lemmas.List.{length-take-le}
 use Rattle.std.specs.Option.{option_map}
@@ -19,11 +19,13 @@ use Rattle.mk_edit.proofs.GroupFacts.{groups_read_back_lem}
 use Rattle.mk_edit.proofs.Leading.{histories_stay_lem}
 use Rattle.mk_expand.specs.declared.errors.WordError.{WordError}
 use Rattle.mk_expand.specs.declared.errors.WordError.TheVariants as error
-use Rattle.mk_expand.specs.Meanings.{Meaning}
+use Rattle.mk_expand.specs.Meanings.{Meaning, WordFault}
 use Rattle.mk_expand.specs.Views.{IsFault}
 use Rattle.mk_expand.specs.Words.{meaning_of}
 use Rattle.mk_script.specs.Script.{ScriptWord}
 use Rattle.mk_expand.specs.Pieces.{Pieces}
+use Rattle.std.specs.Global.{Vec}
+use Rattle.mk_run.specs.Faults.{fault_line, fault_name, named_line}
 use Rattle.mk_run.specs.Runs.{refusal_line, report_of}
 use Rattle.mk_run.specs.WordSteps.{StepRefusal, EditRefused, WordRefused, Made, edits_made, made_by, after_splices, then_make, words_made, stepped}
 use Rattle.mk_run.specs.inner.Making.{MadeSo, fault_in, path_in}
@@ -175,3 +177,13 @@ fault_refused number t error.BadName meaning h = ap (made_by number t) h
 fault_refused number t error.BadCharset meaning h = ap (made_by number t) h
 fault_refused number t error.BinaryContent meaning h = ap (made_by number t) h
 fault_refused number t error.Memory meaning h = tt
+
+some_name : (m n : List ℕ) → ◌≡◌ {A = Option (List ℕ)} (Some m) (Some n) → m ≡ n
+some_name m n e = cc
+
+-- the line of a fault that has a name
+pub line_named : {E : Type 0} (number : ℕ) (o : Option WordFault) (name : List ℕ) (line : Result (Vec ℕ) E) → ◌≡◌ {A = Option (List ℕ)} (Some name) (option_map fault_name o) → IfOk line (λ l. l.items ≡ named_line number name)
+    → IfOk line (λ l. IfSome o (λ fault. l.items ≡ fault_line number fault))
+line_named number o name (Err e) named is = tt
+line_named number None name (Ok l) named is = tt
+line_named number (Some fault) name (Ok l) named is = is ∙ ap (named_line number) (some_name name (fault_name fault) named)

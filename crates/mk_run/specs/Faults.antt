@@ -38,6 +38,10 @@ fault_name BadName = codes "BadName"
 fault_name BadCharset = codes "BadCharset"
 fault_name BinaryContent = codes "BinaryContent"
 
+-- the line of a number with a name
+abbrev pub named_line : ℕ → List ℕ → List ℕ
+named_line number name = codes "line " ++ (decimal number ++ (codes ": " ++ (name ++ line_feed ∷ [])))
+
 -- the line that reports that a word stands for no edits
 abbrev pub fault_line : ℕ → WordFault → List ℕ
-fault_line number fault = codes "line " ++ (decimal number ++ (codes ": " ++ (fault_name fault ++ line_feed ∷ [])))
+fault_line number fault = named_line number (fault_name fault)

@@ -2,7 +2,8 @@
 
 ghost use Rattle.std.specs.Prelude.{◌≡◌, Err, None, IfOk, IfSome, IsErr};
 ghost use Rattle.mk_run.specs.Journaling.{journal_line, named_by};
-ghost use Rattle.mk_run.specs.Faults.{fault_line, fault_sentence, reason_line, syntax_line};
+ghost use Rattle.std.specs.Option.{option_map};
+ghost use Rattle.mk_run.specs.Faults.{fault_line, fault_name, fault_sentence, named_line, reason_line, syntax_line};
 ghost use Rattle.mk_run.specs.Runs.{refusal_line};
 ghost use Rattle.mk_run.specs.inner.Making.{fault_in, refusal_in};
 ghost use Rattle.mk_transfer.specs.RunClauses.{Sends};
@@ -116,16 +117,32 @@ fn line_of_fault(alloc: Global, number: usize, fault: WordError) -> Result<Vec<u
     ensures line { IfOk result (λ line. IfSome (fault_in fault) (λ named. line.items ≡ fault_line number named)) }
     ensures memory { fault_in fault ≡ None → IsErr result }
 {
-    let line = match fault {
-        WordError::UnknownEncoding => format!(in alloc; "line {number}: UnknownEncoding\n")?,
-        WordError::BadBase64 => format!(in alloc; "line {number}: BadBase64\n")?,
-        WordError::BadType => format!(in alloc; "line {number}: BadType\n")?,
-        WordError::BadName => format!(in alloc; "line {number}: BadName\n")?,
-        WordError::BadCharset => format!(in alloc; "line {number}: BadCharset\n")?,
-        WordError::BinaryContent => format!(in alloc; "line {number}: BinaryContent\n")?,
-        WordError::Memory => return Err(AllocError),
-    };
+    match name(fault) {
+        Some(name) => line_of_name(alloc, number, name),
+        None => Err(AllocError),
+    }
+}
+
+fn line_of_name(alloc: Global, number: usize, name: &str) -> Result<Vec<u8>, AllocError>
+    ensures { IfOk result (λ line. line.items ≡ named_line number name.now) }
+{
+    let line = format!(in alloc; "line {number}: {name}\n")?;
     Ok(line.into_bytes())
+}
+
+// The name of a fault; running out of memory has none.
+fn name(fault: WordError) -> Option<&'static str>
+    ensures { option_map (λ s. s.now) result ≡ option_map fault_name (fault_in fault) }
+{
+    match fault {
+        WordError::UnknownEncoding => Some("UnknownEncoding"),
+        WordError::BadBase64 => Some("BadBase64"),
+        WordError::BadType => Some("BadType"),
+        WordError::BadName => Some("BadName"),
+        WordError::BadCharset => Some("BadCharset"),
+        WordError::BinaryContent => Some("BinaryContent"),
+        WordError::Memory => None,
+    }
 }
 
 /// Reports why a journal is refused.

@@ -3,6 +3,7 @@
 use crate::faults::{Problem, usage};
 use crate::files::{read, read_files};
 use crate::mailboxes::{Picked, pick_message};
+use crate::tips::tell_of_fields;
 use clap::ArgMatches;
 use mk_mail::{Sink, Source};
 use mk_messages::InMemory;
@@ -50,7 +51,7 @@ pub fn edit<R: Files<File = File> + Clock + AllocGlobal, S: Source, O: Sink, E: 
             text: &script,
             as_one,
         };
-        explain(alloc, err, script, pieces.len())?;
+        explain(alloc, err, script, &pieces)?;
         return edit_by(rt, matches, input, out, err, script, &pieces);
     }
     let Some(path) = matches.get_str(SCRIPT) else {
@@ -63,20 +64,20 @@ pub fn edit<R: Files<File = File> + Clock + AllocGlobal, S: Source, O: Sink, E: 
         as_one,
     };
     if matches.get_flag(EXPLAIN) {
-        explain(alloc, err, script, pieces.len())?;
+        explain(alloc, err, script, &pieces)?;
     }
     edit_by(rt, matches, input, out, err, script, &pieces)
 }
 
-// Says why the first invalid line of a script is invalid, if there is one.
+// Says why the first invalid line of a script is invalid, if there is one, and else of which pieces it takes no text.
 fn explain<E: Sink>(
     alloc: Global,
     err: &mut E,
     script: Script<'_>,
-    pieces: usize,
+    pieces: &[Vec<u8>],
 ) -> Result<(), Problem> {
-    let Some(line) = first_invalid(alloc, script.text, pieces, script.as_one)? else {
-        return Ok(());
+    let Some(line) = first_invalid(alloc, script.text, pieces.len(), script.as_one)? else {
+        return tell_of_fields(alloc, err, script, pieces);
     };
     match report_invalid(alloc, err, line) {
         Ok(()) => Ok(()),

@@ -5,10 +5,10 @@ ghost use Rattle.std.specs.Prelude.{◌<◌, IfOk, IfSome};
 use crate::faults::Problem;
 use clap::ArgMatches;
 use mk_mail::{FromLines, Sink, Source};
-use mk_messages::{pick, report_missing, try_messages};
+use mk_messages::{pick, report_missing, try_messages, unmarked, without_separator};
 use mk_run::{Cause, Status, Stop};
 use mk_script::numbers;
-use mk_words::options::{NUMBER, RFC4155};
+use mk_words::options::{NUMBER, RFC4155, UNQUOTE};
 use std::alloc::{AllocError, Global};
 
 /// The message that a command works on.
@@ -47,12 +47,22 @@ pub fn pick_message<S: Source, E: Sink>(
         return Ok(Picked::Missing);
     };
     match pick(alloc, input, from_lines(matches), number) {
-        Ok(Some(message)) => Ok(Picked::Message(message)),
+        Ok(Some(message)) => Ok(Picked::Message(alone(alloc, matches, message)?)),
         Ok(None) => match report_missing(alloc, err, number) {
             Ok(()) => Ok(Picked::Missing),
             Err(stop) => Err(stopped(stop, Cause::Write)),
         },
         Err(stop) => Err(stopped(stop, Cause::Read)),
+    }
+}
+
+// A message as it was before it went into the mailbox; its lines lose their marks where that is asked for.
+fn alone(alloc: Global, matches: &ArgMatches<'_>, message: Vec<u8>) -> Result<Vec<u8>, AllocError> {
+    let message = without_separator(message);
+    if matches.get_flag(UNQUOTE) {
+        unmarked(alloc, &message)
+    } else {
+        Ok(message)
     }
 }
 

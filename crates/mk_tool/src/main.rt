@@ -10,6 +10,7 @@ mod letters;
 mod mailboxes;
 mod packing;
 mod program;
+mod tips;
 mod words;
 
 pub use mk_run::{

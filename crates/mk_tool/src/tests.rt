@@ -13,6 +13,7 @@ mod locks;
 mod mailboxes;
 mod prepends;
 mod section_fields;
+mod tips;
 mod usage;
 
 use crate::program::obey;

@@ -8,7 +8,7 @@ use mk_run::Spec;
 use mk_script::numbers;
 use mk_words::options::{
     EACH, EDIT, EXTRACT, FIELD, JSON, LINE, MESSAGES, NUMBER, PACK, PART, PATH, RFC4155, SCRIPT,
-    SECTIONS, SPEC, UNPACK, UTF8,
+    SECTIONS, SPEC, UNPACK, UNQUOTE, UTF8,
 };
 use mk_words::waiting::why_no_seconds;
 use std::alloc::{AllocError, Global};
@@ -23,6 +23,9 @@ const NO_JSON: &str = "--utf8 goes only with --json: the plain listing has no na
 const NO_NUMBER: &str = "--rfc4155 goes only with -n: it says how a mailbox is cut";
 
 const NO_MAILBOX: &str = "--rfc4155 goes only with -s: it says how a mailbox is cut";
+
+/// What is said of marks where no message of a mailbox is read.
+const NO_MARKS: &str = "--unquote goes only with -n: it takes off what a mailbox puts before lines";
 
 /// The options that take a path, as help writes them.
 const SECTION: &str = "-s <PATH>";
@@ -66,6 +69,7 @@ fn why_no_message(
     matches: &ArgMatches<'_>,
 ) -> Result<Option<String>, AllocError> {
     let dated = matches.get_flag(RFC4155);
+    let unquoted = matches.get_flag(UNQUOTE);
     if let Some(word) = matches.get_str(NUMBER) {
         if message_number(alloc, word)?.is_some() {
             return Ok(None);
@@ -74,6 +78,9 @@ fn why_no_message(
             "invalid value '{word}' for '-n <N>': write the number of a message, from 1 to 4294967295"
         )?;
         return Ok(Some(sentence));
+    }
+    if unquoted {
+        return Ok(Some(String::from_str(alloc, NO_MARKS)?));
     }
     if !dated || name == MESSAGES {
         return Ok(None);

@@ -1,6 +1,6 @@
 //! The words of `edit`, `undo` and `redo`.
 
-use crate::mailbox_options::{number, rfc4155};
+use crate::mailbox_options::with_number;
 use crate::options::{
     ALL, EDIT, EOL, EXPLAIN, JOURNAL, LINE, NUMBER, PIECE, REDO, SCRIPT, UNDO, flag, from,
     in_place, with_wait,
@@ -43,7 +43,7 @@ fn journal<'a>(alloc: Global) -> Arg<'a> {
         .action(ArgAction::Set)
 }
 
-/// mimetool edit [--from FILE|--in-place FILE] [--wait[=SECONDS]] [--tempfail] [-n N [--rfc4155]] [-j JOURNAL] [--all] [--eol] [--explain] [-e LINE].. [SCRIPT] [PIECE..]
+/// mimetool edit [--from FILE|--in-place FILE] [--wait[=SECONDS]] [--tempfail] [-n N [--rfc4155] [--unquote]] [-j JOURNAL] [--all] [--eol] [--explain] [-e LINE].. [SCRIPT] [PIECE..]
 pub fn edit_command<'a>(alloc: Global) -> Result<Command<'a>, AllocError> {
     let line = Arg::new(alloc, LINE)
         .short('e')
@@ -64,15 +64,14 @@ pub fn edit_command<'a>(alloc: Global) -> Result<Command<'a>, AllocError> {
         .about("Edits the message by the lines of a script, and prints it")
         .after_help(EDIT_HELP)
         .arg(from(alloc))?
-        .arg(in_place(alloc)?.conflicts_with(NUMBER)?)?
-        .arg(number(alloc))?
-        .arg(rfc4155(alloc))?
+        .arg(in_place(alloc)?.conflicts_with(NUMBER)?)?;
+    let command = with_number(alloc, command)?
         .arg(journal(alloc))?
         .arg(flag(alloc, ALL, "Make all edits as one step, or none of them").long(ALL))?
         .arg(flag(
             alloc,
             EOL,
-            "End the lines of pieces as the message's lines end; attach takes files as they are",
+            "End the lines of pieces as the message's lines end; what goes out as base64 stays as it is",
         )
         .long(EOL))?
         .arg(flag(

@@ -1,6 +1,6 @@
 //! The words on mailboxes.
 
-use crate::options::{MESSAGES, NUMBER, RFC4155, flag, from};
+use crate::options::{MESSAGES, NUMBER, RFC4155, UNQUOTE, flag, from};
 use clap::{Arg, ArgAction, Command};
 use std::alloc::{AllocError, Global};
 
@@ -15,9 +15,22 @@ pub fn messages_command<'a>(alloc: Global) -> Result<Command<'a>, AllocError> {
         .arg(rfc4155(alloc))
 }
 
-/// Takes -n N and --rfc4155 too.
+/// Takes -n N, --rfc4155 and --unquote too.
 pub fn with_number<'a>(alloc: Global, command: Command<'a>) -> Result<Command<'a>, AllocError> {
-    command.arg(number(alloc))?.arg(rfc4155(alloc))
+    command
+        .arg(number(alloc))?
+        .arg(rfc4155(alloc))?
+        .arg(unquote(alloc))
+}
+
+/// --unquote
+fn unquote<'a>(alloc: Global) -> Arg<'a> {
+    flag(
+        alloc,
+        UNQUOTE,
+        "With -n, take one > off lines that begin with >From, >>From and so on",
+    )
+    .long(UNQUOTE)
 }
 
 /// -n N

@@ -178,6 +178,9 @@ pub const NUMBER: &str = "NUMBER";
 /// `--rfc4155`: a mailbox is cut only at From-lines that end with a date.
 pub const RFC4155: &str = "rfc4155";
 
+/// `--unquote`: lines of the message that a mailbox has marked lose a mark.
+pub const UNQUOTE: &str = "unquote";
+
 /// The subcommands, in the order in which help lists them.
 const SUBCOMMANDS: [&str; 9] = [
     EDIT, UNDO, REDO, SECTIONS, EXTRACT, UNPACK, PACK, FIELD, MESSAGES,
@@ -262,7 +265,7 @@ fn wait<'a>(alloc: Global) -> Arg<'a> {
         .action(ArgAction::Set)
 }
 
-// mimetool sections [-n N [--rfc4155]] [--json [--utf8]]
+// mimetool sections [-n N [--rfc4155] [--unquote]] [--json [--utf8]]
 fn sections_command<'a>(alloc: Global) -> Result<Command<'a>, AllocError> {
     let command = Command::new(alloc, SECTIONS)
         .about("Lists the sections of the message, one a line")
@@ -278,7 +281,7 @@ fn sections_command<'a>(alloc: Global) -> Result<Command<'a>, AllocError> {
     with_number(alloc, command)
 }
 
-// mimetool extract [-n N [--rfc4155]] -s PATH [--raw|--head|--prefix]
+// mimetool extract [-n N [--rfc4155] [--unquote]] -s PATH [--raw|--head|--prefix]
 fn extract_command<'a>(alloc: Global) -> Result<Command<'a>, AllocError> {
     let path = Arg::new(alloc, PATH)
         .short('s')
@@ -316,7 +319,7 @@ fn extract_command<'a>(alloc: Global) -> Result<Command<'a>, AllocError> {
     with_number(alloc, command)
 }
 
-// mimetool unpack [-n N [--rfc4155]] [-f] [-t] [-s PATH].. [--silent|--paths] [--utf8] [-C DIR]
+// mimetool unpack [-n N [--rfc4155] [--unquote]] [-f] [-t] [-s PATH].. [--silent|--paths] [--utf8] [-C DIR]
 fn unpack_command<'a>(alloc: Global) -> Result<Command<'a>, AllocError> {
     let section = Arg::new(alloc, PATH)
         .short('s')

@@ -1,6 +1,8 @@
 //! The words of `pack`.
 
-use crate::options::{BOUNDARY, CHARSET, EOL, FORWARD, INLINE, PACK, PART, SPEC, SUBTYPE, flag, utf8};
+use crate::options::{
+    BOUNDARY, CHARSET, EOL, FORWARD, INLINE, PACK, PART, SPEC, SUBTYPE, flag, utf8,
+};
 use clap::{Arg, ArgAction, Command};
 use std::alloc::{AllocError, Global};
 

@@ -9,15 +9,20 @@ pub const EDIT_HELP: &str = "Lines of a script:
   set PATH NAME K FIELD      Replace its K-th field NAME by FIELD
   put PATH FIELD             Replace all its fields of that name by FIELD, or add FIELD
   put-piece PATH PIECE       Do so with the field that a piece is
-  drop PATH NAME             Remove all its fields NAME
+  drop PATH NAME             Remove all its fields NAME, written with or without a colon
   body PATH PIECE            Replace the body of a leaf by a piece
   content PATH PIECE         Give a leaf a piece as its content, encoded
+  content --charset NAME PATH PIECE
+                             Do so with a text, and say its charset
   encode PATH ENCODING       Encode the content of a leaf as qp, base64 or 8bit
   replace PATH PIECE         Replace the section by the one that a piece is
   insert PATH PLACE PIECE    Insert such a section into a multipart, after PLACE parts
   append PATH PIECE          Insert such a section after the last part
+  append-text PATH PIECE     Insert a piece there as the content of a part
   attach PATH TYPE NAME PIECE
                              Insert a piece as a file after the last part, encoded
+  attach-text PATH TYPE PIECE
+                             Insert a piece there as a text to be shown, encoded
   remove PATH ..             Remove parts
   wrap PATH SUBTYPE BOUNDARY Make the section the one part of a multipart
   undo                       Undo the last step

@@ -36,7 +36,7 @@ status: Well
 == they as JSON
 words: sections|-n|1|--json
 message: From a\nA: 1\n\nx\n\nFrom b\n\n
-output: {"path":"1","kind":"leaf","type":"text/plain","encoding":"identity","start":7,"body":13,"end":16,"field_lines":1,"body_lines":2,"stored_as":"part-1","size":3}\n
+output: {"path":"1","kind":"leaf","type":"text/plain","encoding":"identity","start":7,"body":13,"end":15,"field_lines":1,"body_lines":1,"stored_as":"part-1","size":2}\n
 status: Well
 
 == the content of the last
@@ -54,7 +54,37 @@ status: Well
 == a message edited alone
 words: edit|-n|2|-e|add 1 X: y
 message: From a\n\nx\n\nFrom b\nA: b\n\ny\n\nFrom c\n\n
-output: From b\nA: b\nX: y\n\ny\n\n
+output: From b\nA: b\nX: y\n\ny\n
+status: Well
+
+== the empty line that ends a message in a mailbox isn't content
+words: extract|-n|1|-s|1
+message: From a\r\n\r\nx\r\n\r\n\r\nFrom b\r\n\r\ny\r\n
+output: x\r\n\r\n
+status: Well
+
+== nor is that of the last message, where it has a From-line
+words: extract|-n|1|-s|1
+message: From a\n\nx\n\n
+output: x\n
+status: Well
+
+== a message that isn't one of a mailbox stays as it is
+words: extract|-n|1|-s|1
+message: A: 1\n\nx\n\n
+output: x\n\n
+status: Well
+
+== lines lose a mark, and others none
+words: extract|--unquote|-n|1|-s|1
+message: From a\n\n>From b\n>>From c\r\n> From d\n>from e\nx >From f\n>>\n\nFrom g\n\n
+output: From b\n>From c\r\n> From d\n>from e\nx >From f\n>>\n
+status: Well
+
+== lines keep their marks unasked
+words: extract|-n|1|-s|1
+message: From a\n\n>From b\n
+output: >From b\n
 status: Well
 
 == an edit of it is refused
@@ -118,6 +148,13 @@ words: extract|--rfc4155|-s|1
 words: unpack|--rfc4155
 words: edit|--rfc4155|-e|undo
 begins: error: --rfc4155 goes only with -n: it says how a mailbox is cut\n\nUsage: mimetool\x20
+
+== --unquote without -n
+words: sections|--unquote
+words: extract|--unquote|-s|1
+words: unpack|--unquote
+words: edit|--unquote|-e|undo
+begins: error: --unquote goes only with -n: it takes off what a mailbox puts before lines\n\nUsage: mimetool\x20
 
 == --rfc4155 without -s
 words: field|--rfc4155

@@ -1,0 +1,89 @@
+//! A message of a mailbox as it was before it went in.
+
+ghost use Rattle.std.specs.Prelude.{◌≡◌, ◌<◌, ◌≤◌, length, true, IfOk};
+ghost use Rattle.std.specs.List.{prefix_len};
+ghost use Rattle.mk_line.specs.Lines.{cut as lines_of};
+ghost use Rattle.mk_line.specs.Views.{line_of};
+ghost use Rattle.mk_messages.specs.TakenOut.{begins_from as is_from_first, is_mark, is_marked as was_marked, separator_length as length_of_separator, unmarked as unmarked_text, unmarked_line as line_unmarked, without_separator as text_alone};
+
+use mk_line::{Line, cut, is_from_line};
+use std::alloc::{AllocError, Global};
+
+/// What a mailbox puts before a line that would be a From-line in it.
+const MARK: u8 = b'>';
+
+const FROM: &[u8] = b"From ";
+
+/// Takes the empty line off that ends a message in a mailbox. A text that doesn't begin with a From-line stays as it is.
+pub fn without_separator(message: Vec<u8>) -> Vec<u8>
+    ensures { result.items ≡ text_alone message.items }
+{
+    let mut message = message;
+    if begins_from(&message) {
+        let length = message.len().saturating_sub(separator_length(&message));
+        message.truncate(length);
+    }
+    message
+}
+
+fn begins_from(text: &[u8]) -> bool
+    ensures { result ≡ is_from_first (lines_of text.now) }
+{
+    match cut(text).next() {
+        Some(line) => is_from_line(line.content),
+        None => false,
+    }
+}
+
+// How many bytes the last line has, where it is empty.
+fn separator_length(text: &[u8]) -> usize
+    ensures { result ≡ length_of_separator (lines_of text.now) }
+{
+    let mut length = 0;
+    for line in cut(text) {
+        length = if line.content.is_empty() {
+            line.ending.bytes().len()
+        } else {
+            0
+        };
+    }
+    length
+}
+
+/// Takes one mark off each line that a mailbox has marked: `>From `, and any with more marks before it.
+pub fn unmarked(alloc: Global, message: &[u8]) -> Result<Vec<u8>, AllocError>
+    ensures { IfOk result (λ text. text.items ≡ unmarked_text message.now) }
+{
+    let mut text = Vec::with_capacity(alloc, message.len())?;
+    for line in cut(message) {
+        text.extend_from_slice(unmarked_content(&line))?;
+        text.extend_from_slice(line.ending.bytes())?;
+    }
+    Ok(text)
+}
+
+// A line without one of its marks, and without its ending.
+fn unmarked_content<'a>(line: &Line<'a>) -> &'a [u8]
+    ensures { result.now ≡ (line_unmarked (line_of line.now)).content }
+{
+    if is_marked(line.content) {
+        &line.content[1..]
+    } else {
+        line.content
+    }
+}
+
+fn is_marked(content: &[u8]) -> bool
+    ensures marked { result ≡ was_marked content.now }
+    ensures some { result ≡ true → 0 < length content.now }
+{
+    let marks = leading_marks(content);
+    marks > 0 && content[marks..].starts_with(FROM)
+}
+
+fn leading_marks(content: &[u8]) -> usize
+    ensures front { result ≡ prefix_len is_mark content.now }
+    ensures within { result ≤ length content.now }
+{
+    content.iter().take_while(|byte| **byte == MARK).count()
+}
