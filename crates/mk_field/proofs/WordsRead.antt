@@ -18,7 +18,8 @@ use Rattle.mk_script.specs.Paths.{parted}
 use Rattle.mk_script.proofs.PieceLemmas.{HoldsNo, parted-append}
 use Rattle.mk_field.specs.Filtering.{behind_colon, part_behind}
 use Rattle.mk_mail.specs.Prepended.{is_one_line, is_plain}
-use Rattle.mk_field.specs.Wording.{decoded_value, line_byte, worded_by, worded_field, worded_parts}
+use Rattle.mk_field.specs.Addresses.{is_address_name, worded_addresses}
+use Rattle.mk_field.specs.Wording.{address_field, decoded_value, line_byte, worded_by, worded_field, worded_parts}
 use Rattle.mk_mail.proofs.Plainness.{needed, plain_stays}
 use Rattle.mk_field.specs.WordLaws.{WordedFieldsAreRead}
 
@@ -96,16 +97,18 @@ words_read eol name text h b l s =
 
 -- what is read of a field whose text needs encoded words or not
 abbrev made_by : Ending → List ℕ → List ℕ → Bool → List ℕ
-made_by eol name text needs = decoded_value (behind_colon (if needs then field name (words_encoded eol text) else field name text))
+made_by eol name text needs = decoded_value (behind_colon (if needs then (if is_address_name name then address_field (field name text) name (worded_addresses eol text) else field name (words_encoded eol text)) else field name text))
 
 -- what is read of the field that is made of a name and a text
-parts_read : (eol : Ending) (name text : List ℕ) (stays : Bool) → is_plain text ≡ stays → list_all is_name_byte name ≡ true → IsUtf8 text → IsBytes text → is_one_line text ≡ true
+parts_read : (eol : Ending) (name text : List ℕ) (stays : Bool) → is_plain text ≡ stays → list_all is_name_byte name ≡ true → is_address_name name ≡ false → IsUtf8 text → IsBytes text → is_one_line text ≡ true
     → stripped text ≡ text → decoded_value (behind_colon (worded_parts eol (field name text) name text)) ≡ text
-parts_read eol name text true e h u b l s = ap (made_by eol name text) (plain_stays text u e) ∙ plain_read name text h e l s
-parts_read eol name text false e h u b l s = ap (made_by eol name text) (needed text u e) ∙ words_read eol name text h b l s
+parts_read eol name text true e h a u b l s = ap (made_by eol name text) (plain_stays text u e) ∙ plain_read name text h e l s
+parts_read eol name text false e h a u b l s =
+    ap (made_by eol name text) (needed text u e)
+    ∙ (ap (λ t. decoded_value (behind_colon (if t then address_field (field name text) name (worded_addresses eol text) else field name (words_encoded eol text)))) a ∙ words_read eol name text h b l s)
 
 pub worded_read : WordedFieldsAreRead
-worded_read eol name text n u b l s =
+worded_read eol name text n a u b l s =
     let h = (and_parts (not (is_nil name)) (list_all is_name_byte name) n).1 in
     ap (λ made. decoded_value (behind_colon made)) (field_worded eol name text h s)
-    ∙ parts_read eol name text (is_plain text) refl h u b l s
+    ∙ parts_read eol name text (is_plain text) refl h a u b l s

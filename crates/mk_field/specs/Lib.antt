@@ -1,5 +1,8 @@
 pub mod Asked
 pub mod RoundsAsked
+pub mod Addresses
+pub mod AddressLaws
+pub mod ScanViews
 pub mod Wording
 pub mod FieldForms
 pub mod Filtering

@@ -13,7 +13,7 @@ pub use journaling::Journal;
 pub use mk_expand::Pieces;
 pub use mk_field::{
     FieldFilter, FieldForm, Letter, LetterWord, LetterWords, Round, RoundLetters, ValueForm,
-    letters_of_rounds, rounds, rounds_of_words, run_field, try_field, word_laws,
+    letters_of_rounds, rounds, rounds_of_words, run_field, takes_words, try_field, word_laws,
 };
 pub use mk_show::{
     Folder, Manner, Portion, Report, Spec, UnpackOptions, laws, read_doc, run_extract, run_pack,

@@ -6,7 +6,7 @@ ghost use Rattle.mk_field.specs.RoundsAsked.{word_of};
 ghost use Rattle.mk_tool.specs.Found.{AreInOrder, letter_found, letters_found, placed_word, words_placed};
 
 use clap::ArgMatches;
-use mk_run::{Letter, LetterWord, LetterWords};
+use mk_run::{Letter, LetterWord, LetterWords, takes_words};
 use mk_words::options::{
     ADD, ADD_IF, DECODE, DROP, ENCODE, EOL, FIRST, LAST, ONLY, PREFIXED, PREPEND, RENAME, TAKE,
     UNFOLD, WHOLE,
@@ -120,6 +120,8 @@ const UNFOLD_ALONE: &str = "--unfold is for the values that -x prints";
 
 const DECODE_ALONE: &str = "--decode is for the values that -x prints";
 
+const AN_ADDRESS: &str = "--encode writes the names of addresses, and an address is ASCII: write 'From: Jörg <j@example.org>'";
+
 const ENCODE_ALONE: &str = "--encode is for the fields of -a, -A, -i and -I";
 
 const EOL_ALONE: &str = "--eol is for the fields of -a, -A, -i and -I";
@@ -162,6 +164,26 @@ pub fn why_no_values(
     }
     if matches.get_flag(EOL) && !adds_some {
         return Ok(Some(String::from_str(alloc, EOL_ALONE)?));
+    }
+    if matches.get_flag(ENCODE) {
+        why_no_words(alloc, words)
+    } else {
+        Ok(None)
+    }
+}
+
+// Why a field isn't written in encoded words, if one isn't: it holds an address that isn't ASCII.
+fn why_no_words(
+    alloc: Global,
+    words: &[(usize, LetterWord<'_>)],
+) -> Result<Option<String>, AllocError> {
+    for (_, word) in words {
+        if adds(word.letter) && !takes_words(alloc, word.word.as_bytes())? {
+            let (letter, _) = shown(word.letter);
+            let word = word.word;
+            let sentence = format!(in alloc; "invalid value '{word}' for '{letter}': {AN_ADDRESS}")?;
+            return Ok(Some(sentence));
+        }
     }
     Ok(None)
 }

@@ -175,6 +175,54 @@ message: A: 1\r\n\r\n
 output: A: 1\r\nB: =?utf-8?B?w6nDqcOpw6nDqcOpw6nDqcOpw6nDqcOpw6nDqcOpw6nDqcOpw6nDqcOpw6k=?=\r\n =?utf-8?B?w6k=?=\r\n\r\n
 status: Well
 
+== the name of an address
+only: From: Jörg Müller <j@x.org>
+message: A: 1\n\n
+output: A: 1\nFrom: =?utf-8?B?SsO2cmcgTcO8bGxlcg==?= <j@x.org>\n\n
+status: Well
+
+== a list of addresses, of which one is quoted and one has a comment, and a group
+only: To: "Ä, B" <a@b>, c@d (x, y), Gü: e@f, Ö <g@[IPv6:1::2]>;
+message: A: 1\n\n
+output: A: 1\nTo: =?utf-8?B?w4QsIEI=?= <a@b>, c@d (x, y), =?utf-8?B?R8O8?= : e@f, =?utf-8?B?w5Y=?= <g@[IPv6:1::2]>;\n\n
+status: Well
+
+== bytes that are escaped in quotes
+only: cc: "Ä \\"B\\" \\\\ C" <a@b>
+message: A: 1\n\n
+output: A: 1\ncc: =?utf-8?B?w4QgIkIiIFwgQw==?= <a@b>\n\n
+status: Well
+
+== a name that begins like an encoded word
+only: Resent-Cc: =?x?= <a@b>
+message: A: 1\n\n
+output: A: 1\nResent-Cc: =?utf-8?B?PT94Pz0=?= <a@b>\n\n
+status: Well
+
+== a name on two lines, and a long one
+only: Bcc: a@b,\r\n Ä\r\n B <c@d>, ÄÄÄÄÄÄÄÄÄÄÄÄÄÄÄÄÄÄÄÄÄÄÄÄÄÄÄÄÄÄ <e@f>
+message: A: 1\r\n\r\n
+output: A: 1\r\nBcc: a@b,\r\n =?utf-8?B?w4QgQg==?= <c@d>, =?utf-8?B?w4TDhMOEw4TDhMOEw4TDhMOEw4TDhMOEw4TDhMOEw4TDhMOEw4TDhMOEw4Q=?=\r\n =?utf-8?B?w4TDhMOEw4TDhMOEw4TDhA==?= <e@f>\r\n\r\n
+status: Well
+
+== addresses in ASCII go in as they are given
+only: To :  "A, B"  <a@b>
+message: A: 1\n\n
+output: A: 1\nTo :  "A, B"  <a@b>\n\n
+status: Well
+
+== an address that isn't ASCII goes in as it is given
+only: To: Ä <ä@b>
+message: A: 1\n\n
+output: A: 1\nTo: Ä <ä@b>\n\n
+status: Well
+
+== a name without an address goes in as it is given
+only: From: Jörg
+message: A: 1\n\n
+output: A: 1\nFrom: Jörg\n\n
+status: Well
+
 == a name and a colon alone
 only: A:
 message: A: 1\nB: 2\n\n

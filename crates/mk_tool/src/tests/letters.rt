@@ -172,6 +172,12 @@ message: A: 1\nB: 2\nA: 3\n\nx\n
 output: B: 2\nA: =?utf-8?B?w6Q=?=\n\nx\n
 status: Well
 
+== the name of an address in an encoded word
+words: field|--encode|-I|From: Jörg <j@x.org>
+message: B: 2\n\nx\n
+output: B: 2\nFrom: =?utf-8?B?SsO2cmc=?= <j@x.org>\n\nx\n
+status: Well
+
 == a field as it is given
 words: field|-I|A: ä
 message: A: 1\nB: 2\nA: 3\n\nx\n
@@ -197,6 +203,14 @@ words: field|-X|A:|-X|B:
 
 == a name without its colon in a later round
 words: field|-u|A:|-u|B
+
+== an address that isn't ASCII, in encoded words
+words: field|--encode|-I|From: ä@b
+begins: error: invalid value 'From: ä@b' for '-I <FIELD>': --encode writes the names of addresses
+
+== a name alone
+words: field|--encode|-A|A: ä|-A|Resent-To: Jörg
+begins: error: invalid value 'Resent-To: Jörg' for '-A <FIELD>': --encode writes the names of addresses
 
 == a letter that there isn't
 words: field|-r
