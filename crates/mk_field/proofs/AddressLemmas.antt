@@ -1,5 +1,5 @@
 -- Lists of addresses: their entries one by one, and what stays of them.
-use Rattle.std.proofs.Common.{◌≡◌, ◌&&◌, ◌++◌, if◌then◌else◌, ℕ, Bool, true, false, not, Option, None, Some, List, [], ◌∷◌, refl, ap, sym, ◌∙◌, inl, inr, append_assoc, length, take, arith}
+use Rattle.std.proofs.Common.{◌≡◌, ◌&&◌, ◌++◌, if◌then◌else◌, ℕ, Bool, true, false, Option, None, Some, List, [], ◌∷◌, refl, ap, sym, ◌∙◌, inl, inr, append_assoc, length, take, arith}
 use Rattle.std.specs.List.{flat_map}
 use Rattle.std.specs.Option.{option_map}
 use Rattle.std.specs.Str.{is_utf8}
@@ -9,7 +9,7 @@ use Rattle.mk_line.specs.declared.cutting.Ending.{Ending}
 use Rattle.mk_line.specs.Ascii.{colon}
 use Rattle.mk_head.specs.Values.{Scan, Plain, is_plain, scan}
 use Rattle.mk_mail.specs.Prepended.{needs_words}
-use Rattle.mk_field.specs.Addresses.{Entry, angle, are_ascii, before_mark, ends, entries, entry_before, from_mark, is_one_of, push_entry, worded_addresses, worded_entries, worded_entry, worded_name, worded_parts}
+use Rattle.mk_field.specs.Addresses.{Entry, angle, are_ascii, before_mark, ends, entries, entry_before, from_mark, is_one_of, push_entry, worded_entries, worded_entry, worded_name, worded_parts}
 use Rattle.mk_field.specs.AddressLaws.{AddressesStay, IsWordedAs, NamePart}
 
 -- the entries after an end, where there is one

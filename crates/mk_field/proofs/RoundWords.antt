@@ -6,7 +6,6 @@ use Rattle.mk_line.specs.declared.cutting.Ending.TheVariants.{Crlf, Lf}
 use Rattle.mk_mail.specs.Letters.{PlainLetters}
 use Rattle.mk_field.specs.declared.forms.FieldForm.{FieldForm}
 use Rattle.std.specs.List.{list_all}
-use Rattle.std.specs.Option.{option_map}
 use Rattle.mk_field.specs.Asked.{PlainWords, asked, have_colons, letters_asked}
 use Rattle.mk_field.specs.RoundsAsked.{PlainWord, is_given, letters_if, letters_in, no_words, round_if, round_in, rounds_asked, rounds_from, with_word}
 use Rattle.mk_mail.specs.Rounds.{PlainRound}

@@ -1,7 +1,7 @@
 -- Names in fields of addresses as encoded words (RFC 5322, 3.4; RFC 2047, 5; which names need them is own).
-use Rattle.std.specs.Prelude.{◌≡◌, ◌==◌, ◌&&◌, ◌||◌, ◌++◌, if◌then◌else◌, ℕ, Bool, true, false, Option, None, Some, List, [], ◌∷◌, codes, drop, nat_lt, take}
-use Rattle.std.specs.List.{flat_map, list_all, list_any, prefix_len}
-use Rattle.std.specs.Option.{option_and_then, option_map}
+use Rattle.std.specs.Prelude.{◌==◌, ◌&&◌, ◌||◌, ◌++◌, if◌then◌else◌, ℕ, Bool, true, false, Option, None, Some, List, [], ◌∷◌, codes, drop, nat_lt, take}
+use Rattle.std.specs.List.{list_all, list_any, prefix_len}
+use Rattle.std.specs.Option.{option_map}
 use Rattle.mk_line.specs.declared.cutting.Ending.{Ending}
 use Rattle.mk_line.specs.Ascii.{backslash, colon, quote, space}
 use Rattle.mk_line.specs.Marks.{trimmed}

@@ -1,12 +1,11 @@
 -- A text put into a field leaves the field's own bytes.
-use Rattle.std.proofs.Common.{◌≡◌, ◌==◌, ◌≤◌, ◌+◌, ◌-◌, ◌++◌, ◌||◌, if◌then◌else◌, ℕ, Bool, true, false, Option, None, Some, List, [], ◌∷◌, suc, refl, ap, sym, ◌∙◌, inl, inr, arith, drop, length, take, unwrap_or}
+use Rattle.std.proofs.Common.{◌≡◌, ◌==◌, ◌≤◌, ◌+◌, ◌-◌, if◌then◌else◌, ℕ, Bool, true, false, Option, None, Some, List, [], ◌∷◌, suc, refl, ap, sym, ◌∙◌, inl, inr, arith, drop, length, take, unwrap_or}
 use Rattle.std.specs.List.{list_all, prefix_len}
 use Rattle.std.proofs.lemmas.Bool.{cases_Bool}
 use Rattle.std.proofs.lemmas.List.{take-append-drop, take_all}
-use Rattle.mk_line.specs.declared.cutting.Ending.{Ending}
 use Rattle.mk_line.specs.Ascii.{colon, is_blank}
 use Rattle.mk_line.specs.Parting.{behind}
-use Rattle.mk_mail.specs.Prepended.{IsPutIn, PrependedFieldsKeepTheirBytes, is_break, is_white, prepended, said_at, text_before, text_place, value_of}
+use Rattle.mk_mail.specs.Prepended.{PrependedFieldsKeepTheirBytes, is_white, said_at, text_before, text_place, value_of}
 
 -- what follows the first byte of a kind is no longer than the whole
 behind_short : (field v : List ℕ) → behind colon field ≡ Some v → length v ≤ length field

@@ -1,5 +1,5 @@
 -- A text put before what fields say (own; the white space of a folded value RFC 5322, 2.2.3, encoded words RFC 2047).
-use Rattle.std.specs.Prelude.{◌≡◌, ◌==◌, ◌&&◌, ◌||◌, ◌+◌, ◌-◌, ◌++◌, if◌then◌else◌, ℕ, Bool, true, false, not, Option, None, Some, List, [], ◌∷◌, drop, length, nat_lt, take, unwrap_or}
+use Rattle.std.specs.Prelude.{◌≡◌, ◌==◌, ◌&&◌, ◌||◌, ◌+◌, ◌-◌, ◌++◌, if◌then◌else◌, ℕ, Bool, true, false, not, List, [], ◌∷◌, drop, length, nat_lt, take, unwrap_or}
 use Rattle.std.specs.List.{list_all, prefix_len}
 use Rattle.std.specs.Str.{is_utf8}
 use Rattle.mk_line.specs.declared.cutting.Ending.{Ending}

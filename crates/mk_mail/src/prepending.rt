@@ -1,7 +1,7 @@
 //! `--prepend`: a text put before what fields say.
 
-ghost use Rattle.std.specs.Prelude.{◌≡◌, ◌≢◌, ◌≤◌, ◌++◌, Some, IfOk, OnOk, length, map};
-ghost use Rattle.std.specs.List.{list_all, prefix_len};
+ghost use Rattle.std.specs.Prelude.{◌≡◌, ◌≢◌, ◌≤◌, Some, IfOk, length};
+ghost use Rattle.std.specs.List.{prefix_len};
 ghost use Rattle.mk_decide.specs.Edits.{SetField};
 ghost use Rattle.mk_decide.specs.Views.{edit_of};
 ghost use Rattle.mk_mail.specs.LetterViews.{prepend_of};
