@@ -32,7 +32,7 @@ use Rattle.mk_edit.proofs.GroupFacts.{groups_read_back_lem}
 use Rattle.mk_decide.proofs.Late.{IsFair, fair, told}
 use Rattle.mk_decide.proofs.SectionSites.{head_cut, head_is_run, site}
 use Rattle.mk_mail.specs.Filtered.{FilteredStayApart, IsFielded, LettersChangeFieldsAlone, filtered, filtered_in, outcome, text_left}
-use Rattle.mk_mail.specs.Letters.{PlainLetters, PlainPattern, Work, add_if_letter, added, added_full, dropped, edits_of, first_letter, is_bare, is_dropped, last_of, letter, made_old, name_in, next_number, old_name, only_letter, fields_at, letter_edits, prepend_letter, prepending, prefixed_letter, removed_all, rename_letter, renamed_all, respelling, respelt_all, names_at, root_path, same_name, those, untouched, worked}
+use Rattle.mk_mail.specs.Letters.{PlainLetters, PlainPattern, Work, add_if_letter, added, added_full, dropped, edits_of, first_letter, is_bare, is_dropped, last_of, letter, made_old, name_in, next_number, old_name, only_letter, fields_at, letter_edits, next_prepended, prepend_letter, prepending, prefixed_letter, removed_all, rename_letter, renamed_all, respelling, respelt_all, names_at, root_path, same_name, those, untouched, worked}
 use Rattle.mk_mail.specs.Prepended.{PlainPrepend}
 use Rattle.mk_mailbox.specs.Dates.{ends_with_date}
 use Rattle.mk_mail.proofs.FieldNames.{both_true}
@@ -141,7 +141,7 @@ prepending_root eol p o [] = tt
 prepending_root eol p None (f ∷ fs) = tt
 prepending_root eol p (Some k) (f ∷ fs) =
     elim (cases_Bool (is_named p.name f)) [
-      | inl t ↦ rw t (refl, prepending_root eol p (next_number k) fs)
+      | inl t ↦ rw t (refl, prepending_root eol p (next_prepended k) fs)
       | inr n ↦ rw n (prepending_root eol p (Some k) fs)
     ]
 

@@ -264,12 +264,20 @@ fields_at path text = fields_in (section_at path (tree text))
 abbrev pub names_at : List ℕ → List ℕ → List (List ℕ)
 names_at path text = map (λ f. f.name) (fields_at path text)
 
+-- how many fields of a name get a text before what they say: each is looked for from the first field on, and there may be very many (own)
+abbrev pub most_prepended : ℕ
+most_prepended = 100
+
+-- the number after a number, as far as fields get a text
+abbrev pub next_prepended : ℕ → Option ℕ
+next_prepended k = if nat_lt k most_prepended then Some (k + 1) else None
+
 -- the edits that put a text before what the fields of a name say, the next of which has a number, or none has
 abbrev pub prepending : List ℕ → Ending → PlainPrepend → Option ℕ → List FieldText → List PlainEdit
 prepending path eol p number [] = []
 prepending path eol p None (f ∷ fs) = []
 prepending path eol p (Some k) (f ∷ fs) =
-    if is_named p.name f then SetField path p.name k (prepended eol p.text f.raw) ∷ prepending path eol p (next_number k) fs
+    if is_named p.name f then SetField path p.name k (prepended eol p.text f.raw) ∷ prepending path eol p (next_prepended k) fs
     else prepending path eol p (Some k) fs
 
 -- `--prepend`, where it is asked for: it works before the other letters, and leaves the names of all fields

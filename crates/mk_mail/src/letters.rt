@@ -25,7 +25,7 @@ const ROOT: [u32; 1] = [1];
 /// ending of its last line. They work in this order, each on the fields that those before it left.
 #[derive(Debug, Drop)]
 pub struct Letters {
-    /// `--prepend`: puts a text before what the fields of a name say.
+    /// `--prepend`: puts a text before what the first hundred fields of a name say.
     pub prepend: Option<Prepend>,
     /// `--drop`: removes the fields of these names.
     pub drops: Vec<NamePattern>,

@@ -6,7 +6,7 @@ ghost use Rattle.mk_decide.specs.Edits.{SetField};
 ghost use Rattle.mk_decide.specs.Views.{edit_of};
 ghost use Rattle.mk_mail.specs.LetterViews.{prepend_of};
 ghost use Rattle.mk_mail.specs.LetterWork.{plain_edits};
-ghost use Rattle.mk_mail.specs.Letters.{fields_at, prepending};
+ghost use Rattle.mk_mail.specs.Letters.{fields_at, next_prepended, prepending};
 ghost use Rattle.mk_mail.specs.Prepended.{before_text as made_before_text, before_word as made_before_word, begins_word as word_begins, ends_blank as blank_ends, gap_after as gap_of, is_break as breaks, is_one_line as one_line, is_white as white, prepended as field_prepended, said_at as says_at, text_before as made_before, text_place as place_of};
 
 use crate::section_names::head_at;
@@ -17,6 +17,9 @@ use mk_head::each_field;
 use mk_line::{Ending, is_blank, is_name, leading_blanks, split_at_first, trimmed};
 use mk_tree::Doc;
 use std::alloc::{AllocError, Global};
+
+/// How many fields of a name get a text. Each edit looks for its field from the first on, so very many would take long.
+const MOST_PREPENDED: u32 = 100;
 
 const COLON: u8 = b':';
 
@@ -53,8 +56,7 @@ impl Prepend {
     }
 }
 
-/// The edits that put a text before what the fields of a name in the section at a path say, as far as numbers can name these
-/// fields.
+/// The edits that put a text before what the fields of a name in the section at a path say, the first hundred of them.
 pub(crate) fn prepend_edits(
     alloc: Global,
     doc: &Doc,
@@ -71,11 +73,22 @@ pub(crate) fn prepend_edits(
         if let Some(k) = next {
             if field.is_named(&prepend.name) {
                 edits.push(prepend_edit(alloc, path, prepend, k, field.raw, eol)?)?;
-                next = k.checked_add(1);
+                next = next_number(k);
             }
         }
     }
     Ok(edits)
+}
+
+// The number of the next field that gets the text, if one more does.
+fn next_number(k: u32) -> Option<u32>
+    ensures { result ≡ next_prepended k }
+{
+    if k < MOST_PREPENDED {
+        Some(k + 1)
+    } else {
+        None
+    }
 }
 
 // The edit that puts a text before what one of these fields says.
