@@ -45,7 +45,7 @@ FLAGS = {
     "pack": ["--inline", "--utf8"], "field": ["-s"],
 }
 for command in IN_PLACE:
-    FLAGS[command] = [*FLAGS.get(command, []), "--wait", "--tempfail"]
+    FLAGS[command] = [*FLAGS.get(command, []), "--tempfail"]
 
 # Values that a command's argument doesn't take: the words, the argument, the value, and what should stand there.
 VALUES = [
@@ -184,6 +184,9 @@ def said():
     for command in ("sections", "extract", "unpack", "pack"):
         yield (f"--in-place of {command}", [command, *NEEDED[command], "--in-place", "f"],
                ["unexpected argument '--in-place' found", f"Usage: mimetool {command}"])
+    for command in IN_PLACE:
+        yield (f"--wait of {command} twice", [command, *NEEDED[command], "--wait", "--wait=1"],
+               ["the argument '--wait[=<SECONDS>]' cannot be used multiple times", f"Usage: mimetool {command}"])
     yield "--from of pack", ["pack", *NEEDED["pack"], "--from", "f"], ["unexpected argument '--from' found", "Usage: mimetool pack"]
     for command, words, option in doubled():
         yield f"{option} of {command} twice", words, [f"the argument '{option}' cannot be used multiple times", f"Usage: mimetool {command}"]
