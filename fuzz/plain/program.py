@@ -78,7 +78,7 @@ def are_letters_valid(found):
 def are_valid(command, found, others):
     """Whether the words of a command are what it takes; this is asked before any file is read (own)."""
     if command == b"edit":
-        return b"-e" in found or bool(others)
+        return all(b"\n" not in line for line in found.get(b"-e", [])) and (b"-e" in found or bool(others))
     if command == b"pack":
         return bool(others or b"--forward" in found) and all(b":" in word for word in others)
     if command == b"extract" and listing.path_of(found[b"-s"]) is None:
