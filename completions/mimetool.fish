@@ -28,7 +28,8 @@ complete -c mimetool -n '__fish_seen_subcommand_from sections' -l json -d 'Print
 complete -c mimetool -n '__fish_seen_subcommand_from sections' -l utf8 -d 'With --json, give the names of unpack --utf8'
 complete -c mimetool -n '__fish_seen_subcommand_from edit' -l all -d 'Make all edits as one step, or none'
 complete -c mimetool -n '__fish_seen_subcommand_from edit' -l eol -d 'End the lines of pieces as those of the message'
-complete -c mimetool -n '__fish_seen_subcommand_from edit' -l explain -d 'Say why a line of the script is invalid'
+complete -c mimetool -n '__fish_seen_subcommand_from edit' -l explain -d 'Say why a line of the script is invalid, and what reasons mean'
+complete -c mimetool -n '__fish_seen_subcommand_from undo redo sections extract unpack pack field' -l explain -d 'Say what a reason means before the line that names it'
 complete -c mimetool -n '__fish_seen_subcommand_from edit' -s e -x -d 'A line of the script'
 complete -c mimetool -n '__fish_seen_subcommand_from edit' -F
 complete -c mimetool -n '__fish_seen_subcommand_from extract' -s s -x -d 'The path of the section'

@@ -120,7 +120,8 @@ const UNFOLD_ALONE: &str = "--unfold is for the values that -x prints";
 
 const DECODE_ALONE: &str = "--decode is for the values that -x prints";
 
-const AN_ADDRESS: &str = "--encode writes the names of addresses, and an address is ASCII: write 'From: Jörg <j@example.org>'";
+const AN_ADDRESS: &str =
+    "--encode writes the names of addresses, and an address is ASCII: write 'From: Jörg <j@example.org>'";
 
 const ENCODE_ALONE: &str = "--encode is for the fields of -a, -A, -i and -I";
 
@@ -181,7 +182,9 @@ fn why_no_words(
         if adds(word.letter) && !takes_words(alloc, word.word.as_bytes())? {
             let (letter, _) = shown(word.letter);
             let word = word.word;
-            let sentence = format!(in alloc; "invalid value '{word}' for '{letter}': {AN_ADDRESS}")?;
+            let sentence = format!(in alloc;
+                "invalid value '{word}' for '{letter}': {AN_ADDRESS}"
+            )?;
             return Ok(Some(sentence));
         }
     }

@@ -4,6 +4,7 @@
 mod commands;
 mod editing;
 mod endings;
+mod explaining;
 mod faults;
 mod files;
 mod letters;

@@ -2,6 +2,7 @@
 
 use crate::commands::run_command;
 use crate::endings::Ending;
+use crate::explaining::Explained;
 use crate::faults::{Problem, report, say_usage, usage};
 use crate::files::open;
 use crate::words::check_words;
@@ -11,7 +12,7 @@ use mk_mail::{Sink, Source};
 use mk_run::{Cause, Status, give_up, write_all};
 use mk_system::{EditedFile, Input, MaybePipe};
 use mk_words::hints::with_hint;
-use mk_words::options::{FROM, IN_PLACE, command};
+use mk_words::options::{EXPLAIN, FROM, IN_PLACE, command};
 use mk_words::waiting::{is_temporary, limit};
 use std::alloc::{AllocError, Global};
 use std::fs::File;
@@ -56,7 +57,7 @@ pub fn obey<R: Files<File = File> + Clock + AllocGlobal, S: Source, O: MaybePipe
     match command.try_get_matches_from(words) {
         Ok(matches) => match matches.subcommand() {
             Some((name, matches)) => Ending {
-                status: match start(rt, name, matches, input, out, err) {
+                status: match start_told(rt, name, matches, input, out, err) {
                     Ok(status) => status,
                     Err(problem) => end(alloc, name, &problem, out, err),
                 },
@@ -65,6 +66,23 @@ pub fn obey<R: Files<File = File> + Clock + AllocGlobal, S: Source, O: MaybePipe
             None => Ending::lasting(usage(err)),
         },
         Err(error) => Ending::lasting(show(alloc, words, &error, out, err)),
+    }
+}
+
+// Runs a subcommand, with its reasons in words where that is asked for.
+fn start_told<R: Files<File = File> + Clock + AllocGlobal, S: Source, O: Sink, E: Sink>(
+    rt: &R,
+    name: &str,
+    matches: &ArgMatches<'_>,
+    input: &mut S,
+    out: &mut O,
+    err: &mut E,
+) -> Result<Status, Problem> {
+    if matches.get_flag(EXPLAIN) {
+        let mut told = Explained::over(name, err);
+        start(rt, name, matches, input, out, &mut told)
+    } else {
+        start(rt, name, matches, input, out, err)
     }
 }
 

@@ -3,6 +3,7 @@
 mod commands;
 mod devices;
 mod directory;
+mod explained;
 mod faults;
 mod files;
 mod forwarded;

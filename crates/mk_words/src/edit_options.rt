@@ -2,7 +2,7 @@
 
 use crate::mailbox_options::with_number;
 use crate::options::{
-    ALL, EDIT, EOL, EXPLAIN, JOURNAL, LINE, NUMBER, PIECE, REDO, SCRIPT, UNDO, flag, from,
+    ALL, EDIT, EOL, EXPLAIN, JOURNAL, LINE, NUMBER, PIECE, REDO, SCRIPT, UNDO, explain, flag, from,
     in_place, with_wait,
 };
 use crate::script_words::EDIT_HELP;
@@ -18,7 +18,8 @@ pub fn undo_command<'a>(alloc: Global) -> Result<Command<'a>, AllocError> {
         )
         .arg(from(alloc))?
         .arg(in_place(alloc)?)?
-        .arg(journal(alloc).required(true))?;
+        .arg(journal(alloc).required(true))?
+        .arg(explain(alloc))?;
     with_wait(alloc, command)
 }
 
@@ -31,7 +32,8 @@ pub fn redo_command<'a>(alloc: Global) -> Result<Command<'a>, AllocError> {
         )
         .arg(from(alloc))?
         .arg(in_place(alloc)?)?
-        .arg(journal(alloc).required(true))?;
+        .arg(journal(alloc).required(true))?
+        .arg(explain(alloc))?;
     with_wait(alloc, command)
 }
 
@@ -77,7 +79,7 @@ pub fn edit_command<'a>(alloc: Global) -> Result<Command<'a>, AllocError> {
         .arg(flag(
             alloc,
             EXPLAIN,
-            "Say why a line of SCRIPT is invalid; for -e this is always said",
+            "Say why a line of SCRIPT is invalid, as is always said for -e, and what the reason of a refused line means",
         )
         .long(EXPLAIN))?
         .arg(line)?

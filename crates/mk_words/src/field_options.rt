@@ -3,7 +3,7 @@
 use crate::mailbox_options::rfc4155;
 use crate::options::{
     ADD, ADD_IF, DECODE, DROP, EACH, ENCODE, EOL, FIELD, FIRST, LAST, ONLY, PATH, PREFIXED,
-    PREPEND, REFUSED_OK, RENAME, TAKE, UNFOLD, WHOLE, flag, from, in_place, with_wait,
+    PREPEND, REFUSED_OK, RENAME, TAKE, UNFOLD, WHOLE, explain, flag, from, in_place, with_wait,
 };
 use clap::{Arg, ArgAction, Command};
 use std::alloc::{AllocError, Global};
@@ -125,6 +125,7 @@ fn with_flags<'a>(alloc: Global, command: Command<'a>) -> Result<Command<'a>, Al
             "Exit with 0 where an edit is refused; it is reported all the same",
         )
         .long(REFUSED_OK))?
+        .arg(explain(alloc))?
         .arg(flag(
             alloc,
             EACH,

@@ -7,5 +7,6 @@ pub mod hints;
 mod mailbox_options;
 pub mod options;
 mod pack_options;
+pub mod reasons;
 mod script_words;
 pub mod waiting;

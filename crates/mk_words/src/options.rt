@@ -28,7 +28,7 @@ pub const ALL: &str = "all";
 /// `--eol`: pieces get the endings of the message.
 pub const EOL: &str = "eol";
 
-/// `--explain`: why a line of the script is invalid.
+/// `--explain`: what reasons mean, and why a line of the script is invalid.
 pub const EXPLAIN: &str = "explain";
 
 /// `--from FILE`: the file to read the message from.
@@ -265,7 +265,7 @@ fn wait<'a>(alloc: Global) -> Arg<'a> {
         .action(ArgAction::Set)
 }
 
-// mimetool sections [-n N [--rfc4155] [--unquote]] [--json [--utf8]]
+// mimetool sections [-n N [--rfc4155] [--unquote]] [--json [--utf8]] [--explain]
 fn sections_command<'a>(alloc: Global) -> Result<Command<'a>, AllocError> {
     let command = Command::new(alloc, SECTIONS)
         .about("Lists the sections of the message, one a line")
@@ -277,7 +277,8 @@ fn sections_command<'a>(alloc: Global) -> Result<Command<'a>, AllocError> {
         .arg(utf8(
             alloc,
             "With --json, give the names that unpack --utf8 gives",
-        ))?;
+        ))?
+        .arg(explain(alloc))?;
     with_number(alloc, command)
 }
 
@@ -315,7 +316,8 @@ fn extract_command<'a>(alloc: Global) -> Result<Command<'a>, AllocError> {
             .long(PREFIX)
             .conflicts_with(RAW)?
             .conflicts_with(HEAD)?,
-        )?;
+        )?
+        .arg(explain(alloc))?;
     with_number(alloc, command)
 }
 
@@ -352,8 +354,19 @@ fn unpack_command<'a>(alloc: Global) -> Result<Command<'a>, AllocError> {
             alloc,
             "Name files in UTF-8, as the message says, not in ASCII alone",
         ))?
-        .arg(dir)?;
+        .arg(dir)?
+        .arg(explain(alloc))?;
     with_number(alloc, command)
+}
+
+/// --explain
+pub fn explain<'a>(alloc: Global) -> Arg<'a> {
+    flag(
+        alloc,
+        EXPLAIN,
+        "Say what a reason means before the line that names it",
+    )
+    .long(EXPLAIN)
 }
 
 /// An option without a value.

@@ -1,7 +1,7 @@
 //! The words of `pack`.
 
 use crate::options::{
-    BOUNDARY, CHARSET, EOL, FORWARD, INLINE, PACK, PART, SPEC, SUBTYPE, flag, utf8,
+    BOUNDARY, CHARSET, EOL, FORWARD, INLINE, PACK, PART, SPEC, SUBTYPE, explain, flag, utf8,
 };
 use clap::{Arg, ArgAction, Command};
 use std::alloc::{AllocError, Global};
@@ -65,6 +65,7 @@ fn with_parts<'a>(alloc: Global, command: Command<'a>) -> Result<Command<'a>, Al
             alloc,
             "Write names of files that aren't ASCII as they are, too, for unpack --utf8",
         ))?
+        .arg(explain(alloc))?
         .arg(specs(alloc)?)
 }
 

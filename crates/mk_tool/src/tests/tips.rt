@@ -17,18 +17,22 @@ fn pieces_without_an_empty_line_are_told(rt: HostRuntime) -> Result<(), Fail> {
     fs::create_dir_all(&rt, folder)?;
     fs::write(&rt, fields, "Note: two\n")?;
     fs::write(&rt, part, "A: 1\n\ntwo\n")?;
-    let told = b"script: line 1: piece 1 has no empty line, so its lines are read as fields; append-text takes them as a text\n";
+    let told =
+        b"script: line 1: piece 1 has no empty line, so its lines are read as fields; append-text takes them as a text\n";
     let found = obeyed(&rt, &["edit", "-e", "append 1 1", fields], MULTIPART)?;
-    let output = b"Content-Type: multipart/mixed; boundary=b\n\n--b\n\none\n--b\nNote: two\n--b--\n";
+    let output =
+        b"Content-Type: multipart/mixed; boundary=b\n\n--b\n\none\n--b\nNote: two\n--b--\n";
     same(&rt, &found, output, told, Status::Well);
     let words = ["edit", "--all", "-e", "append 1 1", fields];
     let found = obeyed(&rt, &words, MULTIPART)?;
     same(&rt, &found, output, told, Status::Well);
     let found = obeyed(&rt, &["edit", "-e", "append-text 1 1", fields], MULTIPART)?;
-    let output = b"Content-Type: multipart/mixed; boundary=b\n\n--b\n\none\n--b\n\nNote: two\n\n--b--\n";
+    let output =
+        b"Content-Type: multipart/mixed; boundary=b\n\n--b\n\none\n--b\n\nNote: two\n\n--b--\n";
     same(&rt, &found, output, b"", Status::Well);
     let found = obeyed(&rt, &["edit", "-e", "append 1 1", part], MULTIPART)?;
-    let output = b"Content-Type: multipart/mixed; boundary=b\n\n--b\n\none\n--b\nA: 1\n\ntwo\n--b--\n";
+    let output =
+        b"Content-Type: multipart/mixed; boundary=b\n\n--b\n\none\n--b\nA: 1\n\ntwo\n--b--\n";
     same(&rt, &found, output, b"", Status::Well);
     fs::remove_dir_all(&rt, folder)?;
     Ok(())

@@ -1,0 +1,95 @@
+//! Reasons in words, before the lines that name them (`--explain`).
+
+ghost use Rattle.std.specs.Prelude.{◌≡◌, None};
+ghost use Rattle.mk_line.specs.Meters.{ticked};
+
+use mk_mail::{Fault, Sink};
+use mk_run::write_all;
+use mk_words::reasons::told;
+
+const LINE_FEED: u8 = b'\n';
+
+/// Errors with reasons in words: a line that names a reason comes after one that says what it means.
+#[derive(Drop)]
+pub struct Explained<'a, E: Sink> {
+    command: &'a str,
+    err: &'a mut E,
+    // Whether a line has begun.
+    is_inside: bool,
+    faults: u64,
+    is_finished: bool,
+}
+
+impl<'a, E: Sink> Explained<'a, E> {
+    /// The errors of a subcommand.
+    pub fn over(command: &'a str, err: &'a mut E) -> Self {
+        Explained {
+            command,
+            err,
+            is_inside: false,
+            faults: 0,
+            is_finished: false,
+        }
+    }
+
+    // Says what a line means, where it names a reason. What can't be written isn't: the line itself is tried next.
+    fn tell(&mut self, line: &[u8]) {
+        if let Some((about, sentence)) = told(self.command, line) {
+            let _ = write_all(self.err, about);
+            let _ = write_all(self.err, sentence.as_bytes());
+            let _ = write_all(self.err, b"\n");
+        }
+    }
+}
+
+// The first line of a piece, with its line feed.
+fn first_line(piece: &[u8]) -> &[u8] {
+    match piece.iter().position(|byte| *byte == LINE_FEED) {
+        Some(place) => piece
+            .split_at_checked(place.saturating_add(1))
+            .map_or(piece, |parts| parts.0),
+        None => piece,
+    }
+}
+
+impl<E: Sink> Sink for Explained<'_, E> {
+    ghost contents = { λ _. None };
+
+    ghost failures = { λ s. s.faults };
+
+    ghost finished = { λ s. s.is_finished };
+
+    fn write(&mut self, piece: &[u8]) -> Result<usize, Fault> {
+        let line = first_line(piece);
+        if !self.is_inside {
+            self.tell(line);
+        }
+        match self.err.write(line) {
+            Ok(count) if count > 0 || piece.is_empty() => {
+                self.is_inside = count < line.len() || line.last() != Some(&LINE_FEED);
+                Ok(count)
+            }
+            _ => {
+                self.faults = self.faults.saturating_add(1);
+                Err(Fault)
+            }
+        }
+    }
+
+    fn finish(&mut self) -> Result<(), Fault> {
+        match self.err.finish() {
+            Ok(()) => {
+                self.is_finished = true;
+                Ok(())
+            }
+            Err(fault) => {
+                self.faults = self.faults.saturating_add(1);
+                Err(fault)
+            }
+        }
+    }
+
+    fn faults(&self) -> u64 {
+        self.faults
+    }
+}

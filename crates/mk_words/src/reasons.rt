@@ -1,0 +1,126 @@
+//! What the reasons that lines name mean.
+
+use crate::options::PACK;
+
+/// What stands between what a line is about and the name of the reason.
+const COLON: &[u8] = b": ";
+
+/// The names of reasons, and each in words.
+const REASONS: [(&str, &str); 25] = [
+    (
+        "NoSuchSection",
+        "there is no section at this path; the listing has the paths",
+    ),
+    (
+        "NotMultipart",
+        "this section isn't a multipart; 'wrap' makes one of it",
+    ),
+    (
+        "NotLeaf",
+        "this section isn't a leaf; 'replace' puts another one in its place",
+    ),
+    ("NotPart", "this section isn't a part of a multipart"),
+    ("NoSuchField", "the section has no such field of this name"),
+    ("BadPlace", "the multipart has fewer parts than that"),
+    (
+        "BadField",
+        "this isn't exactly one field; write a name, a colon and a value",
+    ),
+    ("BadName", "this name can't be written"),
+    (
+        "BadBoundary",
+        "a boundary has 1 to 70 letters, digits and signs of '()+_,-./:=?, and spaces but at its end",
+    ),
+    ("BadSubtype", "this isn't a token, such as mixed"),
+    (
+        "OpenLine",
+        "a line without an ending would stand before another line; put the field at the top, or end that line first",
+    ),
+    (
+        "HoldsBoundary",
+        "a line would be read as a delimiter of a multipart; write another line, or take another boundary",
+    ),
+    ("Recut", "the message would be read in another way"),
+    ("NothingToUndo", "no step is done"),
+    (
+        "NothingToRedo",
+        "no step is undone, or an edit has taken its place",
+    ),
+    ("UnknownEncoding", "this transfer encoding isn't known"),
+    (
+        "BadBase64",
+        "the content isn't whole base64; 'extract --prefix' prints what decodes of it",
+    ),
+    ("BadType", "this media type can't be attached"),
+    (
+        "BadCharset",
+        "these bytes aren't a text in this charset; 'content --charset' says another one",
+    ),
+    (
+        "BinaryContent",
+        "the content has a NUL or a line of more than 998 bytes; encode it as qp or base64",
+    ),
+    ("NoSuchMessage", "the mailbox has fewer messages"),
+    ("JournalSyntax", "this file isn't a journal"),
+    (
+        "JournalOther",
+        "the journal belongs to another message, or to this one as it was before it was changed without it",
+    ),
+    (
+        "JournalMismatch",
+        "a step of the journal doesn't fit the message",
+    ),
+    (
+        "exists",
+        "files have this name and its numbers; '-f' replaces them",
+    ),
+];
+
+/// The reasons that are something else when a message is packed.
+const PACK_REASONS: [(&str, &str); 4] = [
+    (
+        "BadField",
+        "this isn't exactly one field, or it is one that pack makes, or more than fields stands on standard input",
+    ),
+    (
+        "BadType",
+        "this media type can't be attached; '--forward' takes a message, and '--charset' says a charset",
+    ),
+    (
+        "BadName",
+        "this name of a file can't be written; '--utf8' writes names that aren't ASCII",
+    ),
+    ("BadCharset", "this isn't a token, such as utf-8"),
+];
+
+/// What a line is about, with the colon after it, and what the reason that it names means. `None` where it names none.
+pub fn told<'a>(command: &str, line: &'a [u8]) -> Option<(&'a [u8], &'static str)> {
+    let (about, name) = parts(line)?;
+    Some((about, sentence(command, name)?))
+}
+
+// What a line is about, with the colon after it, and the name that follows.
+fn parts(line: &[u8]) -> Option<(&[u8], &[u8])> {
+    let place = line.windows(COLON.len()).position(|pair| pair == COLON)?;
+    let (about, rest) = line.split_at_checked(place.saturating_add(COLON.len()))?;
+    let end = rest
+        .iter()
+        .position(|byte| byte.is_ascii_whitespace())
+        .unwrap_or(rest.len());
+    let (name, _) = rest.split_at_checked(end)?;
+    Some((about, name))
+}
+
+// What a reason means.
+fn sentence(command: &str, name: &[u8]) -> Option<&'static str> {
+    let own = PACK_REASONS
+        .iter()
+        .find(|row| command == PACK && row.0.as_bytes() == name);
+    match own {
+        Some(row) => Some(row.1),
+        None => REASONS
+            .iter()
+            .find(|row| row.0.as_bytes() == name)
+            .map(|row| row.1),
+    }
+}
