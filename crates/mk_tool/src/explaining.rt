@@ -1,6 +1,6 @@
 //! Reasons in words, before the lines that name them (`--explain`).
 
-ghost use Rattle.std.specs.Prelude.{◌≡◌, None};
+ghost use Rattle.std.specs.Prelude.{◌≡◌, ◌≤◌, length, None};
 ghost use Rattle.mk_line.specs.Meters.{ticked};
 
 use mk_mail::{Fault, Sink};
@@ -33,23 +33,43 @@ impl<'a, E: Sink> Explained<'a, E> {
     }
 
     // Says what a line means, where it names a reason. What can't be written isn't: the line itself is tried next.
-    fn tell(&mut self, line: &[u8]) {
+    fn tell(&mut self, line: &[u8])
+        ensures counted { self.new.faults ≡ self.old.faults }
+        ensures unfinished { self.new.is_finished ≡ self.old.is_finished }
+    {
         if let Some((about, sentence)) = told(self.command, line) {
             let _ = write_all(self.err, about);
             let _ = write_all(self.err, sentence.as_bytes());
             let _ = write_all(self.err, b"\n");
         }
     }
+
+    // Counts a failure.
+    fn fail(&mut self) -> Fault
+        ensures counted { self.new.faults ≡ ticked self.old.faults }
+        ensures unfinished { self.new.is_finished ≡ self.old.is_finished }
+    {
+        self.faults = self.faults.saturating_add(1);
+        Fault
+    }
 }
 
 // The first line of a piece, with its line feed.
-fn first_line(piece: &[u8]) -> &[u8] {
+fn first_line(piece: &[u8]) -> &[u8]
+    ensures { length result.now ≤ length piece.now }
+{
     match piece.iter().position(|byte| *byte == LINE_FEED) {
-        Some(place) => piece
-            .split_at_checked(place.saturating_add(1))
-            .map_or(piece, |parts| parts.0),
+        Some(place) => match piece.split_at_checked(place.saturating_add(1)) {
+            Some((line, _)) => line,
+            None => piece,
+        },
         None => piece,
     }
+}
+
+// Whether a line ends with so many of its bytes.
+fn ends(line: &[u8], count: usize) -> bool {
+    count == line.len() && line.last() == Some(&LINE_FEED)
 }
 
 impl<E: Sink> Sink for Explained<'_, E> {
@@ -65,14 +85,12 @@ impl<E: Sink> Sink for Explained<'_, E> {
             self.tell(line);
         }
         match self.err.write(line) {
-            Ok(count) if count > 0 || piece.is_empty() => {
-                self.is_inside = count < line.len() || line.last() != Some(&LINE_FEED);
+            Ok(0) if !piece.is_empty() => Err(self.fail()),
+            Ok(count) => {
+                self.is_inside = !ends(line, count);
                 Ok(count)
             }
-            _ => {
-                self.faults = self.faults.saturating_add(1);
-                Err(Fault)
-            }
+            Err(_) => Err(self.fail()),
         }
     }
 
@@ -82,10 +100,7 @@ impl<E: Sink> Sink for Explained<'_, E> {
                 self.is_finished = true;
                 Ok(())
             }
-            Err(fault) => {
-                self.faults = self.faults.saturating_add(1);
-                Err(fault)
-            }
+            Err(_) => Err(self.fail()),
         }
     }
 
