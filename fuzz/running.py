@@ -85,8 +85,25 @@ class Program:
         return Answer(status, output, errors, self.left())
 
 
-def differences(expected, found):
+def are_told(expected, found):
+    """Whether each line that names a reason comes after one with the same front, which says what it means (`--explain`)."""
+    lines = found.splitlines(True)
+    for wanted in expected.splitlines(True):
+        front = wanted.split(b": ")[0] + b": "
+        if not wanted.startswith(b"script: ") and not (lines and lines.pop(0).startswith(front)):
+            return False
+        if not lines or lines.pop(0) != wanted:
+            return False
+    return not lines
+
+
+def differences(expected, found, words):
     """Names of what isn't as it should be."""
     names = [name for name in ("status", "output", "files") if getattr(expected, name) != getattr(found, name)]
-    same = found.errors.endswith(expected.errors) if expected.loose else found.errors == expected.errors
+    if expected.loose:
+        same = found.errors.endswith(expected.errors)
+    elif b"--explain" in words:
+        same = are_told(expected.errors, found.errors)
+    else:
+        same = found.errors == expected.errors
     return names + ([] if same else ["errors"])

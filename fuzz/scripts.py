@@ -16,9 +16,9 @@ FAULTY_LINES = [b" ", b"undo ", b"Undo", b"add", b"add 1", b"del 1 A", b"del 1 A
 SUBTYPES = [b"mixed", b"mixed", b"digest", b"Digest", b"alternative", b"x-y", b"a/b", b"\xff", b"mi\txed", b"\"x\""]
 LIMITS = [b"0", b"1", b"2", b"99999999999999999999", b"100000000000000000000", b"18446744073709551615", b"18446744073709551616", b"01", b"-1"]
 WORDS = [("add", 5), ("top", 3), ("del", 3), ("ren", 3), ("set", 3), ("body", 3), ("replace", 3), ("insert", 9), ("remove", 4), ("wrap", 5),
-         ("content", 4), ("encode", 4), ("put", 3), ("put-piece", 2), ("drop", 2), ("append", 4), ("attach", 3), ("undo", 4), ("redo", 2)]
-OF_LEAVES, OF_MULTIPARTS = ("body", "content", "encode"), ("insert", "append", "attach")
-OF_PIECES = ("body", "replace", "insert", "content", "put-piece", "append", "attach")
+         ("content", 4), ("encode", 4), ("put", 3), ("put-piece", 2), ("drop", 2), ("append", 4), ("append-text", 3), ("attach", 3), ("undo", 4), ("redo", 2)]
+OF_LEAVES, OF_MULTIPARTS = ("body", "content", "encode"), ("insert", "append", "append-text", "attach")
+OF_PIECES = ("body", "replace", "insert", "content", "put-piece", "append", "append-text", "attach")
 FILES = [b"n.txt", b"a/b.gif", b"x", b"-n", b"a/", b"a\\b", b"q\"q", b"\xc3\xa9", b"n" * 101]
 TYPES = [b"text/plain", b"image/gif", b"application/x-y", b"TEXT/html", b"multipart/mixed", b"message/rfc822", b"text", b"a/" + b"b" * 99]
 

@@ -2,7 +2,7 @@
 
 from dataclasses import dataclass, replace
 
-from . import edits, encodings, fields, lines, listing, packing, tree
+from . import edits, encodings, fields, lines, listing, packing, tree, values
 
 
 class Fault(Exception):
@@ -18,17 +18,49 @@ class Job:
     name: bytes = b""
     media: bytes = b""
     paths: tuple = ()
+    given: bytes = b""      # the piece as it is, whatever its text became
+    piece: int = 0
 
 
 ENCODINGS = {b"qp": b"quoted-printable", b"base64": b"base64", b"8bit": b"8bit"}
-TURNED = ("body", "replace", "insert", "content", "put-piece", "append")
+TURNED = ("body", "replace", "insert", "content", "put-piece", "append", "append-text")
+LONGEST = 998
 
 
 def turned(step, ending):
-    """With `--eol` the lines of a piece get the ending of the message; a file that is attached stays as it is (own)."""
-    if step.word not in TURNED:
+    """With `--eol` the lines of a piece get the ending of the message; a file that is attached stays as it is, but for texts (own)."""
+    if step.word not in TURNED and not (step.word == "attach" and is_text(step.media)):
         return step
     return replace(step, text=lines.turned(step.text, ending))
+
+
+def is_text(media):
+    """A media type of texts is `text`, in any case, before a slash (RFC 2046, 4.1)."""
+    main, slash, _ = media.partition(b"/")
+    return bool(slash) and main.lower() == b"text"
+
+
+def is_utf8(text):
+    try:
+        text.decode()
+    except UnicodeDecodeError:
+        return False
+    return True
+
+
+def may_hold(found, text):
+    """A text in us-ascii has bytes below 128, one in utf-8 is UTF-8; text/plain without a charset is us-ascii (RFC 2046, 4.1.2)."""
+    charset = (values.parameter(found, b"charset") or b"").lower()
+    if found.main != b"text":
+        return True
+    if values.parameter(found, b"charset") is None:
+        return found.sub != b"plain" or text.isascii()
+    return {b"us-ascii": bytes.isascii, b"utf-8": is_utf8}.get(charset, lambda _: True)(text)
+
+
+def may_stand(text):
+    """Without an encoding there is no NUL, and no line of more than 998 bytes (RFC 2045, 2.8)."""
+    return b"\0" not in text and all(len(line.content) <= LONGEST for line in lines.cut(text))
 
 
 def divided(text, ending):
@@ -41,11 +73,14 @@ def content(job, document, section, ending):
     if section is None or not isinstance(section.entity.body, tree.Leaf):
         return [edits.Edit("body", job.path, text=job.text)]
     name = tree.encoding_of(section.entity.fields)
+    given = job.given if name == b"base64" else job.text
+    if not may_hold(tree.type_of(section.entity.fields, section.default), given):
+        raise Fault("BadCharset")
     encode = {b"identity": lambda text, _: text, b"quoted-printable": encodings.quoted_printable_encoded,
               b"base64": encodings.base64_encoded}.get(name)
     if encode is None:
         raise Fault("UnknownEncoding")
-    text = encode(job.text, ending)
+    text = encode(given, ending)
     return [edits.Edit("body", job.path, text=divided(text, ending) if tree.is_followed(document, section) else text)]
 
 
@@ -57,6 +92,8 @@ def encode(job, document, section, ending):
         content = listing.content(document, section)
     except encodings.Refused as reason:
         raise Fault(str(reason)) from None
+    if job.name == b"8bit" and not may_stand(content):
+        raise Fault("BinaryContent")
     said = b"Content-Transfer-Encoding: " + ENCODINGS[job.name] + ending
     encoders = {b"qp": encodings.quoted_printable_encoded, b"base64": encodings.base64_encoded, b"8bit": lambda text, _: text}
     text = encoders[job.name](content, ending)
@@ -103,7 +140,15 @@ def attach(job, document, section, ending):
     return append(replace(job, text=part + ending if followed else part), document, section, ending)
 
 
-MEANINGS = {"content": content, "encode": encode, "put": put, "drop": drop, "append": append, "attach": attach}
+def append_text(job, document, section, ending):
+    """A text goes after the others as a part without fields, apart from the line that is to follow it (RFC 2046, 5.1)."""
+    parts = tree.children(section) if section else []
+    followed = section is not None and (not parts or tree.is_followed(document, parts[-1]))
+    text = divided(job.text, ending) if followed else job.text
+    return append(replace(job, text=ending + text), document, section, ending)
+
+
+MEANINGS = {"append-text": append_text, "content": content, "encode": encode, "put": put, "drop": drop, "append": append, "attach": attach}
 
 
 def meaning(step, document, ending):

@@ -99,7 +99,7 @@ def run_edit(command, found, others, message, files):
         script, pieces = file_of(files, others[0]), others[1:]
     given = [file_of(files, name) for name in pieces]
     output, errors, status, left = scripts.run(message, script, given, files.get(journal), journal is not None, b"--all" in found,
-                                                b"--eol" in found)
+                                                b"--eol" in found, b"-e" in found or b"--explain" in found)
     return output, errors, status, {**files, journal: left} if left is not None else files
 
 

@@ -4,7 +4,7 @@ from . import edits, jobs, journals, lines, listing, session
 
 PATH_NUMBERS = 101
 WORDS = {"add": 3, "top": 3, "del": 4, "ren": 5, "set": 5, "body": 3, "replace": 3, "insert": 4, "remove": 2, "wrap": 4,
-         "content": 3, "encode": 3, "put": 3, "put-piece": 3, "drop": 3, "append": 3, "attach": 5}
+         "content": 3, "encode": 3, "put": 3, "put-piece": 3, "drop": 3, "append": 3, "append-text": 3, "attach": 5}
 REST = ("add", "top", "set", "wrap", "put")
 
 
@@ -42,6 +42,14 @@ def word_of(given):
     return given
 
 
+def name_of(given):
+    """The name of fields may have its colon (RFC 5322, 2.2; own)."""
+    name = given.removesuffix(b":")
+    if not lines.is_name(name):
+        raise Fault
+    return name
+
+
 def parts_of(content):
     """Words are parted by one space; the last of some is the rest of the line (own)."""
     word = content.split(b" ")[0].decode("latin-1")
@@ -65,10 +73,11 @@ def job_of(word, given, pieces):
             raise Fault
         return jobs.Job(word, where, name=given[1])
     if word == "drop":
-        return jobs.Job(word, where, name=word_of(given[1]))
+        return jobs.Job(word, where, name=name_of(given[1]))
     if word == "attach":
         return jobs.Job(word, where, text=piece(given[3], pieces), name=word_of(given[2]), media=word_of(given[1]))
-    return jobs.Job(word, where, text=piece(given[1], pieces))
+    text = piece(given[1], pieces)
+    return jobs.Job(word, where, text=text, given=text, piece=int(given[1]))
 
 
 def edit_of(content, pieces):
@@ -156,14 +165,23 @@ def obey(history, steps, turned):
     return errors
 
 
-def run(message, script, pieces, journal=None, journaled=False, as_one=False, turned=False):
+def told(steps):
+    """A piece of `append` without an empty line is read as fields, which is said (own)."""
+    rest = b"has no empty line, so its lines are read as fields; append-text takes them as a text\n"
+    appended = [(at, job) for at, job in steps if isinstance(job, jobs.Job) and job.word == "append" and job.text]
+    return b"".join(b"script: line %d: piece %d " % (at, job.piece) + rest
+                    for at, job in appended if all(line.content for line in lines.cut(job.text)))
+
+
+def run(message, script, pieces, journal=None, journaled=False, as_one=False, turned=False, explained=False):
     """Syntax, journal, lines, message, journal, in this order (own): output, errors, status, journal."""
     steps, fault = (parsed_as_one if as_one else parsed)(script, pieces)
     if fault:
         return b"", b"script: line %d: syntax\n" % fault, 2, journal
+    notes = told(steps) if explained else b""
     try:
         history = session.Session(message) if journal is None else journals.loaded(message, journal)
     except journals.Refused as reason:
-        return b"", b"journal: " + str(reason).encode() + b"\n", 1, journal
+        return b"", notes + b"journal: " + str(reason).encode() + b"\n", 1, journal
     errors = obey(history, steps, turned)
-    return history.text(), errors, 1 if errors else 0, journals.saved(history) if journaled else None
+    return history.text(), notes + errors, 1 if errors else 0, journals.saved(history) if journaled else None

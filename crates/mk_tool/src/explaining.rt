@@ -67,11 +67,6 @@ fn first_line(piece: &[u8]) -> &[u8]
     }
 }
 
-// Whether a line ends with so many of its bytes.
-fn ends(line: &[u8], count: usize) -> bool {
-    count == line.len() && line.last() == Some(&LINE_FEED)
-}
-
 impl<E: Sink> Sink for Explained<'_, E> {
     ghost contents = { λ _. None };
 
@@ -87,7 +82,7 @@ impl<E: Sink> Sink for Explained<'_, E> {
         match self.err.write(line) {
             Ok(0) if !piece.is_empty() => Err(self.fail()),
             Ok(count) => {
-                self.is_inside = !ends(line, count);
+                self.is_inside = count < line.len() || line.last() != Some(&LINE_FEED);
                 Ok(count)
             }
             Err(_) => Err(self.fail()),

@@ -59,7 +59,7 @@ fn tell_of_word<E: Sink>(
     let index = piece.saturating_sub(1) as usize;
     let (number, piece) = (word.number, *piece);
     match pieces.get(index) {
-        Some(text) if !has_empty_line(text) => {
+        Some(text) if !text.is_empty() && !cut(text).any(|line| line.content.is_empty()) => {
             let line = format!(in alloc;
                 "script: line {number}: piece {piece} has no empty line, so its lines are read as fields; append-text takes them as a text\n"
             )?;
@@ -70,9 +70,4 @@ fn tell_of_word<E: Sink>(
         }
         _ => Ok(()),
     }
-}
-
-// Whether a line of a piece is empty. A piece without lines has none that would be read as fields.
-fn has_empty_line(text: &[u8]) -> bool {
-    text.is_empty() || cut(text).any(|line| line.content.is_empty())
 }
