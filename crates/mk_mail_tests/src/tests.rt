@@ -7,6 +7,7 @@ mod letters;
 mod mailboxes;
 mod memory;
 mod places;
+mod prepended;
 mod text_names;
 
 use calls::{Call, check};
