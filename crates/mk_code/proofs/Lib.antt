@@ -22,3 +22,4 @@ pub mod Characters
 mod Vectors
 pub mod NoReturns
 pub mod WholeLines
+pub mod Utf8

@@ -5,7 +5,9 @@ use Rattle.std.specs.Prelude.{is_some, unwrap_or}
 use Rattle.std.specs.List.{prefix_len}
 use Rattle.std.proofs.lemmas.Bool.{cases_Bool}
 use Rattle.mk_line.specs.Ascii.{is_blank}
-use Rattle.mk_code.specs.EncodedWords.{Run, Gap, Word, run_before, runs, word_decoded, shown}
+use Rattle.mk_code.specs.EncodedWords.{Run, Gap, Word, run_before, runs, word_read, shown}
+use Rattle.mk_code.specs.declared.one_word.Readable.{Readable}
+use Rattle.mk_code.specs.declared.one_word.Readable.TheVariants.{All, Texts}
 
 abbrev pub is_dark : ℕ → Bool
 is_dark byte = not (is_blank byte)
@@ -81,50 +83,51 @@ past_gap (x ∷ xs) = elim (cases_Bool (is_blank x)) [
 ]
 
 -- what is shown of a gap and a word, after a decoded word or not
-abbrev pair_shown : Bool → List ℕ → List ℕ → List ℕ → List ℕ
-pair_shown after gap word behind =
-    (if after && is_some (word_decoded word) then [] else gap) ++ (unwrap_or (word_decoded word) word ++ shown (is_some (word_decoded word)) (runs behind))
+abbrev pair_shown : Readable → Bool → List ℕ → List ℕ → List ℕ → List ℕ
+pair_shown which after gap word behind =
+    (if after && is_some (word_read which word) then [] else gap) ++ (unwrap_or (word_read which word) word ++ shown which (is_some (word_read which word)) (runs behind))
 
 same_if : (t : Bool) (xs : List ℕ) → (if t then xs else xs) ≡ xs
 same_if true xs = refl
 same_if false xs = refl
 
-shown_word : (after : Bool) (byte : ℕ) (rest : List ℕ) → is_blank byte ≡ false → shown after (runs (byte ∷ rest)) ≡ pair_shown after [] (byte ∷ take (prefix_len is_dark rest) rest) (drop (prefix_len is_dark rest) rest)
-shown_word after byte rest h =
+shown_word : (which : Readable) (after : Bool) (byte : ℕ) (rest : List ℕ) → is_blank byte ≡ false → shown which after (runs (byte ∷ rest)) ≡ pair_shown which after [] (byte ∷ take (prefix_len is_dark rest) rest) (drop (prefix_len is_dark rest) rest)
+shown_word which after byte rest h =
     let word = byte ∷ take (prefix_len is_dark rest) rest in
-    ap (shown after) (word_front byte rest h)
-    ∙ ap (λ xs. xs ++ (unwrap_or (word_decoded word) word ++ shown (is_some (word_decoded word)) (runs (drop (prefix_len is_dark rest) rest)))) (sym (same_if (after && is_some (word_decoded word)) []))
+    ap (shown which after) (word_front byte rest h)
+    ∙ ap (λ xs. xs ++ (unwrap_or (word_read which word) word ++ shown which (is_some (word_read which word)) (runs (drop (prefix_len is_dark rest) rest)))) (sym (same_if (after && is_some (word_read which word)) []))
 
 -- a gap, and what follows it
-shown_gap : (after : Bool) (gap rest : List ℕ) → IsPastGap rest → shown after (Gap gap ∷ runs rest) ≡ pair_shown after gap (take (prefix_len is_dark rest) rest) (drop (prefix_len is_dark rest) rest)
-shown_gap after gap [] h = refl
-shown_gap after gap (x ∷ xs) h =
-    rw (h, one-add (prefix_len is_dark xs)) (ap (λ rs. shown after (Gap gap ∷ rs)) (word_front x xs h))
+shown_gap : (which : Readable) (after : Bool) (gap rest : List ℕ) → IsPastGap rest → shown which after (Gap gap ∷ runs rest) ≡ pair_shown which after gap (take (prefix_len is_dark rest) rest) (drop (prefix_len is_dark rest) rest)
+shown_gap All after gap [] h = refl
+shown_gap Texts after gap [] h = refl
+shown_gap which after gap (x ∷ xs) h =
+    rw (h, one-add (prefix_len is_dark xs)) (ap (λ rs. shown which after (Gap gap ∷ rs)) (word_front x xs h))
 
-pub front_shown : (text : List ℕ) → 0 < length text → (after : Bool) →
+pub front_shown : (which : Readable) (text : List ℕ) → 0 < length text → (after : Bool) →
     let gap = take (prefix_len is_blank text) text in
     let rest = drop (prefix_len is_blank text) text in
-    shown after (runs text) ≡ pair_shown after gap (take (prefix_len is_dark rest) rest) (drop (prefix_len is_dark rest) rest)
-front_shown [] o after = absurd (omega (arith, o))
-front_shown (x ∷ xs) o after =
+    shown which after (runs text) ≡ pair_shown which after gap (take (prefix_len is_dark rest) rest) (drop (prefix_len is_dark rest) rest)
+front_shown which [] o after = absurd (omega (arith, o))
+front_shown which (x ∷ xs) o after =
     elim (cases_Bool (is_blank x)) [
       | inl b ↦
           rw (b, one-add (prefix_len is_blank xs))
-          (ap (shown after) (gap_front x xs b) ∙ shown_gap after (x ∷ take (prefix_len is_blank xs) xs) (drop (prefix_len is_blank xs) xs) (past_gap xs))
-      | inr d ↦ rw (d, d, one-add (prefix_len is_dark xs)) (shown_word after x xs d)
+          (ap (shown which after) (gap_front x xs b) ∙ shown_gap which after (x ∷ take (prefix_len is_blank xs) xs) (drop (prefix_len is_blank xs) xs) (past_gap xs))
+      | inr d ↦ rw (d, d, one-add (prefix_len is_dark xs)) (shown_word which after x xs d)
     ]
 
 -- the same by the lengths that were counted
 pub front_split : (text gap rest word behind : List ℕ) (n m : ℕ) → 0 < length text → n ≡ prefix_len is_blank text → gap ≡ take n text → rest ≡ drop n text → m ≡ prefix_len is_dark rest → word ≡ take m rest → behind ≡ drop m rest
-    → (after : Bool) → shown after (runs text) ≡ pair_shown after gap word behind
-front_split text gap rest word behind n m o en eg er em ew eb after =
+    → (which : Readable) (after : Bool) → shown which after (runs text) ≡ pair_shown which after gap word behind
+front_split text gap rest word behind n m o en eg er em ew eb which after =
     let whole : rest ≡ drop (prefix_len is_blank text) text = er ∙ ap (λ k. drop k text) en in
-    front_shown text o after
-    ∙ (ap (λ xs. pair_shown after (take (prefix_len is_blank text) text) (take (prefix_len is_dark xs) xs) (drop (prefix_len is_dark xs) xs)) (sym whole)
-    ∙ (ap (λ k. pair_shown after (take k text) (take (prefix_len is_dark rest) rest) (drop (prefix_len is_dark rest) rest)) (sym en)
-    ∙ (ap (λ k. pair_shown after (take n text) (take k rest) (drop k rest)) (sym em)
-    ∙ (ap (λ xs. pair_shown after xs (take m rest) (drop m rest)) (sym eg)
-    ∙ (ap (λ xs. pair_shown after gap xs (drop m rest)) (sym ew) ∙ ap (pair_shown after gap word) (sym eb))))))
+    front_shown which text o after
+    ∙ (ap (λ xs. pair_shown which after (take (prefix_len is_blank text) text) (take (prefix_len is_dark xs) xs) (drop (prefix_len is_dark xs) xs)) (sym whole)
+    ∙ (ap (λ k. pair_shown which after (take k text) (take (prefix_len is_dark rest) rest) (drop (prefix_len is_dark rest) rest)) (sym en)
+    ∙ (ap (λ k. pair_shown which after (take n text) (take k rest) (drop k rest)) (sym em)
+    ∙ (ap (λ xs. pair_shown which after xs (take m rest) (drop m rest)) (sym eg)
+    ∙ (ap (λ xs. pair_shown which after gap xs (drop m rest)) (sym ew) ∙ ap (pair_shown which after gap word) (sym eb))))))
 
 -- something is taken off
 front_some : (text : List ℕ) → 0 < length text → 0 < prefix_len is_blank text + prefix_len is_dark (drop (prefix_len is_blank text) text)

@@ -15,6 +15,7 @@ use Rattle.mk_line.specs.declared.cutting.Ending.{Ending}
 use Rattle.mk_line.specs.Parting.{has_byte}
 use Rattle.mk_code.specs.Base64Text.{is_letter}
 use Rattle.mk_code.specs.EncodedWords.{Run, Gap, Word, run_before, runs, parts_decoded, word_decoded, b_text, is_padding, shown, unfolded, is_shown, encoded_word, characters, goes_on, goes_in, front_onto, pieces, stays, words_encoded, words_decoded, has_pair}
+use Rattle.mk_code.specs.declared.one_word.Readable.TheVariants.{All}
 use Rattle.mk_code.proofs.OutputCuts.{differs}
 use Rattle.mk_code.proofs.Base64Laws.{symbols_pass}
 use Rattle.mk_code.proofs.QpBack.{AreBytes}
@@ -116,10 +117,10 @@ spaced_none : (ps : List (List ℕ)) → AreBytes ps → BeginsNoWord (runs (spa
 spaced_none [] h = tt
 spaced_none (p ∷ ps) h = subst BeginsNoWord (sym (spaced_runs p ps h.0 (spaced_none ps h.1))) tt
 
-spaced_shown : (ps : List (List ℕ)) → AreBytes ps → shown true (runs (spaced ps)) ≡ concat ps
+spaced_shown : (ps : List (List ℕ)) → AreBytes ps → shown All true (runs (spaced ps)) ≡ concat ps
 spaced_shown [] h = refl
 spaced_shown (p ∷ ps) h =
-    ap (shown true) (spaced_runs p ps h.0 (spaced_none ps h.1))
+    ap (shown All true) (spaced_runs p ps h.0 (spaced_none ps h.1))
     ∙ rw (word_back p h.0) (ap (λ xs. p ++ xs) (spaced_shown ps h.1))
 
 -- the value without its line endings
@@ -137,8 +138,8 @@ unfold_folded eol (p ∷ ps) h =
 words_shown : (eol : Ending) (ps : List (List ℕ)) → AreBytes ps → words_decoded (join_by encoded_word (ending_bytes eol ++ 32 ∷ []) ps) ≡ concat ps
 words_shown eol [] h = refl
 words_shown eol (p ∷ ps) h =
-    ap (λ xs. shown false (runs xs)) (unfold_run is_graphic (encoded_word p) (folded eol ps) refl refl (word_graphic p h.0) ∙ ap (λ xs. encoded_word p ++ xs) (unfold_folded eol ps h.1))
-    ∙ (ap (shown false) (runs_encoded p (spaced ps) h.0 (spaced_none ps h.1))
+    ap (λ xs. shown All false (runs xs)) (unfold_run is_graphic (encoded_word p) (folded eol ps) refl refl (word_graphic p h.0) ∙ ap (λ xs. encoded_word p ++ xs) (unfold_folded eol ps h.1))
+    ∙ (ap (shown All false) (runs_encoded p (spaced ps) h.0 (spaced_none ps h.1))
     ∙ rw (word_back p h.0) (ap (λ xs. p ++ xs) (spaced_shown ps h.1)))
 
 -- the pieces joined are the text

@@ -10,6 +10,7 @@ use Rattle.mk_line.specs.declared.cutting.Ending.TheVariants.{Crlf, Lf, Missing}
 use Rattle.mk_line.proofs.Cuts.{cut_other}
 use Rattle.mk_head.specs.Unfolding.{contents}
 use Rattle.mk_code.specs.EncodedWords.{Run, Gap, Word, run_before, runs, parts, parts_decoded, word_decoded, shown, unfolded, is_shown, has_pair}
+use Rattle.mk_code.specs.declared.one_word.Readable.TheVariants.{All}
 use Rattle.mk_code.proofs.OutputCuts.{differs, with_other}
 use Rattle.mk_code.proofs.Runs.{gap_before}
 
@@ -133,13 +134,13 @@ bytes_runs : (text : List ℕ) → runs_bytes (runs text) ≡ text
 bytes_runs [] = refl
 bytes_runs (x ∷ xs) = bytes_before x (runs xs) ∙ ap (λ ys. x ∷ ys) (bytes_runs xs)
 
-shown_unmarked : (rs : List Run) → Unmarked rs → shown false rs ≡ runs_bytes rs
+shown_unmarked : (rs : List Run) → Unmarked rs → shown All false rs ≡ runs_bytes rs
 shown_unmarked [] h = refl
 shown_unmarked (Gap gap ∷ rs) h = ap (λ xs. gap ++ xs) (shown_unmarked rs h)
 shown_unmarked (Word word ∷ rs) h = rw (unmarked_word word h.0) (ap (λ xs. word ++ xs) (shown_unmarked rs h.1))
 
-pub words_kept : (text : List ℕ) → list_all is_shown text ≡ true → has_pair 61 63 text ≡ false → shown false (runs (unfolded text)) ≡ text
+pub words_kept : (text : List ℕ) → list_all is_shown text ≡ true → has_pair 61 63 text ≡ false → shown All false (runs (unfolded text)) ≡ text
 words_kept text s h =
     let whole : unfolded text ≡ text =
     ap unfolded (sym (append-nil text)) ∙ (unfold_run is_shown text [] refl refl s ∙ append-nil text) in
-    ap (λ xs. shown false (runs xs)) whole ∙ (shown_unmarked (runs text) (unmarked_runs text h) ∙ bytes_runs text)
+    ap (λ xs. shown All false (runs xs)) whole ∙ (shown_unmarked (runs text) (unmarked_runs text h) ∙ bytes_runs text)

@@ -2,7 +2,7 @@
 use Rattle.std.specs.Prelude.{◌==◌, ◌≤◌, ◌&&◌, ◌||◌, ◌+◌, ◌/◌, ◌%◌, if◌then◌else◌, ℕ, Bool, false, nat_le, nat_lt, not, List, [], ◌∷◌, ◌++◌, length, drop, codes, Option, Some, None, is_some, unwrap_or, option_and_then, take_while}
 use Rattle.std.specs.Option.{option_map}
 use Rattle.std.specs.List.{flat_map, join_by, list_all, onto_first}
-use Rattle.std.specs.Str.{bytes_eq, str_to_ascii_lowercase}
+use Rattle.std.specs.Str.{bytes_eq, is_utf8, str_to_ascii_lowercase}
 use Rattle.base64.specs.GeneralPurpose.{encode_of, decoded_of}
 use Rattle.base64.specs.Engines.{standard, standard_no_pad}
 use Rattle.mk_line.specs.declared.cutting.Ending.{Ending}
@@ -11,6 +11,8 @@ use Rattle.mk_line.specs.Lines.{cut, ending_bytes}
 use Rattle.mk_head.specs.Unfolding.{contents}
 use Rattle.mk_code.specs.Base64Text.{is_letter}
 use Rattle.mk_code.specs.QuotedPrintable.{is_hex_digit, pair_value}
+use Rattle.mk_code.specs.declared.one_word.Readable.{Readable}
+use Rattle.mk_code.specs.declared.one_word.Readable.TheVariants.{All, Texts}
 
 -- these two bytes stand side by side
 abbrev pub has_pair : ℕ → ℕ → List ℕ → Bool
@@ -108,33 +110,46 @@ parts_decoded (start ∷ charset ∷ name ∷ text ∷ end ∷ more ∷ others) 
 abbrev pub word_decoded : List ℕ → Option (List ℕ)
 word_decoded word = parts_decoded (parts word)
 
+-- what an encoded word stands for, if it is among those that are decoded: all that can be, or those whose bytes are UTF-8
+abbrev pub word_read : Readable → List ℕ → Option (List ℕ)
+word_read All word = word_decoded word
+word_read Texts word = option_and_then (λ bytes. if is_utf8 bytes then Some bytes else None) (word_decoded word)
+
 -- the word is decoded
-abbrev pub is_decoded : List ℕ → Bool
-is_decoded word = is_some (word_decoded word)
+abbrev pub is_decoded : Readable → List ℕ → Bool
+is_decoded which word = is_some (word_read which word)
 
 -- a word decoded, or as it stands
-abbrev pub word_shown : List ℕ → List ℕ
-word_shown word = unwrap_or (word_decoded word) word
+abbrev pub word_shown : Readable → List ℕ → List ℕ
+word_shown which word = unwrap_or (word_read which word) word
 
 -- a gap before a word, after a decoded word or not: between two decoded words it is dropped (RFC 2047, 6.2)
-abbrev pub gap_shown : Bool → List ℕ → List ℕ → List ℕ
-gap_shown after gap word = if after && is_decoded word then [] else gap
+abbrev pub gap_shown : Readable → Bool → List ℕ → List ℕ → List ℕ
+gap_shown which after gap word = if after && is_decoded which word then [] else gap
 
 -- the first run is a word that is decoded
-abbrev pub begins_decoded : List Run → Bool
-begins_decoded [] = false
-begins_decoded (Gap gap ∷ others) = false
-begins_decoded (Word word ∷ others) = is_decoded word
+abbrev pub begins_decoded : Readable → List Run → Bool
+begins_decoded which [] = false
+begins_decoded which (Gap gap ∷ others) = false
+begins_decoded which (Word word ∷ others) = is_decoded which word
 
 -- the runs, each word decoded or as it stands, after a decoded word or not: a gap between two decoded words is dropped
-abbrev pub shown : Bool → List Run → List ℕ
-shown after [] = []
-shown after (Gap gap ∷ others) = (if after && begins_decoded others then [] else gap) ++ shown false others
-shown after (Word word ∷ others) = word_shown word ++ shown (is_decoded word) others
+abbrev pub shown : Readable → Bool → List Run → List ℕ
+shown which after [] = []
+shown which after (Gap gap ∷ others) = (if after && begins_decoded which others then [] else gap) ++ shown which false others
+shown which after (Word word ∷ others) = word_shown which word ++ shown which (is_decoded which word) others
+
+-- a value with those of its encoded words decoded
+abbrev pub decoded_with : Readable → List ℕ → List ℕ
+decoded_with which value = shown which false (runs (unfolded value))
 
 -- a value with its encoded words decoded
 abbrev pub words_decoded : List ℕ → List ℕ
-words_decoded value = shown false (runs (unfolded value))
+words_decoded value = decoded_with All value
+
+-- a value with its encoded words decoded; where that isn't UTF-8, each word stays whose bytes by themselves aren't (own)
+abbrev pub text_decoded : List ℕ → List ℕ
+text_decoded value = if is_utf8 (words_decoded value) then words_decoded value else decoded_with Texts value
 
 -- a byte of a character in UTF-8 after its first (RFC 3629)
 abbrev pub is_continuation_byte : ℕ → Bool

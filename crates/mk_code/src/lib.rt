@@ -19,5 +19,5 @@ pub use base64_text::{b64_encode, push_b64};
 pub use decoding::{CodeError, decode, decode_in};
 pub use mk_head::Encoding;
 pub use qp_encoding::{push_qp, qp_encode};
-pub use words_decoding::words_decode;
+pub use words_decoding::{text_decode, words_decode};
 pub use words_encoding::words_encode;

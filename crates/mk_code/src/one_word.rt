@@ -1,8 +1,8 @@
 //! Decoding one encoded word (RFC 2047, 2 to 4).
-ghost use Rattle.std.specs.Prelude.{◌≡◌, ◌<◌, nat_lt, None, length, IfOk, IfSome, MatchOption, option_map};
+ghost use Rattle.std.specs.Prelude.{◌≡◌, ◌<◌, if◌then◌else◌, nat_lt, None, Some, length, IfOk, IfSome, MatchOption, option_map};
 ghost use Rattle.std.specs.List.{flat_map, list_all};
-ghost use Rattle.std.specs.Str.{bytes_eq, str_to_ascii_lowercase};
-ghost use Rattle.mk_code.specs.EncodedWords.{word_decoded, inner_decoded, text_bytes as bytes_of_text, b_text as b_bytes, q_text as q_bytes, put_before, is_padding as padding, in_utf8 as bytes_in_utf8, latin_character};
+ghost use Rattle.std.specs.Str.{bytes_eq, is_utf8, str_to_ascii_lowercase};
+ghost use Rattle.mk_code.specs.EncodedWords.{word_decoded, word_read, inner_decoded, text_bytes as bytes_of_text, b_text as b_bytes, q_text as q_bytes, put_before, is_padding as padding, in_utf8 as bytes_in_utf8, latin_character};
 
 use crate::base64_text::letter_front;
 use crate::qp_decoding::pair;
@@ -31,6 +31,15 @@ const LEAD_OF_TWO: u8 = 192;
 
 const CONTINUATION: u8 = 128;
 
+/// Which encoded words are decoded.
+#[derive(Clone, Copy)]
+pub(crate) enum Readable {
+    /// All that can be decoded.
+    All,
+    /// Those whose bytes are UTF-8.
+    Texts,
+}
+
 /// The parts of a word that has the form of an encoded word.
 #[derive(Clone, Copy)]
 struct WordParts<'a> {
@@ -39,8 +48,42 @@ struct WordParts<'a> {
     text: &'a [u8],
 }
 
-/// What a word stands for in UTF-8, where it is an encoded word that can be decoded.
-pub(crate) fn decode_word(alloc: Global, word: &[u8]) -> Result<Option<Vec<u8>>, AllocError>
+/// What a word stands for, where it is an encoded word and among those that are decoded.
+pub(crate) fn read_word(
+    alloc: Global,
+    word: &[u8],
+    which: Readable,
+) -> Result<Option<Vec<u8>>, AllocError>
+    ensures { IfOk result (λ found. option_map (λ bytes. bytes.items) found ≡ word_read which word.now) }
+{
+    let Some(bytes) = decode_word(alloc, word)? else {
+        return Ok(None);
+    };
+    match which {
+        Readable::All => Ok(Some(bytes)),
+        Readable::Texts => Ok(only_text(bytes)),
+    }
+}
+
+// The bytes, where they are UTF-8.
+fn only_text(bytes: Vec<u8>) -> Option<Vec<u8>>
+    ensures { option_map (λ bytes. bytes.items) result ≡ (if is_utf8 bytes.items then Some bytes.items else None) }
+{
+    if is_text(&bytes) { Some(bytes) } else { None }
+}
+
+/// Whether the bytes are UTF-8.
+pub(crate) fn is_text(bytes: &[u8]) -> bool
+    ensures { result ≡ is_utf8 bytes.now }
+{
+    match std::str::from_utf8(bytes) {
+        Ok(_) => true,
+        Err(_) => false,
+    }
+}
+
+// What a word stands for in UTF-8, where it is an encoded word that can be decoded.
+fn decode_word(alloc: Global, word: &[u8]) -> Result<Option<Vec<u8>>, AllocError>
     ensures { IfOk result (λ found. option_map (λ bytes. bytes.items) found ≡ word_decoded word.now) }
 {
     let Some(parts) = split_word(word) else {

@@ -1,5 +1,7 @@
 //! What calls give for the rows of tables, as text.
-use mk_code::{Encoding, b64_encode, decode, decode_front, qp_encode, words_decode, words_encode};
+use mk_code::{
+    Encoding, b64_encode, decode, decode_front, qp_encode, text_decode, words_decode, words_encode,
+};
 use mk_head::{
     Field, content_type, each_field, encoding, header, is_boundary, is_token, one_field, unfold,
 };
@@ -36,6 +38,7 @@ pub enum Call {
     Base64WithLf,
     Base64WithCrlf,
     DecodeWords,
+    DecodeText,
     WordsWithLf,
     WordsWithCrlf,
 }
@@ -100,6 +103,7 @@ fn given(alloc: Global, call: Call, row: &Row) -> Result<Vec<u8>, Fail> {
         Call::Base64WithLf => Ok(b64_encode(alloc, text, Ending::Lf)?),
         Call::Base64WithCrlf => Ok(b64_encode(alloc, text, Ending::Crlf)?),
         Call::DecodeWords => Ok(words_decode(alloc, text)?),
+        Call::DecodeText => Ok(text_decode(alloc, text)?),
         Call::WordsWithLf => words_with_lf(alloc, text),
         Call::WordsWithCrlf => words_with_crlf(alloc, text),
     }

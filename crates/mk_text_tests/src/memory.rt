@@ -3,7 +3,7 @@
 //! answer at the first call.
 use mk_code::{
     CodeError, Encoding, b64_encode, decode, decode_front, decode_in, push_b64, push_qp, qp_encode,
-    words_decode, words_encode,
+    text_decode, words_decode, words_encode,
 };
 use mk_head::{content_type, header, push_multipart_type, unfold, without_endings};
 use mk_line::{Ending, push_close, push_delimiter};
@@ -212,6 +212,16 @@ fn memory_words_decode(rt: HostRuntime) {
         Err(_) => words_decode(rt.alloc(), value).expect(&rt, "memory"),
     };
     assert_eq!(rt; text.as_slice(), b"caf\xc3\xa9\xc3\xa9 x".as_slice());
+}
+
+#[test]
+fn memory_text_decode(rt: HostRuntime) {
+    let value = b"=?utf-8?Q?=C3?= =?UTF-8?B?w6k=?= x";
+    let text = match text_decode(rt.alloc(), value) {
+        Ok(text) => text,
+        Err(_) => text_decode(rt.alloc(), value).expect(&rt, "memory"),
+    };
+    assert_eq!(rt; text.as_slice(), b"=?utf-8?Q?=C3?= \xc3\xa9 x".as_slice());
 }
 
 #[test]

@@ -100,6 +100,42 @@ fn encoded_words_decoded(rt: HostRuntime) -> Result<(), Fail> {
     check(&rt, rt.alloc(), Call::DecodeWords, DECODED_WORDS)
 }
 
+/// The same, where what words stand for has to be UTF-8.
+const DECODED_TEXTS: &str = r#"
+== a byte that isn't UTF-8
+text: =?utf-8?Q?=C3?=
+gives: =?utf-8?Q?=C3?=
+
+== a character cut in two
+text: =?utf-8?Q?=C3?= =?utf-8?Q?=A9?=
+gives: \xc3\xa9
+
+== half a character beside a whole one, and the gaps around it
+text: =?utf-8?B?w6k=?= =?utf-8?Q?=C3?= =?utf-8?Q?a?= =?utf-8?Q?b?=
+gives: \xc3\xa9 =?utf-8?Q?=C3?= ab
+
+== half a character in another charset is a character
+text: =?iso-8859-1?Q?=C3?=
+gives: \xc3\x83
+
+== a byte that isn't UTF-8 outside words stays
+text: \xe9 =?utf-8?Q?a?= =?utf-8?Q?=C3?=
+gives: \xe9 a =?utf-8?Q?=C3?=
+
+== a word that was never encoded
+text: caf\xc3\xa9 au lait
+gives: caf\xc3\xa9 au lait
+
+== nothing
+text:
+gives:
+"#;
+
+#[test]
+fn encoded_words_decoded_as_text(rt: HostRuntime) -> Result<(), Fail> {
+    check(&rt, rt.alloc(), Call::DecodeText, DECODED_TEXTS)
+}
+
 const ENCODED_WORDS: &str = r#"
 == a letter beyond ASCII
 text: \xc3\xa9
