@@ -3,4 +3,3 @@ pub mod RoundLemmas
 pub mod RoundWords
 pub mod Wordings
 pub mod WordsRead
-pub mod AddressLemmas

@@ -18,8 +18,9 @@ use Rattle.mk_script.specs.Paths.{parted}
 use Rattle.mk_script.proofs.PieceLemmas.{HoldsNo, parted-append}
 use Rattle.mk_field.specs.Filtering.{behind_colon, part_behind}
 use Rattle.mk_mail.specs.Prepended.{is_one_line, is_plain}
-use Rattle.mk_field.specs.Addresses.{is_address_name, worded_addresses}
-use Rattle.mk_field.specs.Wording.{address_field, decoded_value, line_byte, worded_by, worded_field, worded_parts}
+use Rattle.mk_wording.specs.Addresses.{is_address_name, worded_addresses}
+use Rattle.mk_wording.specs.Wording.{address_field, worded_by, worded_field, worded_parts}
+use Rattle.mk_field.specs.Wording.{decoded_value, line_byte}
 use Rattle.mk_mail.proofs.Plainness.{needed, plain_stays}
 use Rattle.mk_field.specs.WordLaws.{WordedFieldsAreRead}
 

@@ -4,7 +4,7 @@ use Rattle.std.specs.Option.{option_map}
 use Rattle.mk_line.specs.declared.cutting.Ending.{Ending}
 use Rattle.mk_script.specs.Endings.{turned_to}
 use Rattle.mk_field.specs.Asked.{PlainWords}
-use Rattle.mk_field.specs.Wording.{worded_field}
+use Rattle.mk_wording.specs.Wording.{worded_field}
 use Rattle.mk_field.specs.declared.forms.FieldForm.{FieldForm}
 
 -- a field in encoded words, where they are asked for (`--encode`)

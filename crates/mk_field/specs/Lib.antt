@@ -1,8 +1,5 @@
 pub mod Asked
 pub mod RoundsAsked
-pub mod Addresses
-pub mod AddressLaws
-pub mod ScanViews
 pub mod Wording
 pub mod FieldForms
 pub mod Filtering

@@ -6,9 +6,10 @@ use Rattle.mk_line.specs.declared.cutting.Ending.{Ending}
 use Rattle.mk_line.specs.Kinds.{is_name}
 use Rattle.mk_head.specs.Values.{stripped}
 use Rattle.mk_mail.specs.Prepended.{is_one_line}
-use Rattle.mk_field.specs.Addresses.{is_address_name}
+use Rattle.mk_wording.specs.Addresses.{is_address_name}
+use Rattle.mk_wording.specs.Wording.{worded_field}
 use Rattle.mk_field.specs.Filtering.{behind_colon}
-use Rattle.mk_field.specs.Wording.{decoded_value, worded_field}
+use Rattle.mk_field.specs.Wording.{decoded_value}
 
 -- a text in UTF-8 that `--encode` puts into a field that holds no addresses comes back by `--decode`, if it is one line without blanks at its ends
 abbrev pub WordedFieldsAreRead : Type 0

@@ -3,9 +3,9 @@
 ghost use Rattle.std.specs.Prelude.{◌≡◌, ◌≢◌, IfOk};
 ghost use Rattle.mk_field.specs.FieldForms.{encoded_if as encoded_field, in_form as field_in_form};
 
-use crate::wording::worded_field;
 use mk_line::Ending;
 use mk_script::turned;
+use mk_wording::worded_field;
 use std::alloc::{AllocError, Global};
 
 /// How the fields of letters go into a message; as they are given, where nothing is asked for.

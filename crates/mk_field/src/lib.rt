@@ -1,14 +1,12 @@
 //! The run that filters the fields of messages, or prints them, over any devices.
 #![tactic(auto)]
 
-mod addresses;
 mod fields;
 mod filtering;
 mod filters;
 mod forms;
 mod giving;
 mod letters;
-mod scanning;
 pub mod word_laws;
 mod wording;
 mod words;
@@ -17,5 +15,5 @@ pub use filtering::{run_field, try_field};
 pub use filters::{FieldFilter, Round, RoundLetters, ValueForm, rounds};
 pub use forms::FieldForm;
 pub use letters::LetterWords;
-pub use wording::takes_words;
+pub use mk_wording::takes_words;
 pub use words::{Letter, LetterWord, letters_of_rounds, rounds_of_words};

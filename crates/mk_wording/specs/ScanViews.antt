@@ -1,7 +1,7 @@
 -- Scans in memory as what they say, for private contracts.
 use Rattle.mk_head.specs.Values.{Scan, Plain, Quoted, QuotedEscaped, Comment, CommentEscaped}
-use Rattle.mk_field.specs.declared.scanning.Scan.{Scan as ScanIn}
-use Rattle.mk_field.specs.declared.scanning.Scan.TheVariants.{Plain as PlainIn, Quoted as QuotedIn, QuotedEscaped as QuotedEscapedIn, Comment as CommentIn, CommentEscaped as CommentEscapedIn}
+use Rattle.mk_wording.specs.declared.scanning.Scan.{Scan as ScanIn}
+use Rattle.mk_wording.specs.declared.scanning.Scan.TheVariants.{Plain as PlainIn, Quoted as QuotedIn, QuotedEscaped as QuotedEscapedIn, Comment as CommentIn, CommentEscaped as CommentEscapedIn}
 
 -- where a byte stands
 abbrev pub scan_of : ScanIn → Scan

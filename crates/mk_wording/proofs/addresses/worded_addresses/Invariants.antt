@@ -1,8 +1,8 @@
 use Rattle.std.proofs.Common.{◌≡◌, ◌++◌, length}
 use Rattle.std.specs.Option.{option_map}
 use Rattle.mk_head.specs.Values.{Plain}
-use Rattle.mk_field.specs.Addresses.{entries, worded_addresses, worded_entries}
-use Rattle.mk_field.proofs.addresses.worded_addresses.Given as goal
+use Rattle.mk_wording.specs.Addresses.{entries, worded_addresses, worded_entries}
+use Rattle.mk_wording.proofs.addresses.worded_addresses.Given as goal
 
 abbrev pub decreases-entries : goal.decreases-entries
 decreases-entries l = length l.rest

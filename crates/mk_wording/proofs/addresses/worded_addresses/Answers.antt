@@ -1,9 +1,9 @@
 use Rattle.std.proofs.Common.{◌≡◌, ◌∙◌, ◌++◌, ◌∷◌, [], None, Some, ap, sym}
 use Rattle.std.specs.Option.{option_map}
 use Rattle.mk_head.specs.Values.{Plain}
-use Rattle.mk_field.specs.Addresses.{entries, worded_entries}
-use Rattle.mk_field.proofs.AddressLemmas.{entry_fails, entry_last, entry_on, no_byte, stated}
-use Rattle.mk_field.proofs.addresses.worded_addresses.Goals as goal
+use Rattle.mk_wording.specs.Addresses.{entries, worded_entries}
+use Rattle.mk_wording.proofs.AddressLemmas.{entry_fails, entry_last, entry_on, no_byte, stated}
+use Rattle.mk_wording.proofs.addresses.worded_addresses.Goals as goal
 
 pub returns-in-None : goal.returns-in-None
 returns-in-None c =

@@ -9,8 +9,8 @@ use Rattle.mk_line.specs.declared.cutting.Ending.{Ending}
 use Rattle.mk_line.specs.Ascii.{colon}
 use Rattle.mk_head.specs.Values.{Scan, Plain, is_plain, scan}
 use Rattle.mk_mail.specs.Prepended.{needs_words}
-use Rattle.mk_field.specs.Addresses.{Entry, angle, are_ascii, before_mark, ends, entries, entry_before, from_mark, is_one_of, push_entry, worded_entries, worded_entry, worded_name, worded_parts}
-use Rattle.mk_field.specs.AddressLaws.{AddressesStay, IsWordedAs, NamePart}
+use Rattle.mk_wording.specs.Addresses.{Entry, angle, are_ascii, before_mark, ends, entries, entry_before, from_mark, is_one_of, push_entry, worded_entries, worded_entry, worded_name, worded_parts}
+use Rattle.mk_wording.specs.AddressLaws.{AddressesStay, IsWordedAs, NamePart}
 
 -- the entries after an end, where there is one
 abbrev pub entries_after : List ℕ → List Entry

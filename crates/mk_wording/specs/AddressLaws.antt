@@ -2,7 +2,7 @@
 use Rattle.std.specs.Prelude.{◌≡◌, ◌++◌, ℕ, Some, List}
 use Rattle.std.specs.List.{flat_map}
 use Rattle.mk_line.specs.declared.cutting.Ending.{Ending}
-use Rattle.mk_field.specs.Addresses.{worded_addresses, worded_name}
+use Rattle.mk_wording.specs.Addresses.{worded_addresses, worded_name}
 
 -- a name, and the bytes after it up to the next name
 pub record NamePart : Type 0 where

@@ -5,9 +5,9 @@ ghost use Rattle.std.specs.List.{prefix_len};
 ghost use Rattle.mk_mail.specs.LetterViews.{bytes_in};
 ghost use Rattle.mk_mail.specs.Letters.{same_name};
 ghost use Rattle.mk_mail.specs.Prepended.{is_break as breaks, is_white as white};
-ghost use Rattle.mk_field.specs.Addresses.{are_ascii as all_ascii, is_address_name as name_of_addresses, name_said as said_by_name, without_resent as not_resent, worded_addresses as addresses_in_words, worded_name as name_in_words, worded_parts as parts_in_words};
+ghost use Rattle.mk_wording.specs.Addresses.{are_ascii as all_ascii, is_address_name as name_of_addresses, name_said as said_by_name, without_resent as not_resent, worded_addresses as addresses_in_words, worded_name as name_in_words, worded_parts as parts_in_words};
 ghost use Rattle.mk_line.specs.Ascii.{colon};
-ghost use Rattle.mk_field.specs.Addresses.{angle, before_mark, from_mark, is_one_of as one_of};
+ghost use Rattle.mk_wording.specs.Addresses.{angle, before_mark, from_mark, is_one_of as one_of};
 ghost use Rattle.mk_head.specs.Values.{Plain};
 
 use crate::scanning::mark_place;

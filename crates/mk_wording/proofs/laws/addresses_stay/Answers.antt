@@ -1,0 +1,5 @@
+use Rattle.mk_wording.proofs.AddressLemmas.{addresses_stay}
+use Rattle.mk_wording.proofs.laws.addresses_stay.Goals as goal
+
+pub returns : goal.returns
+returns c = addresses_stay

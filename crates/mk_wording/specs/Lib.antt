@@ -1,0 +1,4 @@
+pub mod Addresses
+pub mod AddressLaws
+pub mod ScanViews
+pub mod Wording
