@@ -119,7 +119,7 @@ REASONS = [
     (b"add 1. A: b\n", 1, PATH), (b"add 01 A: b\n", 1, PATH), (b"put 1..2 A: b\n", 1, PATH), (b"del 1 A x\n", 1, "invalid number"),
     (b"del 1 A 01\n", 1, "invalid number"), (b"insert 1 x 1\n", 1, "invalid number"), (b"body 1 x\n", 1, "invalid number"),
     (b"body 1 1\n", 1, "no such piece"), (b"attach 1 a/b c 1\n", 1, "no such piece"),
-    (b"encode 1 7bit\n", 1, "invalid encoding; write qp, base64 or 8bit"), (b"begin\nundo\nend\n", 2, "undo and redo can't be in a group"),
+    (b"encode 1 7bit\n", 1, "invalid encoding; write quoted-printable or qp, base64, or 8bit or identity"), (b"begin\nundo\nend\n", 2, "undo and redo can't be in a group"),
     (b"begin\n", 1, "begin without end, or inside a group"), (b"begin\nbegin\nend\n", 2, "begin without end, or inside a group"),
     (b"end\n", 1, "end without begin"),
 ]

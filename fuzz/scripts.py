@@ -88,7 +88,7 @@ class Writer:
         if word == "drop":
             return self.name(section)
         if word == "encode":
-            return choose([b"qp", b"base64", b"8bit"])
+            return choose([b"qp", b"quoted-printable", b"base64", b"8bit", b"identity"])
         if word == "attach":
             return choose(TYPES[:3] if self.chooser.maybe(0.8) else TYPES) + b" " + choose(FILES[:3] if self.chooser.maybe(0.8) else FILES) + b" " + self.piece()
         if word == "wrap":

@@ -28,7 +28,7 @@ use Rattle.mk_decide.proofs.PlacesAgain.{PathAgain, path_again, section_there}
 use Rattle.mk_view.specs.Extracts.{IsExtract}
 use Rattle.mk_view.specs.Listing.{encoding_in}
 use Rattle.mk_script.specs.declared.script.ChosenEncoding.{ChosenEncoding}
-use Rattle.mk_script.specs.declared.script.ChosenEncoding.TheVariants.{QuotedPrintable, Base64 as ToBase64, EightBit}
+use Rattle.mk_script.specs.declared.script.ChosenEncoding.TheVariants.{Qp as ToQp, QuotedPrintable, Base64 as ToBase64, EightBit, Identity as ToIdentity}
 use Rattle.mk_expand.specs.Contents.{body_with, encoded_in}
 use Rattle.mk_expand.specs.Encodings.{encoded_as, encoding_field, encoding_set, encoding_value, may_be_encoded, recoded, recoded_to}
 use Rattle.mk_expand.specs.ExpandLaws.{EncodingsKeepContents, all_edited, and_edited}
@@ -46,9 +46,11 @@ abbrev said_line : Ending → ChosenEncoding → TextLine
 said_line eol to = text_line (codes "Content-Transfer-Encoding: " ++ encoding_value to) eol
 
 abbrev chosen_encoding : ChosenEncoding → Encoding
+chosen_encoding ToQp = Qp
 chosen_encoding QuotedPrintable = Qp
 chosen_encoding ToBase64 = Base64
 chosen_encoding EightBit = Identity
+chosen_encoding ToIdentity = Identity
 
 -- what holds of it, by computing
 record IsSaid (eol : Ending) (to : ChosenEncoding) : Type 0 where
@@ -59,18 +61,24 @@ record IsSaid (eol : Ending) (to : ChosenEncoding) : Type 0 where
   says : encoding_by (Some (value_in (said_line eol to ∷ []))) ≡ chosen_encoding to
 
 is_said : (eol : Ending) (to : ChosenEncoding) → eol ≢ Missing → IsSaid eol to
+is_said Crlf ToQp n = record { line = refl; name = refl; one = refl; starts = refl; says = refl }
 is_said Crlf QuotedPrintable n = record { line = refl; name = refl; one = refl; starts = refl; says = refl }
 is_said Crlf ToBase64 n = record { line = refl; name = refl; one = refl; starts = refl; says = refl }
 is_said Crlf EightBit n = record { line = refl; name = refl; one = refl; starts = refl; says = refl }
+is_said Crlf ToIdentity n = record { line = refl; name = refl; one = refl; starts = refl; says = refl }
+is_said Lf ToQp n = record { line = refl; name = refl; one = refl; starts = refl; says = refl }
 is_said Lf QuotedPrintable n = record { line = refl; name = refl; one = refl; starts = refl; says = refl }
 is_said Lf ToBase64 n = record { line = refl; name = refl; one = refl; starts = refl; says = refl }
 is_said Lf EightBit n = record { line = refl; name = refl; one = refl; starts = refl; says = refl }
+is_said Lf ToIdentity n = record { line = refl; name = refl; one = refl; starts = refl; says = refl }
 is_said Missing to n = absurd (n refl)
 
 encoded_so : (to : ChosenEncoding) (eol : Ending) (bytes : List ℕ) → encoded_in (chosen_encoding to) eol bytes ≡ Some (encoded_as to eol bytes)
+encoded_so ToQp eol bytes = refl
 encoded_so QuotedPrintable eol bytes = refl
 encoded_so ToBase64 eol bytes = refl
 encoded_so EightBit eol bytes = refl
+encoded_so ToIdentity eol bytes = refl
 
 -- a leaf with these fields stands at a place of a document
 record AtLeaf (path : List ℕ) (fs : List Frame) (ls fields : List TextLine) (t : Document) : Type 0 where

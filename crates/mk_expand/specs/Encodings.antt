@@ -17,7 +17,7 @@ use Rattle.mk_tree.specs.Sections.{Placed, content_text}
 use Rattle.mk_decide.specs.Edits.{PlainEdit, SetBody}
 use Rattle.mk_view.specs.Listing.{encoding_in}
 use Rattle.mk_script.specs.declared.script.ChosenEncoding.{ChosenEncoding}
-use Rattle.mk_script.specs.declared.script.ChosenEncoding.TheVariants.{QuotedPrintable, Base64 as ToBase64, EightBit}
+use Rattle.mk_script.specs.declared.script.ChosenEncoding.TheVariants.{Qp as ToQp, QuotedPrintable, Base64 as ToBase64, EightBit, Identity as ToIdentity}
 use Rattle.mk_expand.specs.Contents.{are_eight_bit, body_with}
 use Rattle.mk_expand.specs.FieldWords.{put}
 use Rattle.mk_expand.specs.Meanings.{Meaning, WordFault, BadBase64, BinaryContent, UnknownEncoding}
@@ -40,9 +40,11 @@ decoded_in Other text = Err UnknownEncoding
 
 -- the value that says a transfer encoding
 abbrev pub encoding_value : ChosenEncoding → List ℕ
+encoding_value ToQp = codes "quoted-printable"
 encoding_value QuotedPrintable = codes "quoted-printable"
 encoding_value ToBase64 = codes "base64"
 encoding_value EightBit = codes "8bit"
+encoding_value ToIdentity = codes "8bit"
 
 -- the field that says it (RFC 2045, 6.1)
 abbrev pub encoding_field : Ending → ChosenEncoding → List ℕ
@@ -50,15 +52,19 @@ encoding_field eol to = codes "Content-Transfer-Encoding: " ++ (encoding_value t
 
 -- bytes in a transfer encoding that was chosen
 abbrev pub encoded_as : ChosenEncoding → Ending → List ℕ → List ℕ
+encoded_as ToQp eol bytes = qp_encoded eol bytes
 encoded_as QuotedPrintable eol bytes = qp_encoded eol bytes
 encoded_as ToBase64 eol bytes = base64_encoded eol bytes
 encoded_as EightBit eol bytes = bytes
+encoded_as ToIdentity eol bytes = bytes
 
 -- whether bytes may be written in an encoding that was chosen
 abbrev pub may_be_encoded : ChosenEncoding → List ℕ → Bool
+may_be_encoded ToQp bytes = true
 may_be_encoded QuotedPrintable bytes = true
 may_be_encoded ToBase64 bytes = true
 may_be_encoded EightBit bytes = are_eight_bit bytes
+may_be_encoded ToIdentity bytes = are_eight_bit bytes
 
 -- a content in another encoding: first the field that says it is put, and then the body
 abbrev pub recoded_to : Ending → List ℕ → ChosenEncoding → Placed → List ℕ → List PlainEdit

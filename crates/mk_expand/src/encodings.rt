@@ -70,8 +70,8 @@ fn may_be_encoded(to: ChosenEncoding, bytes: &[u8]) -> bool
     ensures { result ≡ may_be_so to bytes.now }
 {
     match to {
-        ChosenEncoding::QuotedPrintable | ChosenEncoding::Base64 => true,
-        ChosenEncoding::EightBit => is_eight_bit(bytes),
+        ChosenEncoding::Qp | ChosenEncoding::QuotedPrintable | ChosenEncoding::Base64 => true,
+        ChosenEncoding::EightBit | ChosenEncoding::Identity => is_eight_bit(bytes),
     }
 }
 
@@ -86,9 +86,9 @@ fn encoded(
     ensures { IfOk result (λ text. text.items ≡ encoded_so to eol bytes.now) }
 {
     match to {
-        ChosenEncoding::QuotedPrintable => qp_encode(alloc, bytes, eol),
+        ChosenEncoding::Qp | ChosenEncoding::QuotedPrintable => qp_encode(alloc, bytes, eol),
         ChosenEncoding::Base64 => b64_encode(alloc, bytes, eol),
-        ChosenEncoding::EightBit => Vec::from_slice(alloc, bytes),
+        ChosenEncoding::EightBit | ChosenEncoding::Identity => Vec::from_slice(alloc, bytes),
     }
 }
 
@@ -123,8 +123,8 @@ fn encoding_value(to: ChosenEncoding) -> &'static [u8]
     ensures { result.now ≡ value_of to }
 {
     match to {
-        ChosenEncoding::QuotedPrintable => b"quoted-printable",
+        ChosenEncoding::Qp | ChosenEncoding::QuotedPrintable => b"quoted-printable",
         ChosenEncoding::Base64 => b"base64",
-        ChosenEncoding::EightBit => b"8bit",
+        ChosenEncoding::EightBit | ChosenEncoding::Identity => b"8bit",
     }
 }

@@ -6,7 +6,7 @@ use Rattle.std.specs.Str.{bytes_eq}
 use Rattle.mk_line.specs.Ascii.{space}
 use Rattle.std.proofs.lemmas.Slice.Eq.{bytes_eq-Decides}
 use Rattle.mk_script.specs.declared.script.ChosenEncoding.{ChosenEncoding}
-use Rattle.mk_script.specs.declared.script.ChosenEncoding.TheVariants.{QuotedPrintable, Base64, EightBit}
+use Rattle.mk_script.specs.declared.script.ChosenEncoding.TheVariants.{Qp, QuotedPrintable, Base64, EightBit, Identity}
 use Rattle.mk_script.specs.Paths.{parted, path_of}
 use Rattle.mk_script.specs.Targets.{is_field_name, is_name}
 use Rattle.mk_script.specs.Script.{ScriptWord, SetsContent, SetsText, Encodes, Puts, PutsPiece, DropsAll, Appends, AppendsText, Attaches, AttachesText, chosen, content_by, encoding, past_charset, piece_of, placing, putting, dropping, with_charset, with_name, with_media, with_text, attaching, attaching_text, job_of}
@@ -27,11 +27,17 @@ path_front rest p path parts e =
 chosen-read : (name : List ℕ) (to : ChosenEncoding) → chosen name ≡ Some to → name ≡ encoding_word to
 chosen-read name to e = elim (cases_Bool (bytes_eq name (codes "qp"))) [
   | inl qp ↦ (bytes_eq-Decides name (codes "qp")).0 qp ∙ ap encoding_word (some_same (rw qp at e))
-  | inr a ↦ elim (cases_Bool (bytes_eq name (codes "base64"))) [
-    | inl base64 ↦ (bytes_eq-Decides name (codes "base64")).0 base64 ∙ ap encoding_word (some_same (rw (a, base64) at e))
-    | inr b ↦ elim (cases_Bool (bytes_eq name (codes "8bit"))) [
-      | inl eight ↦ (bytes_eq-Decides name (codes "8bit")).0 eight ∙ ap encoding_word (some_same (rw (a, b, eight) at e))
-      | inr c ↦ absurd (none_some (rw (a, b, c) at e))
+  | inr a ↦ elim (cases_Bool (bytes_eq name (codes "quoted-printable"))) [
+    | inl full ↦ (bytes_eq-Decides name (codes "quoted-printable")).0 full ∙ ap encoding_word (some_same (rw (a, full) at e))
+    | inr b ↦ elim (cases_Bool (bytes_eq name (codes "base64"))) [
+      | inl base64 ↦ (bytes_eq-Decides name (codes "base64")).0 base64 ∙ ap encoding_word (some_same (rw (a, b, base64) at e))
+      | inr c ↦ elim (cases_Bool (bytes_eq name (codes "8bit"))) [
+        | inl eight ↦ (bytes_eq-Decides name (codes "8bit")).0 eight ∙ ap encoding_word (some_same (rw (a, b, c, eight) at e))
+        | inr d ↦ elim (cases_Bool (bytes_eq name (codes "identity"))) [
+          | inl same ↦ (bytes_eq-Decides name (codes "identity")).0 same ∙ ap encoding_word (some_same (rw (a, b, c, d, same) at e))
+          | inr f ↦ absurd (none_some (rw (a, b, c, d, f) at e))
+        ]
+      ]
     ]
   ]
 ]
@@ -46,9 +52,11 @@ encode-read count rest word e =
     subst (λ w. IsWord count w × (codes "encode" ++ (space ∷ rest) ≡ written w)) k.2 (read.0, ap (λ l. codes "encode" ++ (space ∷ l)) whole)
 
 chosen-written : (to : ChosenEncoding) → chosen (encoding_word to) ≡ Some to
+chosen-written Qp = refl
 chosen-written QuotedPrintable = refl
 chosen-written Base64 = refl
 chosen-written EightBit = refl
+chosen-written Identity = refl
 
 pub encoding-written : (path : List ℕ) (to : ChosenEncoding) → IsPath path → encoding (written_path path ++ (space ∷ encoding_word to)) ≡ Some (Encodes path to)
 encoding-written path to h = rw (parted-append space (written_path path) (encoding_word to) (path_holds path h), path_of-written path h, chosen-written to) refl

@@ -5,7 +5,7 @@ use Rattle.std.specs.Str.{bytes_eq}
 use Rattle.mk_line.specs.Ascii.{space}
 use Rattle.mk_line.specs.Lines.{TextLine, cut}
 use Rattle.mk_script.specs.declared.script.ChosenEncoding.{ChosenEncoding}
-use Rattle.mk_script.specs.declared.script.ChosenEncoding.TheVariants.{QuotedPrintable, Base64, EightBit}
+use Rattle.mk_script.specs.declared.script.ChosenEncoding.TheVariants.{Qp, QuotedPrintable, Base64, EightBit, Identity}
 use Rattle.mk_script.specs.Paths.{parted, pieces_of, number_of, path_of}
 use Rattle.mk_script.specs.Targets.{Target, is_name, is_field_name, count_of, whole_target, target_front}
 
@@ -117,12 +117,14 @@ with_wrapping p = option_and_then (λ path. option_and_then (with_subtype path) 
 abbrev pub wrapping : List ℕ → Option ScriptWord
 wrapping rest = option_and_then with_wrapping (parted space rest)
 
--- the transfer encoding of a name
+-- the transfer encoding of a name: a short one, or one of the listing
 abbrev pub chosen : List ℕ → Option ChosenEncoding
 chosen name =
-    if bytes_eq name (codes "qp") then Some QuotedPrintable
+    if bytes_eq name (codes "qp") then Some Qp
+    else (if bytes_eq name (codes "quoted-printable") then Some QuotedPrintable
     else (if bytes_eq name (codes "base64") then Some Base64
-    else (if bytes_eq name (codes "8bit") then Some EightBit else None))
+    else (if bytes_eq name (codes "8bit") then Some EightBit
+    else (if bytes_eq name (codes "identity") then Some Identity else None))))
 
 -- `encode` is given a path and a transfer encoding
 abbrev pub encoding : List ℕ → Option ScriptWord

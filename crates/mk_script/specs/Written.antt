@@ -3,7 +3,7 @@ use Rattle.std.specs.Prelude.{◌≡◌, ◌<◌, ◌≤◌, ◌^◌, ◌↔◌,
 use Rattle.std.specs.List.{join_with_byte}
 use Rattle.mk_line.specs.Ascii.{space}
 use Rattle.mk_script.specs.declared.script.ChosenEncoding.{ChosenEncoding}
-use Rattle.mk_script.specs.declared.script.ChosenEncoding.TheVariants.{QuotedPrintable, Base64, EightBit}
+use Rattle.mk_script.specs.declared.script.ChosenEncoding.TheVariants.{Qp, QuotedPrintable, Base64, EightBit, Identity}
 use Rattle.mk_script.specs.Paths.{dot, max_components}
 use Rattle.mk_script.specs.Targets.{Target, is_field_name, is_name}
 use Rattle.mk_script.specs.Script.{ScriptWord, Adds, Deletes, Renames, Sets, Bodies, Replaces, Inserts, Removes, Wraps, SetsContent, SetsText, Encodes, Puts, PutsPiece, DropsAll, Appends, AppendsText, Attaches, AttachesText, ScriptLine, Edits, Undoes, Redoes, Begins, Ends, line_of}
@@ -80,9 +80,11 @@ written_place path number = written_path path ++ (space ∷ decimal number)
 
 -- the name of a transfer encoding
 abbrev pub encoding_word : ChosenEncoding → List ℕ
-encoding_word QuotedPrintable = codes "qp"
+encoding_word Qp = codes "qp"
+encoding_word QuotedPrintable = codes "quoted-printable"
 encoding_word Base64 = codes "base64"
 encoding_word EightBit = codes "8bit"
+encoding_word Identity = codes "identity"
 
 -- a word is written as its name and what it is given, parted by one space; a field is written as it is
 abbrev pub written : ScriptWord → List ℕ

@@ -118,6 +118,9 @@ fn chosen_encoding(name: &[u8]) -> Option<ChosenEncoding>
     ensures { result ≡ chosen name.now }
 {
     if name == b"qp".as_slice() {
+        return Some(ChosenEncoding::Qp);
+    }
+    if name == b"quoted-printable".as_slice() {
         return Some(ChosenEncoding::QuotedPrintable);
     }
     if name == b"base64".as_slice() {
@@ -125,6 +128,9 @@ fn chosen_encoding(name: &[u8]) -> Option<ChosenEncoding>
     }
     if name == b"8bit".as_slice() {
         return Some(ChosenEncoding::EightBit);
+    }
+    if name == b"identity".as_slice() {
+        return Some(ChosenEncoding::Identity);
     }
     None
 }

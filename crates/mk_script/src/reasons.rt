@@ -50,7 +50,7 @@ pub enum LineFault {
     BadNumber,
     /// So many pieces aren't given.
     NoSuchPiece,
-    /// The transfer encoding isn't `qp`, `base64` or `8bit`.
+    /// The transfer encoding isn't `qp`, `quoted-printable`, `base64`, `8bit` or `identity`.
     BadEncoding,
     /// No field has such a name.
     BadFieldName,

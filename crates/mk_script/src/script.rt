@@ -13,15 +13,20 @@ use std::alloc::{AllocError, Global};
 
 const NUMBER_SIGN: u8 = b'#';
 
-/// A transfer encoding that a script can choose (RFC 2045, 6).
+/// A transfer encoding that a script can choose, by the name that it has there (RFC 2045, 6). The listing of sections has
+/// the names `quoted-printable`, `base64` and `identity`.
 #[derive(Clone, Copy, Debug, PartialEq, Eq)]
 pub enum ChosenEncoding {
-    /// `qp`
+    /// `qp`, which is quoted-printable.
+    Qp,
+    /// `quoted-printable`
     QuotedPrintable,
     /// `base64`
     Base64,
     /// `8bit`
     EightBit,
+    /// `identity`, which is 8bit.
+    Identity,
 }
 
 /// An edit that a line of a script asks for.
@@ -83,7 +88,7 @@ pub enum Word {
         path: Vec<u32>,
         piece: u32,
     },
-    /// `encode PATH qp|base64|8bit`.
+    /// `encode PATH qp|quoted-printable|base64|8bit|identity`.
     Encode {
         path: Vec<u32>,
         to: ChosenEncoding,
