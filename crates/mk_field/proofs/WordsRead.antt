@@ -2,7 +2,8 @@
 use Rattle.std.proofs.Common.{◌≡◌, ◌==◌, ◌||◌, ◌++◌, if◌then◌else◌, ℕ, Bool, true, false, not, List, [], ◌∷◌, Some, refl, ap, sym, ◌∙◌, map}
 use Rattle.std.specs.Prelude.{codes}
 use Rattle.std.specs.List.{list_all}
-use Rattle.std.specs.Str.{IsUtf8}
+use Rattle.std.specs.Str.{IsUtf8, is_utf8}
+use Rattle.std.proofs.lemmas.Str.{IsUtf8-append, IsUtf8-from_is_utf8, is_utf8-from_IsUtf8}
 use Rattle.std.proofs.lemmas.Bool.{and_parts, not-true}
 use Rattle.base64.specs.GeneralPurpose.{IsBytes}
 use Rattle.mk_line.specs.declared.cutting.Ending.{Ending}
@@ -10,7 +11,8 @@ use Rattle.mk_line.specs.Ascii.{is_blank, is_name_byte}
 use Rattle.mk_line.specs.Lines.{is_nil}
 use Rattle.mk_line.specs.Marks.{trimmed, trimmed_before}
 use Rattle.mk_head.specs.Values.{stripped}
-use Rattle.mk_code.specs.EncodedWords.{Run, Gap, Word, has_pair, is_shown, run_before, runs, shown, unfolded, words_decoded, words_encoded}
+use Rattle.mk_code.specs.declared.one_word.Readable.TheVariants.{All, Texts}
+use Rattle.mk_code.specs.EncodedWords.{Run, Gap, Word, decoded_with, has_pair, is_shown, run_before, runs, shown, text_decoded, unfolded, words_decoded, words_encoded}
 use Rattle.mk_code.proofs.OutputCuts.{differs}
 use Rattle.mk_code.proofs.WordsBack.{words_back}
 use Rattle.mk_code.proofs.WordsKept.{unfold_byte, words_kept}
@@ -18,20 +20,21 @@ use Rattle.mk_script.specs.Paths.{parted}
 use Rattle.mk_script.proofs.PieceLemmas.{HoldsNo, parted-append}
 use Rattle.mk_field.specs.Filtering.{behind_colon, part_behind}
 use Rattle.mk_mail.specs.Prepended.{is_one_line, is_plain}
-use Rattle.mk_wording.specs.Addresses.{is_address_name, worded_addresses}
-use Rattle.mk_wording.specs.Wording.{address_field, worded_by, worded_field, worded_parts}
+use Rattle.mk_wording.specs.Wording.{field_or, kind_of, worded_by, worded_field, worded_field_of, worded_value}
+use Rattle.mk_wording.specs.declared.names.FieldKind.{FieldKind}
+use Rattle.mk_wording.specs.declared.names.FieldKind.TheVariants.{Text}
 use Rattle.mk_field.specs.Wording.{decoded_value, line_byte}
 use Rattle.mk_mail.proofs.Plainness.{needed, plain_stays}
 use Rattle.mk_field.specs.WordLaws.{WordedFieldsAreRead}
 
 -- a space before a value stays before what it says
-space_shown : (rs : List Run) → shown false (run_before 32 rs) ≡ 32 ∷ shown false rs
+space_shown : (rs : List Run) → shown All false (run_before 32 rs) ≡ 32 ∷ shown All false rs
 space_shown [] = refl
 space_shown (Gap gap ∷ rs) = refl
 space_shown (Word word ∷ rs) = refl
 
 space_decoded : (value : List ℕ) → words_decoded (32 ∷ value) ≡ 32 ∷ words_decoded value
-space_decoded value = ap (λ bytes. shown false (runs bytes)) (unfold_byte 32 value refl refl) ∙ space_shown (runs (unfolded value))
+space_decoded value = ap (λ bytes. shown All false (runs bytes)) (unfold_byte 32 value refl refl) ∙ space_shown (runs (unfolded value))
 
 -- a text on one line stays as it is
 line_kept : (text : List ℕ) → is_one_line text ≡ true → map line_byte text ≡ text
@@ -40,9 +43,19 @@ line_kept (x ∷ xs) h =
     let both = and_parts (not (x == 13 || x == 10)) (is_one_line xs) h in
     rw (not-true (x == 13 || x == 10) both.0) (ap (λ ys. x ∷ ys) (line_kept xs both.1))
 
-spaced_value : (value text : List ℕ) → words_decoded value ≡ text → is_one_line text ≡ true → stripped text ≡ text → decoded_value (32 ∷ value) ≡ text
-spaced_value value text d l s =
-    ap (λ bytes. stripped (map line_byte bytes)) (space_decoded value ∙ ap (λ bytes. 32 ∷ bytes) d)
+-- all words are decoded where that gives UTF-8
+all_decoded : (value text : List ℕ) → words_decoded value ≡ text → IsUtf8 text → text_decoded value ≡ text
+all_decoded value text d u = ap (λ bytes. if is_utf8 bytes then bytes else decoded_with Texts value) d ∙ chosen (is_utf8-from_IsUtf8 text u)
+  where
+    chosen : is_utf8 text ≡ true → (if is_utf8 text then text else decoded_with Texts value) ≡ text
+    chosen h = rw h refl
+
+space_is_text : (text : List ℕ) → IsUtf8 text → IsUtf8 (32 ∷ text)
+space_is_text text u = IsUtf8-append (32 ∷ []) text (IsUtf8-from_is_utf8 (32 ∷ []) refl) u
+
+spaced_value : (value text : List ℕ) → words_decoded value ≡ text → IsUtf8 text → is_one_line text ≡ true → stripped text ≡ text → decoded_value (32 ∷ value) ≡ text
+spaced_value value text d u l s =
+    ap (λ bytes. stripped (map line_byte bytes)) (all_decoded (32 ∷ value) (32 ∷ text) (space_decoded value ∙ ap (λ bytes. 32 ∷ bytes) d) (space_is_text text u))
     ∙ (ap stripped (line_kept text l) ∙ s)
 
 -- a name holds no colon and no blank
@@ -77,36 +90,36 @@ value_behind name value h = ap part_behind (field_parted name value h)
 
 -- the field that is made of a name and a text
 field_worded : (eol : Ending) (name text : List ℕ) → list_all is_name_byte name ≡ true → stripped text ≡ text
-    → worded_field eol (field name text) ≡ worded_parts eol (field name text) name text
+    → worded_field eol (field name text) ≡ worded_field_of eol (field name text) name text
 field_worded eol name text h s =
     ap (worded_by eol (field name text)) (field_parted name text h)
-    ∙ ((λ i. worded_parts eol (field name text) (name_kept name h i) (stripped text)) ∙ ap (worded_parts eol (field name text) name) s)
+    ∙ ((λ i. worded_field_of eol (field name text) (name_kept name h i) (stripped text)) ∙ ap (worded_field_of eol (field name text) name) s)
 
 -- what is read where the text stays, and where it goes in as encoded words
-plain_read : (name text : List ℕ) → list_all is_name_byte name ≡ true → is_plain text ≡ true → is_one_line text ≡ true → stripped text ≡ text
+plain_read : (name text : List ℕ) → list_all is_name_byte name ≡ true → is_plain text ≡ true → IsUtf8 text → is_one_line text ≡ true → stripped text ≡ text
     → decoded_value (behind_colon (field name text)) ≡ text
-plain_read name text h p l s =
+plain_read name text h p u l s =
     let both = and_parts (list_all is_shown text) (not (has_pair 61 63 text)) p in
     ap decoded_value (value_behind name text h)
-    ∙ spaced_value text text (words_kept text both.0 (not-true (has_pair 61 63 text) both.1)) l s
+    ∙ spaced_value text text (words_kept text both.0 (not-true (has_pair 61 63 text) both.1)) u l s
 
-words_read : (eol : Ending) (name text : List ℕ) → list_all is_name_byte name ≡ true → IsBytes text → is_one_line text ≡ true → stripped text ≡ text
+words_read : (eol : Ending) (name text : List ℕ) → list_all is_name_byte name ≡ true → IsUtf8 text → IsBytes text → is_one_line text ≡ true → stripped text ≡ text
     → decoded_value (behind_colon (field name (words_encoded eol text))) ≡ text
-words_read eol name text h b l s =
+words_read eol name text h u b l s =
     ap decoded_value (value_behind name (words_encoded eol text) h)
-    ∙ spaced_value (words_encoded eol text) text (words_back eol text b) l s
+    ∙ spaced_value (words_encoded eol text) text (words_back eol text b) u l s
 
 -- what is read of a field whose text needs encoded words or not
-abbrev made_by : Ending → List ℕ → List ℕ → Bool → List ℕ
-made_by eol name text needs = decoded_value (behind_colon (if needs then (if is_address_name name then address_field (field name text) name (worded_addresses eol text) else field name (words_encoded eol text)) else field name text))
+abbrev pub made_by : Ending → List ℕ → List ℕ → Bool → List ℕ
+made_by eol name text needs = decoded_value (behind_colon (if needs then field_or (field name text) name (worded_value (kind_of name) eol text) else field name text))
 
 -- what is read of the field that is made of a name and a text
-parts_read : (eol : Ending) (name text : List ℕ) (stays : Bool) → is_plain text ≡ stays → list_all is_name_byte name ≡ true → is_address_name name ≡ false → IsUtf8 text → IsBytes text → is_one_line text ≡ true
-    → stripped text ≡ text → decoded_value (behind_colon (worded_parts eol (field name text) name text)) ≡ text
-parts_read eol name text true e h a u b l s = ap (made_by eol name text) (plain_stays text u e) ∙ plain_read name text h e l s
+parts_read : (eol : Ending) (name text : List ℕ) (stays : Bool) → is_plain text ≡ stays → list_all is_name_byte name ≡ true → kind_of name ≡ Text → IsUtf8 text → IsBytes text → is_one_line text ≡ true
+    → stripped text ≡ text → decoded_value (behind_colon (worded_field_of eol (field name text) name text)) ≡ text
+parts_read eol name text true e h a u b l s = ap (made_by eol name text) (plain_stays text u e) ∙ plain_read name text h e u l s
 parts_read eol name text false e h a u b l s =
     ap (made_by eol name text) (needed text u e)
-    ∙ (ap (λ t. decoded_value (behind_colon (if t then address_field (field name text) name (worded_addresses eol text) else field name (words_encoded eol text)))) a ∙ words_read eol name text h b l s)
+    ∙ (ap (λ k. decoded_value (behind_colon (field_or (field name text) name (worded_value k eol text)))) a ∙ words_read eol name text h u b l s)
 
 pub worded_read : WordedFieldsAreRead
 worded_read eol name text n a u b l s =

@@ -2,7 +2,7 @@
 use Rattle.std.specs.Prelude.{◌==◌, ◌||◌, ◌++◌, if◌then◌else◌, ℕ, List, [], ◌∷◌, map}
 use Rattle.mk_line.specs.Ascii.{carriage_return, line_feed, space}
 use Rattle.mk_head.specs.Values.{stripped}
-use Rattle.mk_code.specs.EncodedWords.{unfolded, words_decoded}
+use Rattle.mk_code.specs.EncodedWords.{text_decoded, unfolded}
 use Rattle.mk_field.specs.declared.filters.ValueForm.{ValueForm}
 use Rattle.mk_field.specs.declared.filters.ValueForm.TheVariants.{AsWritten, Unfolded, Decoded}
 
@@ -20,10 +20,10 @@ one_line text = unbroken text ++ line_feed ∷ []
 
 -- what a value says: its encoded words decoded, on one line
 abbrev pub decoded_value : List ℕ → List ℕ
-decoded_value value = unbroken (words_decoded value)
+decoded_value value = unbroken (text_decoded value)
 
 -- a value as it is printed: as it is written, unfolded (`--unfold`), or with its encoded words decoded besides (`--decode`)
 abbrev pub printed_value : ValueForm → List ℕ → List ℕ
 printed_value AsWritten value = value
 printed_value Unfolded value = one_line (unfolded value)
-printed_value Decoded value = one_line (words_decoded value)
+printed_value Decoded value = one_line (text_decoded value)

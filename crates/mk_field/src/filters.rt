@@ -19,7 +19,8 @@ pub enum ValueForm {
     AsWritten,
     /// A line for each: the value on one line, without the blanks at both ends (RFC 5322, 2.2.3).
     Unfolded,
-    /// A line for each: the same of the value with its encoded words decoded (RFC 2047).
+    /// A line for each: the same of the value with its encoded words decoded (RFC 2047). A word that stands for half a
+    /// character of UTF-8, without the other half, stays.
     Decoded,
 }
 

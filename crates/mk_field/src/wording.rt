@@ -4,7 +4,7 @@ ghost use Rattle.std.specs.Prelude.{◌≡◌, ◌++◌, IfOk, OnOk, map};
 ghost use Rattle.mk_field.specs.Wording.{line_byte as byte_of_line, one_line as text_on_one_line, printed_value};
 
 use crate::filters::ValueForm;
-use mk_code::words_decode;
+use mk_code::text_decode;
 use mk_head::without_endings;
 use mk_wording::strip;
 use std::alloc::{AllocError, Global};
@@ -25,7 +25,7 @@ pub(crate) fn push_value(
     match form {
         ValueForm::AsWritten => Ok(text.extend_from_slice(value)?),
         ValueForm::Unfolded => push_line(alloc, text, &without_endings(alloc, value)?),
-        ValueForm::Decoded => push_line(alloc, text, &words_decode(alloc, value)?),
+        ValueForm::Decoded => push_line(alloc, text, &text_decode(alloc, value)?),
     }
 }
 

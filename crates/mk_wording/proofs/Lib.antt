@@ -1,1 +1,6 @@
-pub mod AddressLemmas
+pub mod Parts
+pub mod StretchLemmas
+pub mod Entries
+pub mod FieldLemmas
+pub mod Quoted
+pub mod WordedAs

@@ -1,4 +1,9 @@
-pub mod Addresses
-pub mod AddressLaws
 pub mod ScanViews
+pub mod Scanned
+pub mod Stretches
+pub mod StretchViews
+pub mod Addresses
+pub mod Parameters
+pub mod Lists
 pub mod Wording
+pub mod WordingLaws

@@ -1,46 +1,88 @@
 -- Fields whose values go in as encoded words (RFC 2047; which values do is own).
-use Rattle.std.specs.Prelude.{◌&&◌, ◌||◌, ◌++◌, if◌then◌else◌, ℕ, Bool, true, not, Option, None, Some, List, codes, is_some}
+use Rattle.std.specs.Prelude.{◌&&◌, ◌||◌, ◌++◌, if◌then◌else◌, ℕ, Bool, true, not, Option, None, Some, List, [], ◌∷◌, codes, drop, is_some, take}
+use Rattle.std.specs.List.{list_any}
 use Rattle.mk_line.specs.declared.cutting.Ending.{Ending}
 use Rattle.mk_line.specs.declared.cutting.Ending.TheVariants.{Lf}
 use Rattle.mk_line.specs.Ascii.{colon}
 use Rattle.mk_line.specs.Marks.{trimmed}
 use Rattle.mk_head.specs.Values.{stripped}
 use Rattle.mk_code.specs.EncodedWords.{words_encoded}
+use Rattle.mk_mail.specs.Letters.{same_name}
 use Rattle.mk_mail.specs.Prepended.{needs_words}
 use Rattle.mk_script.specs.Paths.{parted}
-use Rattle.mk_wording.specs.Addresses.{is_address_name, worded_addresses}
+use Rattle.mk_wording.specs.Lists.{worded_list, worded_parameters}
+use Rattle.mk_wording.specs.Stretches.{worded_text}
+use Rattle.mk_wording.specs.declared.names.FieldKind.{FieldKind}
+use Rattle.mk_wording.specs.declared.names.FieldKind.TheVariants.{Addresses, Parameters, Comments, Text}
+use Rattle.mk_wording.specs.declared.lists.ListKind.TheVariants.{Addresses as InAddresses}
+use Rattle.mk_wording.specs.declared.stretches.Outside.TheVariants.{Ascii}
+
+-- the fields that hold addresses (RFC 5322, 3.6.2 and 3.6.3; RFC 8098, 2.1)
+abbrev pub address_names : List (List ℕ)
+address_names =
+    codes "from" ∷ codes "sender" ∷ codes "reply-to" ∷ codes "to" ∷ codes "cc" ∷ codes "bcc" ∷ codes "disposition-notification-to" ∷ []
+
+-- the fields that have parameters (RFC 2045, 5.1; RFC 2183, 2)
+abbrev pub parameter_names : List (List ℕ)
+parameter_names = codes "content-type" ∷ codes "content-disposition" ∷ []
+
+-- other fields in which encoded words stand in comments alone (RFC 5322, 3.6.1, 3.6.4 and 3.6.7; RFC 2045, 4, 6 and 7)
+abbrev pub comment_names : List (List ℕ)
+comment_names =
+    codes "date" ∷ codes "message-id" ∷ codes "in-reply-to" ∷ codes "references" ∷ codes "received" ∷ codes "return-path" ∷ codes "mime-version" ∷ codes "content-transfer-encoding" ∷ codes "content-id" ∷ []
+
+-- a name without `Resent-` at its start (RFC 5322, 3.6.6)
+abbrev pub without_resent : List ℕ → List ℕ
+without_resent name = if same_name (codes "resent-") (take 7 name) then drop 7 name else name
+
+-- one of some names, in any case
+abbrev pub is_among : List (List ℕ) → List ℕ → Bool
+is_among names name = list_any (same_name name) names
+
+-- what the value of a field of a name is
+abbrev pub kind_of : List ℕ → FieldKind
+kind_of name =
+    if is_among address_names (without_resent name) then Addresses
+    else (if is_among parameter_names name then Parameters
+    else (if is_among comment_names (without_resent name) then Comments else Text))
 
 -- the field of a name and a value
 abbrev pub made_field : List ℕ → List ℕ → List ℕ
 made_field name value = name ++ (codes ": " ++ value)
 
--- a field of addresses whose names are in encoded words, or as it is given, where an address isn't ASCII
-abbrev pub address_field : List ℕ → List ℕ → Option (List ℕ) → List ℕ
-address_field field name None = field
-address_field field name (Some worded) = made_field name worded
+-- a value in encoded words; nothing where it needs them in a place that can't have them
+abbrev pub worded_value : FieldKind → Ending → List ℕ → Option (List ℕ)
+worded_value Addresses eol value = worded_list InAddresses eol value
+worded_value Parameters eol value = worded_parameters eol value
+worded_value Comments eol value = worded_text Ascii eol value
+worded_value Text eol value = Some (words_encoded eol value)
+
+-- the field of a name and a value that was written, or as it is given where it couldn't be
+abbrev pub field_or : List ℕ → List ℕ → Option (List ℕ) → List ℕ
+field_or field name None = field
+field_or field name (Some worded) = made_field name worded
 
 -- a field of a name and a value, or as it is given, where its value needs no encoded words
-abbrev pub worded_parts : Ending → List ℕ → List ℕ → List ℕ → List ℕ
-worded_parts eol field name value =
-    if needs_words value then (if is_address_name name then address_field field name (worded_addresses eol value) else made_field name (words_encoded eol value)) else field
+abbrev pub worded_field_of : Ending → List ℕ → List ℕ → List ℕ → List ℕ
+worded_field_of eol field name value = if needs_words value then field_or field name (worded_value (kind_of name) eol value) else field
 
 -- a value that can go into a field of a name as encoded words, or needs none
-abbrev pub parts_take_words : List ℕ → List ℕ → Bool
-parts_take_words name value = not (needs_words value && is_address_name name) || is_some (worded_addresses Lf value)
+abbrev pub value_takes_words : List ℕ → List ℕ → Bool
+value_takes_words name value = not (needs_words value) || is_some (worded_value (kind_of name) Lf value)
 
 -- the same of a field that was parted at its colon
 abbrev pub taken_by : Option (List ℕ × List ℕ) → Bool
 taken_by None = true
-taken_by (Some p) = parts_take_words (trimmed p.0) (stripped p.1)
+taken_by (Some p) = value_takes_words (trimmed p.0) (stripped p.1)
 
--- a field that `--encode` can write: no address in it that needs it is other than ASCII
+-- a field that `--encode` can write: what needs encoded words stands where they may
 abbrev pub takes_words : List ℕ → Bool
 takes_words field = taken_by (parted colon field)
 
 -- a field that was parted at its colon
 abbrev pub worded_by : Ending → List ℕ → Option (List ℕ × List ℕ) → List ℕ
 worded_by eol field None = field
-worded_by eol field (Some p) = worded_parts eol field (trimmed p.0) (stripped p.1)
+worded_by eol field (Some p) = worded_field_of eol field (trimmed p.0) (stripped p.1)
 
 -- a field whose value is in encoded words, where it needs them (`--encode`)
 abbrev pub worded_field : Ending → List ℕ → List ℕ

@@ -1,10 +1,10 @@
-//! Where the bytes of a list of addresses stand (RFC 5322, 3.2.2 and 3.2.4).
+//! Where the bytes of a structured value stand (RFC 5322, 3.2.2 and 3.2.4).
 
 ghost use Rattle.std.specs.Prelude.{◌≡◌, ◌+◌, ◌^◌, ◌<◌, ◌≤◌, length, take, drop};
 ghost use Rattle.mk_head.specs.Depths.{depth_of};
 ghost use Rattle.mk_head.specs.Values.{Comment, Plain, Quoted, out_of, scan as scanned};
-ghost use Rattle.mk_wording.specs.Addresses.{before_mark, from_mark, is_one_of as one_of};
-ghost use Rattle.mk_wording.specs.ScanViews.{scan_of};
+ghost use Rattle.mk_wording.specs.Scanned.{before_mark, from_mark, is_one_of as one_of};
+ghost use Rattle.mk_wording.specs.ScanViews.{closing_of, inside_of, scan_of};
 
 const QUOTE: u8 = b'"';
 
@@ -113,6 +113,23 @@ pub(crate) fn mark_place(text: &[u8], marks: &[u8]) -> usize
             return place;
         }
         scan = scan.next(*byte);
+    }
+    text.len()
+}
+
+/// Where a comment ends after its parenthesis: the place of its closing one, or the length of the text.
+pub(crate) fn comment_end(text: &[u8]) -> usize
+    ensures within { result ≤ length text.now }
+    ensures front { inside_of (Comment 0) text.now ≡ take result text.now }
+    ensures rest { closing_of (Comment 0) text.now ≡ drop result text.now }
+{
+    let mut scan = Scan::Comment(0);
+    for (place, byte) in text.iter().enumerate() {
+        let next = scan.next(*byte);
+        if next.is_plain() {
+            return place;
+        }
+        scan = next;
     }
     text.len()
 }

@@ -2,9 +2,12 @@
 
 ghost use Rattle.std.specs.Prelude.{◌≡◌, ◌≢◌, IfOk};
 ghost use Rattle.mk_head.specs.Values.{stripped};
-ghost use Rattle.mk_wording.specs.Wording.{made_field as field_of, parts_take_words, takes_words as field_takes_words, worded_field as field_in_words, worded_parts};
+ghost use Rattle.mk_mail.specs.LetterViews.{bytes_in};
+ghost use Rattle.mk_wording.specs.Wording.{made_field as field_of, takes_words as field_takes_words, value_takes_words as value_can, worded_field as field_in_words, worded_field_of, worded_value as value_in_words};
 
-use crate::addresses::{is_address_name, worded_addresses};
+use crate::lists::{ListKind, worded_list, worded_parameters};
+use crate::names::{FieldKind, kind_of};
+use crate::stretches::{Outside, worded_text};
 use mk_code::words_encode;
 use mk_line::{Ending, leading_blanks, trimmed};
 use mk_mail::text_for_words;
@@ -13,9 +16,10 @@ use std::alloc::{AllocError, Global};
 
 const COLON: u8 = b':';
 
-/// A field with its value in encoded words, with `eol` between two, where the value isn't printable ASCII or holds `=?`; in a
-/// field of addresses with their names so. Other fields stay as they are, and those whose value isn't UTF-8, or that hold an
-/// address that isn't ASCII.
+/// A field with its value in encoded words, with `eol` between two, where the value isn't printable ASCII or holds `=?`. In a
+/// field of addresses these are names and comments, in one with parameters its comments, and parameters get a charset (RFC
+/// 2231); in other structured fields they are comments. A field whose value isn't UTF-8 stays as it is, and so does one that
+/// needs an encoded word in another place.
 pub fn worded_field(alloc: Global, field: &[u8], eol: Ending) -> Result<Vec<u8>, AllocError>
     requires { eol ≢ Ending.Missing }
     ensures { IfOk result (λ worded. worded.items ≡ field_in_words eol field.now) }
@@ -35,17 +39,33 @@ fn in_words(
     eol: Ending,
 ) -> Result<Vec<u8>, AllocError>
     requires { eol ≢ Ending.Missing }
-    ensures { IfOk result (λ worded. worded.items ≡ worded_parts eol field.now name.now value.now) }
+    ensures { IfOk result (λ worded. worded.items ≡ worded_field_of eol field.now name.now value.now) }
 {
     let Some(text) = text_for_words(value) else {
         return Vec::from_slice(alloc, field);
     };
-    if !is_address_name(name) {
-        return made_field(alloc, name, &words_encode(alloc, text, eol)?);
-    }
-    match worded_addresses(alloc, value, eol)? {
+    match worded_value(alloc, text, kind_of(name), eol)? {
         Some(worded) => made_field(alloc, name, &worded),
         None => Vec::from_slice(alloc, field),
+    }
+}
+
+// A value in encoded words; `None` where it needs one in a place that can't have it.
+fn worded_value(
+    alloc: Global,
+    text: &str,
+    kind: FieldKind,
+    eol: Ending,
+) -> Result<Option<Vec<u8>>, AllocError>
+    requires { eol ≢ Ending.Missing }
+    ensures { IfOk result (λ worded. bytes_in worded ≡ value_in_words kind eol text.now) }
+{
+    let value = text.as_bytes();
+    match kind {
+        FieldKind::Addresses => worded_list(alloc, value, ListKind::Addresses, eol),
+        FieldKind::Parameters => worded_parameters(alloc, value, eol),
+        FieldKind::Comments => worded_text(alloc, value, Outside::Ascii, eol),
+        FieldKind::Text => Ok(Some(words_encode(alloc, text, eol)?)),
     }
 }
 
@@ -59,8 +79,7 @@ fn made_field(alloc: Global, name: &[u8], value: &[u8]) -> Result<Vec<u8>, Alloc
     Ok(field)
 }
 
-/// Whether a field can go in as encoded words: unless it is one of addresses that needs them, and a byte outside names isn't
-/// ASCII.
+/// Whether a field can go in as encoded words: unless it needs one in a place that can't have it, as in an address.
 pub fn takes_words(alloc: Global, field: &[u8]) -> Result<bool, AllocError>
     ensures { IfOk result (λ takes. takes ≡ field_takes_words field.now) }
 {
@@ -72,12 +91,12 @@ pub fn takes_words(alloc: Global, field: &[u8]) -> Result<bool, AllocError>
 
 // Whether the value of a field of a name can.
 fn value_takes_words(alloc: Global, name: &[u8], value: &[u8]) -> Result<bool, AllocError>
-    ensures { IfOk result (λ takes. takes ≡ parts_take_words name.now value.now) }
+    ensures { IfOk result (λ takes. takes ≡ value_can name.now value.now) }
 {
-    if text_for_words(value).is_none() || !is_address_name(name) {
-        return Ok(true);
+    match text_for_words(value) {
+        Some(text) => Ok(worded_value(alloc, text, kind_of(name), Ending::Lf)?.is_some()),
+        None => Ok(true),
     }
-    Ok(worded_addresses(alloc, value, Ending::Lf)?.is_some())
 }
 
 /// The text without the blanks at both ends.
