@@ -120,8 +120,7 @@ const UNFOLD_ALONE: &str = "--unfold is for the values that -x prints";
 
 const DECODE_ALONE: &str = "--decode is for the values that -x prints";
 
-const AN_ADDRESS: &str =
-    "--encode writes the names of addresses, and an address is ASCII: write 'From: Jörg <j@example.org>'";
+const STRUCTURED: &str = "in such a field --encode writes names, comments and parameters, and all else is ASCII: write 'From: Jörg <j@example.org>'";
 
 const ENCODE_ALONE: &str = "--encode is for the fields of -a, -A, -i and -I";
 
@@ -173,7 +172,7 @@ pub fn why_no_values(
     }
 }
 
-// Why a field isn't written in encoded words, if one isn't: it holds an address that isn't ASCII.
+// Why a field isn't written in encoded words, if one isn't: it would need one where none may stand, as in an address.
 fn why_no_words(
     alloc: Global,
     words: &[(usize, LetterWord<'_>)],
@@ -183,7 +182,7 @@ fn why_no_words(
             let (letter, _) = shown(word.letter);
             let word = word.word;
             let sentence = format!(in alloc;
-                "invalid value '{word}' for '{letter}': {AN_ADDRESS}"
+                "invalid value '{word}' for '{letter}': {STRUCTURED}"
             )?;
             return Ok(Some(sentence));
         }

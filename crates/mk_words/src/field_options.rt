@@ -110,7 +110,7 @@ fn with_flags<'a>(alloc: Global, command: Command<'a>) -> Result<Command<'a>, Al
         .arg(flag(
             alloc,
             ENCODE,
-            "Write values of FIELD that aren't plain ASCII as encoded words; of addresses only the names",
+            "Write values of FIELD that aren't plain ASCII as encoded words; in structured fields names, comments and parameters",
         )
         .long(ENCODE))?
         .arg(flag(

@@ -14,7 +14,7 @@ pub const EDIT_HELP: &str = "Lines of a script:
   content PATH PIECE         Give a leaf a piece as its content, encoded
   content --charset NAME PATH PIECE
                              Do so with a text, and say its charset
-  encode PATH ENCODING       Encode the content of a leaf as qp, base64 or 8bit
+  encode PATH ENCODING       Encode the content of a leaf as quoted-printable, base64 or 8bit
   replace PATH PIECE         Replace the section by the one that a piece is
   insert PATH PLACE PIECE    Insert such a section into a multipart, after PLACE parts
   append PATH PIECE          Insert such a section after the last part

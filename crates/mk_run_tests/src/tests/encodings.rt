@@ -28,6 +28,25 @@ script: encode 1 qp\n
 output: A: 1\nContent-Transfer-Encoding: quoted-printable\n\nh=E9\n
 status: Well
 
+== the words of the listing
+message: A: 1\n\nh\xe9\n
+script: encode 1 quoted-printable\n
+output: A: 1\nContent-Transfer-Encoding: quoted-printable\n\nh=E9\n
+status: Well
+
+== identity is 8bit
+message: A: 1\nContent-Transfer-Encoding: quoted-printable\n\nh=E9\n
+script: encode 1 identity\n
+output: A: 1\nContent-Transfer-Encoding: 8bit\n\nh\xe9\n
+status: Well
+
+== identity of a NUL
+message: A: 1\nContent-Transfer-Encoding: base64\n\nAA==\n
+script: encode 1 identity\n
+output: A: 1\nContent-Transfer-Encoding: base64\n\nAA==\n
+errors: line 1: BinaryContent\n
+status: Refused
+
 == lines end as in the message
 message: A: 1\r\n\r\nx
 script: encode 1 qp\n

@@ -123,6 +123,18 @@ status: Well
 take: C:
 message: A: 1\n\n
 status: Well
+
+== half a character stays encoded, and the word beside it is read
+take: A:
+message: A: =?utf-8?Q?=C3?= x =?utf-8?Q?b?=\n\n
+output: =?utf-8?Q?=C3?= x b\n
+status: Well
+
+== a character in two words
+take: A:
+message: A: =?utf-8?Q?=C3?= =?utf-8?Q?=A4?=\n\n
+output: \xc3\xa4\n
+status: Well
 "#;
 
 /// What goes into fields.
@@ -203,6 +215,72 @@ status: Well
 only: Bcc: a@b,\r\n Ä\r\n B <c@d>, ÄÄÄÄÄÄÄÄÄÄÄÄÄÄÄÄÄÄÄÄÄÄÄÄÄÄÄÄÄÄ <e@f>
 message: A: 1\r\n\r\n
 output: A: 1\r\nBcc: a@b,\r\n =?utf-8?B?w4QgQg==?= <c@d>, =?utf-8?B?w4TDhMOEw4TDhMOEw4TDhMOEw4TDhMOEw4TDhMOEw4TDhMOEw4TDhMOEw4Q=?=\r\n =?utf-8?B?w4TDhMOEw4TDhMOEw4TDhA==?= <e@f>\r\n\r\n
+status: Well
+
+== comments after addresses
+only: To: c@d (Jörg Müller), "Ä" <a@b> (Büro), <e@f> (x)
+message: A: 1\n\n
+output: A: 1\nTo: c@d (=?utf-8?B?SsO2cmcgTcO8bGxlcg==?=), =?utf-8?B?w4Q=?= <a@b> (=?utf-8?B?QsO8cm8=?=), <e@f> (x)\n\n
+status: Well
+
+== a comment beside a name, with a comment in it
+only: To: Jörg (Büro (ä)) <a@b>
+message: A: 1\n\n
+output: A: 1\nTo: =?utf-8?B?SsO2cmc=?= (=?utf-8?B?QsO8cm8gKMOkKQ==?=) <a@b>\n\n
+status: Well
+
+== a comment with a parenthesis that is escaped, and one that isn't closed
+only: Cc: a@b (ä\\) "x"), c@d (ä
+message: A: 1\n\n
+output: A: 1\nCc: a@b (=?utf-8?B?w6QpICJ4Ig==?=), c@d (=?utf-8?B?w6Q=?=\n\n
+status: Well
+
+== a comment on two lines
+only: Cc: a@b (ä\r\n b)
+message: A: 1\r\n\r\n
+output: A: 1\r\nCc: a@b (=?utf-8?B?w6QgYg==?=)\r\n\r\n
+status: Well
+
+== a parameter gets a charset
+only: Content-Disposition: attachment; filename="Übung 1.txt"; size=3
+message: A: 1\n\n
+output: A: 1\nContent-Disposition: attachment; filename*=utf-8''%C3%9Cbung%201.txt; size=3\n\n
+status: Well
+
+== a parameter without quotes, and comments
+only: Content-Type: text/plain (ä); charset=utf-8; name = ü (Büro)
+message: A: 1\n\n
+output: A: 1\nContent-Type: text/plain (=?utf-8?B?w6Q=?=); charset=utf-8; name*=utf-8''%C3%BC(=?utf-8?B?QsO8cm8=?=)\n\n
+status: Well
+
+== a quoted string with a quote and a backslash in it, and a semicolon
+only: Content-Type: a/b; x="ä;\\"\\\\"
+message: A: 1\n\n
+output: A: 1\nContent-Type: a/b; x*=utf-8''%C3%A4%3B%22%5C\n\n
+status: Well
+
+== a comment in a field that holds no text
+only: Resent-Message-ID: <a@b> (ä)
+message: A: 1\n\n
+output: A: 1\nResent-Message-ID: <a@b> (=?utf-8?B?w6Q=?=)\n\n
+status: Well
+
+== structured fields that can't be written go in as they are given
+only: Content-Disposition: attachment; filename="Ü" x
+message: A: 1\n\n
+output: A: 1\nContent-Disposition: attachment; filename="Ü" x\n\n
+status: Well
+
+== the name of a parameter that isn't ASCII
+only: Content-Type: a/b; ü=1
+message: A: 1\n\n
+output: A: 1\nContent-Type: a/b; ü=1\n\n
+status: Well
+
+== a name with an asterisk already
+only: Content-Type: a/b; x*="ü"
+message: A: 1\n\n
+output: A: 1\nContent-Type: a/b; x*="ü"\n\n
 status: Well
 
 == addresses in ASCII go in as they are given

@@ -178,6 +178,12 @@ message: B: 2\n\nx\n
 output: B: 2\nFrom: =?utf-8?B?SsO2cmc=?= <j@x.org>\n\nx\n
 status: Well
 
+== a parameter with a charset
+words: field|--encode|-I|Content-Disposition: attachment; filename=\x22Ü 1.txt\x22
+message: B: 2\n\nx\n
+output: B: 2\nContent-Disposition: attachment; filename*=utf-8''%C3%9C%201.txt\n\nx\n
+status: Well
+
 == a field as it is given
 words: field|-I|A: ä
 message: A: 1\nB: 2\nA: 3\n\nx\n
@@ -206,11 +212,19 @@ words: field|-u|A:|-u|B
 
 == an address that isn't ASCII, in encoded words
 words: field|--encode|-I|From: ä@b
-begins: error: invalid value 'From: ä@b' for '-I <FIELD>': --encode writes the names of addresses
+begins: error: invalid value 'From: ä@b' for '-I <FIELD>': in such a field --encode writes names, comments and parameters
+
+== a type that isn't ASCII
+words: field|--encode|-A|Content-Type: text/ä
+begins: error: invalid value 'Content-Type: text/ä' for '-A <FIELD>': in such a field --encode writes names, comments and parameters
+
+== bytes after a quoted string
+words: field|--encode|-I|Content-Disposition: attachment; filename=\x22ä\x22 b
+begins: error: invalid value 'Content-Disposition: attachment; filename=\x22ä\x22 b' for '-I <FIELD>': in such a field --encode writes names, comments and parameters
 
 == a name alone
 words: field|--encode|-A|A: ä|-A|Resent-To: Jörg
-begins: error: invalid value 'Resent-To: Jörg' for '-A <FIELD>': --encode writes the names of addresses
+begins: error: invalid value 'Resent-To: Jörg' for '-A <FIELD>': in such a field --encode writes names, comments and parameters
 
 == a letter that there isn't
 words: field|-r
