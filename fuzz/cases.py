@@ -8,6 +8,9 @@ from plain.program import Run
 FIELDS = [b"A: 9", b"A:", b"A: ", b"B: 2", b"subject: x", b"SUBJECT:", b"Content-Type: text/html", b"Content-Type:", b"MIME-Version: 1.0",
           b"From: z", b"--b: c", b"A: b\n c", b"A : 9", b"X:\n ", b"Content-Transfer-Encoding: base64", b"content-type: message/rfc822",
           "X: \u00e9".encode(), b"A: b\r", b"From : q", b"A: =?", "Subject : \u00e4 \u20ac\t".encode(), "A: b\n \u00e9".encode(), b"A: b\r\n c\n d",
+          "From: J\u00f6rg <j@x.org>".encode(), 'To: "\u00c4, B" <a@b>, c@d (B\u00fcro), G\u00fc: e@f, <g@h>;'.encode(), "Cc: \u00e4@b".encode(),
+          'Content-Disposition: attachment; filename="\u00dc 1.txt"; size=3'.encode(), 'Content-Type: text/plain; name=\u00fc (c); x="a\\"\u00e4"'.encode(),
+          "Message-ID: <a@b> (\u00e4 (b\\) c))".encode(), "Sender: (\u00e4 (b)) \u00e4(c)\u00e4 <c@d> (\u00fc".encode(), 'Content-Disposition: a; b="\u00e4" c'.encode(),
           ("B: " + "\u00e9" * 23).encode(), ("A:" + "a\u20ac\U0001d11e" * 12).encode(), b"A: " + b"long " * 50, b"X: a\tb"]
 FAULTY_FIELDS = [b"", b"A", b"A: b\n", b" A: b", b"A: b\nB: c", b": x", b"A b: c", b"A: b\n\n", b"\n", b"-x"]
 NAMES = [b"A", b"a", b"Subject", b"SUBJECT", b"Content-Type", b"From", b"--b", b"Old-A", b"Z", b"MIME-Version", b"Content-X", b"!"]

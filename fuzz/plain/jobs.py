@@ -22,7 +22,7 @@ class Job:
     piece: int = 0
 
 
-ENCODINGS = {b"qp": b"quoted-printable", b"base64": b"base64", b"8bit": b"8bit"}
+ENCODINGS = {b"qp": b"quoted-printable", b"quoted-printable": b"quoted-printable", b"base64": b"base64", b"8bit": b"8bit", b"identity": b"8bit"}
 TURNED = ("body", "replace", "insert", "content", "put-piece", "append", "append-text")
 LONGEST = 998
 
@@ -92,11 +92,12 @@ def encode(job, document, section, ending):
         content = listing.content(document, section)
     except encodings.Refused as reason:
         raise Fault(str(reason)) from None
-    if job.name == b"8bit" and not may_stand(content):
+    name = ENCODINGS[job.name]
+    if name == b"8bit" and not may_stand(content):
         raise Fault("BinaryContent")
-    said = b"Content-Transfer-Encoding: " + ENCODINGS[job.name] + ending
-    encoders = {b"qp": encodings.quoted_printable_encoded, b"base64": encodings.base64_encoded, b"8bit": lambda text, _: text}
-    text = encoders[job.name](content, ending)
+    said = b"Content-Transfer-Encoding: " + name + ending
+    encoders = {b"quoted-printable": encodings.quoted_printable_encoded, b"base64": encodings.base64_encoded, b"8bit": lambda text, _: text}
+    text = encoders[name](content, ending)
     text = divided(text, ending) if tree.is_followed(document, section) else text
     return put(replace(job, text=said), document, section, ending) + [edits.Edit("body", job.path, text=text)]
 

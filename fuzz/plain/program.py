@@ -2,7 +2,7 @@
 
 from collections import namedtuple
 
-from . import letters, listing, names, packing, scripts
+from . import letters, listing, names, packing, scripts, wording
 
 Run = namedtuple("Run", "words message files")            # files: a dictionary of names and bytes
 Answer = namedtuple("Answer", "status output errors files loose", defaults=(False,))
@@ -72,6 +72,8 @@ def are_letters_valid(found):
     given = letters_given(found)
     shapes, adds = any(flag in found for flag in letters.SHAPES), any(letter in letters.WITH_FIELDS for letter, _ in given)
     forms = any(flag in found for flag in letters.FORMS)
+    if b"--encode" in found and not all(wording.takes_words(word) for letter, word in given if letter in letters.WITH_FIELDS):
+        return False
     return letters.are_allowed(given) and (not shapes or b"-x" in found) and (not forms or adds)
 
 

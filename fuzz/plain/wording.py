@@ -1,6 +1,6 @@
 """Encoded words (RFC 2047), and values of fields as people write them."""
 
-from . import encodings, lines
+from . import encodings, lines, structured
 
 BLANKS = b" \t"
 DIGITS = b"0123456789ABCDEFabcdef"
@@ -75,10 +75,16 @@ def joined(value):
     return b"".join(line.content for line in lines.cut(value))
 
 
-def decoded(value):
+def whole_text(word):
+    """What an encoded word stands for, where that is UTF-8 (own)."""
+    text = word_text(word)
+    return text if text is None or is_utf8(text) else None
+
+
+def decoded(value, read=word_text):
     """Line endings go, encoded words are decoded, and blanks between two of them go (RFC 2047, 6.2)."""
     found, all_runs = b"", runs(joined(value))
-    texts = [None if blank else word_text(run) for blank, run in all_runs]
+    texts = [None if blank else read(run) for blank, run in all_runs]
     for at, (blank, run) in enumerate(all_runs):
         between = blank and 0 < at < len(texts) - 1 and texts[at - 1] is not None and texts[at + 1] is not None
         found += b"" if between else run if texts[at] is None else texts[at]
@@ -96,8 +102,9 @@ def unfolded(value):
 
 
 def said(value):
-    """What a value says is one line without blanks at its ends (own)."""
-    return on_one_line(decoded(value))
+    """What a value says is one line without blanks at its ends; a word of half a character stays where that isn't UTF-8 (own)."""
+    text = decoded(value)
+    return on_one_line(text if is_utf8(text) else decoded(value, whole_text))
 
 
 def pieces(text):
@@ -116,11 +123,26 @@ def encoded(text, ending):
     return (ending + b" ").join(words)
 
 
+def needs_words(text):
+    """A text in UTF-8 that isn't printable ASCII, or holds `=?` (own)."""
+    return is_utf8(text) and not (all(32 <= byte <= 126 for byte in text) and b"=?" not in text)
+
+
+def value_worded(name, value, ending):
+    """What goes into a field of a name; None where encoded words can't stand where they are needed (RFC 2047, 5)."""
+    return structured.worded(name, value, ending) if structured.kind(name) else encoded(value, ending)
+
+
 def worded(field, ending):
     """A value that isn't printable ASCII or holds `=?` goes in as encoded words (own)."""
     name, _, value = field.partition(b":")
-    value = value.strip(BLANKS)
-    plain = all(32 <= byte <= 126 for byte in value) and b"=?" not in value
-    if plain or not is_utf8(value):
-        return field
-    return name.rstrip(BLANKS) + b": " + encoded(value, ending)
+    name, value = name.rstrip(BLANKS), value.strip(BLANKS)
+    made = value_worded(name, value, ending) if needs_words(value) else None
+    return field if made is None else name + b": " + made
+
+
+def takes_words(field):
+    """Whether a field can go in so (own)."""
+    name, _, value = field.partition(b":")
+    name, value = name.rstrip(BLANKS), value.strip(BLANKS)
+    return not needs_words(value) or value_worded(name, value, b"\n") is not None
