@@ -20,7 +20,7 @@ use Rattle.mk_script.specs.Paths.{parted}
 use Rattle.mk_script.proofs.PieceLemmas.{HoldsNo, parted-append}
 use Rattle.mk_field.specs.Filtering.{behind_colon, part_behind}
 use Rattle.mk_mail.specs.Prepended.{is_one_line, is_plain}
-use Rattle.mk_wording.specs.Wording.{field_or, kind_of, worded_by, worded_field, worded_field_of, worded_value}
+use Rattle.mk_wording.specs.Wording.{field_or, field_kind, worded_by, worded_field, worded_field_of, worded_value}
 use Rattle.mk_wording.specs.declared.names.FieldKind.{FieldKind}
 use Rattle.mk_wording.specs.declared.names.FieldKind.TheVariants.{Text}
 use Rattle.mk_field.specs.Wording.{decoded_value, line_byte}
@@ -111,10 +111,10 @@ words_read eol name text h u b l s =
 
 -- what is read of a field whose text needs encoded words or not
 abbrev pub made_by : Ending → List ℕ → List ℕ → Bool → List ℕ
-made_by eol name text needs = decoded_value (behind_colon (if needs then field_or (field name text) name (worded_value (kind_of name) eol text) else field name text))
+made_by eol name text needs = decoded_value (behind_colon (if needs then field_or (field name text) name (worded_value (field_kind name) eol text) else field name text))
 
 -- what is read of the field that is made of a name and a text
-parts_read : (eol : Ending) (name text : List ℕ) (stays : Bool) → is_plain text ≡ stays → list_all is_name_byte name ≡ true → kind_of name ≡ Text → IsUtf8 text → IsBytes text → is_one_line text ≡ true
+parts_read : (eol : Ending) (name text : List ℕ) (stays : Bool) → is_plain text ≡ stays → list_all is_name_byte name ≡ true → field_kind name ≡ Text → IsUtf8 text → IsBytes text → is_one_line text ≡ true
     → stripped text ≡ text → decoded_value (behind_colon (worded_field_of eol (field name text) name text)) ≡ text
 parts_read eol name text true e h a u b l s = ap (made_by eol name text) (plain_stays text u e) ∙ plain_read name text h e u l s
 parts_read eol name text false e h a u b l s =

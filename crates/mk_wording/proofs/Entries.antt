@@ -4,14 +4,14 @@ use Rattle.std.proofs.lemmas.Bool.{cases_Bool}
 use Rattle.mk_line.specs.declared.cutting.Ending.{Ending}
 use Rattle.mk_head.specs.Values.{Scan, Plain, is_plain, scan}
 use Rattle.mk_wording.specs.Lists.{ends_of, worded_entries, worded_entry, worded_pieces}
-use Rattle.mk_wording.specs.Scanned.{Entry, before_mark, entries, from_mark, is_one_of, push_entry}
+use Rattle.mk_wording.specs.Scanned.{ListEntry, before_mark, entries, from_mark, is_one_of, push_entry}
 use Rattle.mk_wording.specs.Stretches.{part_before, worded_text}
 use Rattle.mk_wording.specs.declared.lists.ListKind.{ListKind}
 use Rattle.mk_wording.specs.declared.lists.ListKind.TheVariants.{Parameters}
 use Rattle.mk_wording.specs.declared.stretches.Outside.TheVariants.{Ascii}
 
 -- the entries after an end, where there is one
-abbrev pub entries_after : List ℕ → List ℕ → List Entry
+abbrev pub entries_after : List ℕ → List ℕ → List ListEntry
 entries_after ends [] = []
 entries_after ends (byte ∷ bytes) = entries ends Plain bytes
 

@@ -5,9 +5,9 @@ use Rattle.mk_line.specs.Ascii.{backslash, closing, opening, quote}
 use Rattle.mk_line.specs.Lines.{is_nil}
 use Rattle.mk_head.specs.Values.{Scan, Plain, Quoted, QuotedEscaped, Comment, CommentEscaped, is_plain, out_of, scan}
 use Rattle.mk_wording.specs.Scanned.{before_mark, from_mark, is_one_of}
-use Rattle.mk_wording.specs.ScanViews.{closing_of, inside_of}
+use Rattle.mk_wording.specs.inner.ScanViews.{closing_of, inside_of}
 use Rattle.mk_wording.specs.Stretches.{Stretch, begin_comment, is_in_comment, parenthesis, push_inside, push_outside, stretches}
-use Rattle.mk_wording.specs.StretchViews.{stretches_after}
+use Rattle.mk_wording.specs.inner.StretchViews.{stretches_after}
 
 -- the stretches from the closing parenthesis of a comment on
 abbrev stretches_from : List ℕ → List Stretch

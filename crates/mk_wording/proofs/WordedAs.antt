@@ -10,7 +10,7 @@ use Rattle.mk_head.specs.Values.{Scan, Plain, Comment, is_plain, scan}
 use Rattle.mk_wording.specs.Addresses.{angle, worded_address}
 use Rattle.mk_wording.specs.Lists.{ends_of, worded_entries, worded_entry, worded_list, worded_parameters, worded_pieces}
 use Rattle.mk_wording.specs.Parameters.{parameter_first, worded_parameter}
-use Rattle.mk_wording.specs.Scanned.{Entry, before_mark, entries, from_mark, is_one_of, push_entry}
+use Rattle.mk_wording.specs.Scanned.{ListEntry, before_mark, entries, from_mark, is_one_of, push_entry}
 use Rattle.mk_wording.specs.Stretches.{Stretch, are_ascii, begin_comment, comment_of, is_in_comment, only_ascii, parenthesis, part_before, push_inside, push_outside, stretches, worded_comment, worded_name, worded_outside, worded_stretches, worded_text}
 use Rattle.mk_wording.specs.WordingLaws.{AddressesStay, CommentsStay, Inside, IsWordedAs, Name, Other, Parameter, ParametersStay, bytes_of, written_as}
 use Rattle.mk_wording.specs.declared.lists.ListKind.{ListKind}
@@ -130,10 +130,10 @@ first_is eol (s ∷ ss) made h =
 
 -- ---- lists
 
-abbrev joined : Entry → List ℕ
+abbrev joined : ListEntry → List ℕ
 joined e = e.text ++ e.end
 
-push_joined : (b : ℕ) (es : List Entry) → flat_map joined (push_entry b es) ≡ b ∷ flat_map joined es
+push_joined : (b : ℕ) (es : List ListEntry) → flat_map joined (push_entry b es) ≡ b ∷ flat_map joined es
 push_joined b [] = refl
 push_joined b (e ∷ es) = refl
 
@@ -160,25 +160,25 @@ address_is eol group name (b ∷ bs) made h =
     parts_are eol name [] (b ∷ bs) [] made (worded_text Names eol name) (worded_text Ascii eol (b ∷ bs)) (λ part e. text_is eol Names name part e) (nothing eol)
     (λ back e. text_is eol Ascii (b ∷ bs) back e) h
 
-entry_is : (eol : Ending) (kind : ListKind) (e : Entry) (made : List ℕ) → worded_entry kind eol e ≡ Some made → IsWordedAs eol e.text made
+entry_is : (eol : Ending) (kind : ListKind) (e : ListEntry) (made : List ℕ) → worded_entry kind eol e ≡ Some made → IsWordedAs eol e.text made
 entry_is eol Addresses e made h =
     subst (λ v. IsWordedAs eol v made) (marks_joined angle Plain e.text)
     (address_is eol (is_one_of e.end colon) (before_mark angle Plain e.text) (from_mark angle Plain e.text) made h)
 entry_is eol Parameters e made h = subst (λ v. IsWordedAs eol v made) (stretches_joined Plain e.text) (first_is eol (stretches Plain e.text) made h)
 
 -- an entry, its end and others
-entry_more : (eol : Ending) (e : Entry) (d made : List ℕ) (o r : Option (List ℕ)) → ((part : List ℕ) → o ≡ Some part → IsWordedAs eol e.text part)
+entry_more : (eol : Ending) (e : ListEntry) (d made : List ℕ) (o r : Option (List ℕ)) → ((part : List ℕ) → o ≡ Some part → IsWordedAs eol e.text part)
     → ((back : List ℕ) → r ≡ Some back → IsWordedAs eol d back) → part_before e.end o r ≡ Some made → IsWordedAs eol (joined e ++ d) made
 entry_more eol e d made o r f g h =
     subst (λ v. IsWordedAs eol v made) (sym (append_assoc e.text e.end d)) (parts_are eol e.text e.end d e.end made o r f (other eol e.end) g h)
 
-entries_are : (eol : Ending) (kind : ListKind) (es : List Entry) (made : List ℕ) → worded_entries kind eol es ≡ Some made → IsWordedAs eol (flat_map joined es) made
+entries_are : (eol : Ending) (kind : ListKind) (es : List ListEntry) (made : List ℕ) → worded_entries kind eol es ≡ Some made → IsWordedAs eol (flat_map joined es) made
 entries_are eol kind [] made h = subst (IsWordedAs eol []) (ap (held made) h) (nothing eol)
 entries_are eol kind (e ∷ es) made h =
     entry_more eol e (flat_map joined es) made (worded_entry kind eol e) (worded_entries kind eol es) (λ part k. entry_is eol kind e part k)
     (λ back k. entries_are eol kind es back k) h
 
-pieces_are : (eol : Ending) (es : List Entry) (made : List ℕ) → worded_pieces eol es ≡ Some made → IsWordedAs eol (flat_map joined es) made
+pieces_are : (eol : Ending) (es : List ListEntry) (made : List ℕ) → worded_pieces eol es ≡ Some made → IsWordedAs eol (flat_map joined es) made
 pieces_are eol [] made h = subst (IsWordedAs eol []) (ap (held made) h) (nothing eol)
 pieces_are eol (e ∷ es) made h =
     entry_more eol e (flat_map joined es) made (worded_text Ascii eol e.text) (worded_entries Parameters eol es) (λ part k. text_is eol Ascii e.text part k)

@@ -1,9 +1,8 @@
-pub mod ScanViews
 pub mod Scanned
 pub mod Stretches
-pub mod StretchViews
 pub mod Addresses
 pub mod Parameters
 pub mod Lists
 pub mod Wording
 pub mod WordingLaws
+pub mod inner

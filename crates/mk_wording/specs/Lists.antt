@@ -5,7 +5,7 @@ use Rattle.mk_line.specs.Ascii.{colon}
 use Rattle.mk_head.specs.Values.{Plain}
 use Rattle.mk_wording.specs.Addresses.{angle, worded_address}
 use Rattle.mk_wording.specs.Parameters.{parameter_first}
-use Rattle.mk_wording.specs.Scanned.{Entry, before_mark, entries, from_mark, is_one_of}
+use Rattle.mk_wording.specs.Scanned.{ListEntry, before_mark, entries, from_mark, is_one_of}
 use Rattle.mk_wording.specs.Stretches.{part_before, stretches, worded_text}
 use Rattle.mk_wording.specs.declared.lists.ListKind.{ListKind}
 use Rattle.mk_wording.specs.declared.lists.ListKind.TheVariants.{Addresses, Parameters}
@@ -17,12 +17,12 @@ ends_of Addresses = codes ",;:"
 ends_of Parameters = codes ";"
 
 -- an entry with its name in encoded words, where it needs them, or with its charset; nothing where another part isn't ASCII
-abbrev pub worded_entry : ListKind → Ending → Entry → Option (List ℕ)
+abbrev pub worded_entry : ListKind → Ending → ListEntry → Option (List ℕ)
 worded_entry Addresses eol e = worded_address eol (is_one_of e.end colon) (before_mark angle Plain e.text) (from_mark angle Plain e.text)
 worded_entry Parameters eol e = parameter_first eol (stretches Plain e.text)
 
 -- such entries
-abbrev pub worded_entries : ListKind → Ending → List Entry → Option (List ℕ)
+abbrev pub worded_entries : ListKind → Ending → List ListEntry → Option (List ℕ)
 worded_entries kind eol [] = Some []
 worded_entries kind eol (e ∷ es) = part_before e.end (worded_entry kind eol e) (worded_entries kind eol es)
 
@@ -31,7 +31,7 @@ abbrev pub worded_list : ListKind → Ending → List ℕ → Option (List ℕ)
 worded_list kind eol value = worded_entries kind eol (entries (ends_of kind) Plain value)
 
 -- what stands before the first parameter, and the parameters
-abbrev pub worded_pieces : Ending → List Entry → Option (List ℕ)
+abbrev pub worded_pieces : Ending → List ListEntry → Option (List ℕ)
 worded_pieces eol [] = Some []
 worded_pieces eol (e ∷ es) = part_before e.end (worded_text Ascii eol e.text) (worded_entries Parameters eol es)
 

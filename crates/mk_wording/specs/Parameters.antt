@@ -36,13 +36,13 @@ charset_parameter white name value =
     if is_attribute name && is_whole_value value then Some (white ++ (name ++ (codes "*=utf-8''" ++ percent_encoded (name_said false value)))) else None
 
 -- the same of a text that was parted at its first equals sign
-abbrev pub with_charset : Option (List ℕ × List ℕ) → Option (List ℕ)
-with_charset None = None
-with_charset (Some p) = charset_parameter (indent p.0) (trimmed (unindented p.0)) (trimmed (unindented p.1))
+abbrev pub given_charset : Option (List ℕ × List ℕ) → Option (List ℕ)
+given_charset None = None
+given_charset (Some p) = charset_parameter (indent p.0) (trimmed (unindented p.0)) (trimmed (unindented p.1))
 
 -- a parameter, with its charset where it isn't ASCII; nothing where that can't be
 abbrev pub worded_parameter : List ℕ → Option (List ℕ)
-worded_parameter text = if are_ascii text then Some text else with_charset (parted equals_sign text)
+worded_parameter text = if are_ascii text then Some text else given_charset (parted equals_sign text)
 
 -- a parameter and the comments after it
 abbrev pub parameter_first : Ending → List Stretch → Option (List ℕ)

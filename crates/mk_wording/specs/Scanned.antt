@@ -18,17 +18,17 @@ from_mark marks s [] = []
 from_mark marks s (byte ∷ bytes) = if is_plain s && is_one_of marks byte then byte ∷ bytes else from_mark marks (scan s byte) bytes
 
 -- a part of a list, and the byte that ends it, if there is one
-pub record Entry : Type 0 where
+pub record ListEntry : Type 0 where
   pub text : List ℕ
   pub end : List ℕ
 
 -- a byte put before the first entry
-abbrev pub push_entry : ℕ → List Entry → List Entry
+abbrev pub push_entry : ℕ → List ListEntry → List ListEntry
 push_entry byte [] = record { text = byte ∷ []; end = [] } ∷ []
 push_entry byte (e ∷ es) = record { text = byte ∷ e.text; end = e.end } ∷ es
 
 -- the entries of a list, of which some bytes outside quoted strings and comments are the ends
-abbrev pub entries : List ℕ → Scan → List ℕ → List Entry
+abbrev pub entries : List ℕ → Scan → List ℕ → List ListEntry
 entries ends s [] = record { text = []; end = [] } ∷ []
 entries ends s (byte ∷ bytes) =
     if is_plain s && is_one_of ends byte then record { text = []; end = byte ∷ [] } ∷ entries ends Plain bytes

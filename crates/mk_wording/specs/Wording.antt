@@ -36,15 +36,15 @@ abbrev pub without_resent : List ℕ → List ℕ
 without_resent name = if same_name (codes "resent-") (take 7 name) then drop 7 name else name
 
 -- one of some names, in any case
-abbrev pub is_among : List (List ℕ) → List ℕ → Bool
-is_among names name = list_any (same_name name) names
+abbrev pub is_one_of_names : List (List ℕ) → List ℕ → Bool
+is_one_of_names names name = list_any (same_name name) names
 
 -- what the value of a field of a name is
-abbrev pub kind_of : List ℕ → FieldKind
-kind_of name =
-    if is_among address_names (without_resent name) then Addresses
-    else (if is_among parameter_names name then Parameters
-    else (if is_among comment_names (without_resent name) then Comments else Text))
+abbrev pub field_kind : List ℕ → FieldKind
+field_kind name =
+    if is_one_of_names address_names (without_resent name) then Addresses
+    else (if is_one_of_names parameter_names name then Parameters
+    else (if is_one_of_names comment_names (without_resent name) then Comments else Text))
 
 -- the field of a name and a value
 abbrev pub made_field : List ℕ → List ℕ → List ℕ
@@ -64,11 +64,11 @@ field_or field name (Some worded) = made_field name worded
 
 -- a field of a name and a value, or as it is given, where its value needs no encoded words
 abbrev pub worded_field_of : Ending → List ℕ → List ℕ → List ℕ → List ℕ
-worded_field_of eol field name value = if needs_words value then field_or field name (worded_value (kind_of name) eol value) else field
+worded_field_of eol field name value = if needs_words value then field_or field name (worded_value (field_kind name) eol value) else field
 
 -- a value that can go into a field of a name as encoded words, or needs none
 abbrev pub value_takes_words : List ℕ → List ℕ → Bool
-value_takes_words name value = not (needs_words value) || is_some (worded_value (kind_of name) Lf value)
+value_takes_words name value = not (needs_words value) || is_some (worded_value (field_kind name) Lf value)
 
 -- the same of a field that was parted at its colon
 abbrev pub taken_by : Option (List ℕ × List ℕ) → Bool

@@ -2,7 +2,7 @@
 
 ghost use Rattle.std.specs.Prelude.{◌≡◌};
 ghost use Rattle.mk_mail.specs.Letters.{same_name};
-ghost use Rattle.mk_wording.specs.Wording.{address_names, comment_names, is_among, kind_of as kind_of_name, parameter_names, without_resent as not_resent};
+ghost use Rattle.mk_wording.specs.Wording.{address_names, comment_names, is_one_of_names, field_kind as kind_of_name, parameter_names, without_resent as not_resent};
 
 /// What `Resent-` before a name is (RFC 5322, 3.6.6).
 const RESENT: &[u8; 7] = b"resent-";
@@ -37,7 +37,7 @@ pub(crate) fn kind_of(name: &[u8]) -> FieldKind
 
 // Whether a field of this name holds addresses (RFC 5322, 3.6.2 and 3.6.3; RFC 8098, 2.1).
 fn is_address_name(name: &[u8]) -> bool
-    ensures { result ≡ is_among address_names name.now }
+    ensures { result ≡ is_one_of_names address_names name.now }
 {
     is_same(name, b"from")
         || is_same(name, b"sender")
@@ -50,14 +50,14 @@ fn is_address_name(name: &[u8]) -> bool
 
 // Whether it has parameters (RFC 2045, 5.1; RFC 2183, 2).
 fn is_parameter_name(name: &[u8]) -> bool
-    ensures { result ≡ is_among parameter_names name.now }
+    ensures { result ≡ is_one_of_names parameter_names name.now }
 {
     is_same(name, b"content-type") || is_same(name, b"content-disposition")
 }
 
 // Whether it is another field in which only comments are text (RFC 5322, 3.6.1, 3.6.4 and 3.6.7; RFC 2045, 4, 6 and 7).
 fn is_comment_name(name: &[u8]) -> bool
-    ensures { result ≡ is_among comment_names name.now }
+    ensures { result ≡ is_one_of_names comment_names name.now }
 {
     is_same(name, b"date")
         || is_same(name, b"message-id")

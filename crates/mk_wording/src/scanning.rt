@@ -4,7 +4,7 @@ ghost use Rattle.std.specs.Prelude.{◌≡◌, ◌+◌, ◌^◌, ◌<◌, ◌≤
 ghost use Rattle.mk_head.specs.Depths.{depth_of};
 ghost use Rattle.mk_head.specs.Values.{Comment, Plain, Quoted, out_of, scan as scanned};
 ghost use Rattle.mk_wording.specs.Scanned.{before_mark, from_mark, is_one_of as one_of};
-ghost use Rattle.mk_wording.specs.ScanViews.{closing_of, inside_of, scan_of};
+ghost use Rattle.mk_wording.specs.inner.ScanViews.{closing_of, inside_of, scan_of};
 
 const QUOTE: u8 = b'"';
 
@@ -28,7 +28,7 @@ impl Scan {
     ghost use Rattle.std.specs.Prelude.{◌≡◌, ◌+◌, ◌^◌, ◌<◌, ◌≤◌};
     ghost use Rattle.mk_head.specs.Depths.{depth_of};
     ghost use Rattle.mk_head.specs.Values.{is_plain as stands_plain, scan as scanned};
-    ghost use Rattle.mk_wording.specs.ScanViews.{scan_of};
+    ghost use Rattle.mk_wording.specs.inner.ScanViews.{scan_of};
 
     // Where the byte after this one stands.
     fn next(self, byte: u8) -> Scan

@@ -7,7 +7,7 @@ ghost use Rattle.mk_head.specs.Values.{Plain};
 ghost use Rattle.mk_mail.specs.LetterViews.{bytes_in};
 ghost use Rattle.mk_mail.specs.Prepended.{is_break as breaks, is_white as white};
 ghost use Rattle.mk_wording.specs.Stretches.{are_ascii as all_ascii, comment_of, comment_said as said_by_comment, indent as indent_of, name_said as said_by_name, only_ascii, stretches, unindented as text_after_indent, worded_comment as comment_in_words, worded_name as name_in_words, worded_outside as outside_in_words, worded_text as text_in_words};
-ghost use Rattle.mk_wording.specs.StretchViews.{stretch_of, stretches_after};
+ghost use Rattle.mk_wording.specs.inner.StretchViews.{stretch_of, stretches_after};
 
 use crate::scanning::{comment_end, mark_place};
 use mk_code::words_encode;

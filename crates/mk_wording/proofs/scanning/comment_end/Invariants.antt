@@ -1,7 +1,7 @@
 use Rattle.std.proofs.Common.{◌≡◌, ◌++◌, ◌+◌, ◌≤◌, drop, take}
 use Rattle.mk_head.specs.Depths.{depth_of}
 use Rattle.mk_head.specs.Values.{Comment}
-use Rattle.mk_wording.specs.ScanViews.{closing_of, inside_of, scan_of}
+use Rattle.mk_wording.specs.inner.ScanViews.{closing_of, inside_of, scan_of}
 use Rattle.mk_wording.proofs.scanning.comment_end.Given as goal
 
 abbrev pub invariant-loop-place : goal.invariant-loop-place

@@ -2,7 +2,7 @@ use Rattle.std.proofs.Common.{◌≡◌, ◌++◌, ◌≤◌, drop, take}
 use Rattle.mk_head.specs.Depths.{depth_of}
 use Rattle.mk_head.specs.Values.{Plain}
 use Rattle.mk_wording.specs.Scanned.{before_mark, from_mark}
-use Rattle.mk_wording.specs.ScanViews.{scan_of}
+use Rattle.mk_wording.specs.inner.ScanViews.{scan_of}
 use Rattle.mk_wording.proofs.scanning.mark_place.Given as goal
 
 abbrev pub invariant-loop-place : goal.invariant-loop-place

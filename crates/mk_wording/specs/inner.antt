@@ -1,0 +1,2 @@
+pub mod ScanViews
+pub mod StretchViews
