@@ -8,7 +8,8 @@ use Rattle.mk_line.specs.Lines.{TextLine, cut, ended, has_line_feed, is_nil, is_
 use Rattle.mk_line.proofs.Cuts.{cut_other, text_cut}
 use Rattle.mk_mailbox.specs.Gathered.{IsWholeLine, front_of, later_of}
 use Rattle.mk_mailbox.specs.Mailboxes.{IsOpenInFront}
-use Rattle.mk_mailbox.specs.Pieces.{is_first, front, later, parted, mailbox_pieces}
+use Rattle.mk_line.specs.Kinds.{is_field_start}
+use Rattle.mk_mailbox.specs.Pieces.{is_first, front, later, parted, mailbox_pieces, starts_field}
 
 -- a line with its line feed, and what follows it
 pub cut_line : (before more : List ℕ) → has_line_feed before ≡ false → cut ((before ++ 10 ∷ []) ++ more) ≡ ended before ∷ cut more
@@ -53,45 +54,45 @@ pub whole_some : (line content : List ℕ) → IsWholeLine line content → 0 < 
 whole_some line content w = let e : length line ≡ length (w.before ++ 10 ∷ []) = ap length w.parts in omega (arith, e, length-append w.before (10 ∷ []))
 
 -- by its content a line belongs to the message, or begins the next one
-front_stays : (way : FromLines) (e : Bool) (l : TextLine) (ls : List TextLine) → is_first way e l.content ≡ false → text_of (front way e (l ∷ ls)) ≡ printed_line l ++ text_of (front way (is_nil l.content) ls)
+front_stays : (way : FromLines) (e : Bool) (l : TextLine) (ls : List TextLine) → is_first way e l.content ls ≡ false → text_of (front way e (l ∷ ls)) ≡ printed_line l ++ text_of (front way (is_nil l.content) ls)
 front_stays way e l ls t = rw t refl
 
-later_stays : (way : FromLines) (e : Bool) (l : TextLine) (ls : List TextLine) → is_first way e l.content ≡ false → map text_of (later way e (l ∷ ls)) ≡ map text_of (later way (is_nil l.content) ls)
+later_stays : (way : FromLines) (e : Bool) (l : TextLine) (ls : List TextLine) → is_first way e l.content ls ≡ false → map text_of (later way e (l ∷ ls)) ≡ map text_of (later way (is_nil l.content) ls)
 later_stays way e l ls t = rw t refl
 
-front_begins : (way : FromLines) (e : Bool) (l : TextLine) (ls : List TextLine) → is_first way e l.content ≡ true → text_of (front way e (l ∷ ls)) ≡ []
+front_begins : (way : FromLines) (e : Bool) (l : TextLine) (ls : List TextLine) → is_first way e l.content ls ≡ true → text_of (front way e (l ∷ ls)) ≡ []
 front_begins way e l ls t = rw t refl
 
-later_begins : (way : FromLines) (e : Bool) (l : TextLine) (ls : List TextLine) → is_first way e l.content ≡ true → map text_of (later way e (l ∷ ls)) ≡ map text_of (parted way (l ∷ ls))
+later_begins : (way : FromLines) (e : Bool) (l : TextLine) (ls : List TextLine) → is_first way e l.content ls ≡ true → map text_of (later way e (l ∷ ls)) ≡ map text_of (parted way (l ∷ ls))
 later_begins way e l ls t = rw t refl
 
 line_is : (line content : List ℕ) (w : IsWholeLine line content) → printed_line (ended w.before) ≡ line
 line_is line content w = printed_ended w.before w.no_feed ∙ sym w.parts
 
-first_is : (way : FromLines) (e : Bool) (t : Bool) (line content : List ℕ) (w : IsWholeLine line content) → is_first way e content ≡ t → is_first way e (ended w.before).content ≡ t
-first_is way e t line content w h = ap (is_first way e) (sym w.content_is) ∙ h
+first_is : (way : FromLines) (e : Bool) (t : Bool) (line content more : List ℕ) (w : IsWholeLine line content) → is_first way e content (cut more) ≡ t → is_first way e (ended w.before).content (cut more) ≡ t
+first_is way e t line content more w h = ap (λ c. is_first way e c (cut more)) (sym w.content_is) ∙ h
 
-pub front_line : (way : FromLines) (e : Bool) (line content more : List ℕ) → IsWholeLine line content → is_first way e content ≡ false → front_of way e (line ++ more) ≡ line ++ front_of way (is_nil content) more
+pub front_line : (way : FromLines) (e : Bool) (line content more : List ℕ) → IsWholeLine line content → is_first way e content (cut more) ≡ false → front_of way e (line ++ more) ≡ line ++ front_of way (is_nil content) more
 front_line way e line content more w t =
     ap (λ ls. text_of (front way e ls)) (whole_cut line content more w)
-    ∙ (front_stays way e (ended w.before) (cut more) (first_is way e false line content w t)
+    ∙ (front_stays way e (ended w.before) (cut more) (first_is way e false line content more w t)
     ∙ (ap (λ x. x ++ front_of way (is_nil (ended w.before).content) more) (line_is line content w)
     ∙ ap (λ c. line ++ front_of way (is_nil c) more) (sym w.content_is)))
 
-pub later_line : (way : FromLines) (e : Bool) (line content more : List ℕ) → IsWholeLine line content → is_first way e content ≡ false → later_of way e (line ++ more) ≡ later_of way (is_nil content) more
+pub later_line : (way : FromLines) (e : Bool) (line content more : List ℕ) → IsWholeLine line content → is_first way e content (cut more) ≡ false → later_of way e (line ++ more) ≡ later_of way (is_nil content) more
 later_line way e line content more w t =
     ap (λ ls. map text_of (later way e ls)) (whole_cut line content more w)
-    ∙ (later_stays way e (ended w.before) (cut more) (first_is way e false line content w t)
+    ∙ (later_stays way e (ended w.before) (cut more) (first_is way e false line content more w t)
     ∙ ap (λ c. later_of way (is_nil c) more) (sym w.content_is))
 
-pub front_first : (way : FromLines) (e : Bool) (line content more : List ℕ) → IsWholeLine line content → is_first way e content ≡ true → front_of way e (line ++ more) ≡ []
+pub front_first : (way : FromLines) (e : Bool) (line content more : List ℕ) → IsWholeLine line content → is_first way e content (cut more) ≡ true → front_of way e (line ++ more) ≡ []
 front_first way e line content more w t =
-    ap (λ ls. text_of (front way e ls)) (whole_cut line content more w) ∙ front_begins way e (ended w.before) (cut more) (first_is way e true line content w t)
+    ap (λ ls. text_of (front way e ls)) (whole_cut line content more w) ∙ front_begins way e (ended w.before) (cut more) (first_is way e true line content more w t)
 
-pub later_first : (way : FromLines) (e : Bool) (line content more : List ℕ) → IsWholeLine line content → is_first way e content ≡ true → later_of way e (line ++ more) ≡ mailbox_pieces way (line ++ more)
+pub later_first : (way : FromLines) (e : Bool) (line content more : List ℕ) → IsWholeLine line content → is_first way e content (cut more) ≡ true → later_of way e (line ++ more) ≡ mailbox_pieces way (line ++ more)
 later_first way e line content more w t =
     ap (λ ls. map text_of (later way e ls)) (whole_cut line content more w)
-    ∙ (later_begins way e (ended w.before) (cut more) (first_is way e true line content w t)
+    ∙ (later_begins way e (ended w.before) (cut more) (first_is way e true line content more w t)
     ∙ ap (λ ls. map text_of (parted way ls)) (sym (whole_cut line content more w)))
 
 -- the first message, and those after it
@@ -101,3 +102,7 @@ parted_some way (l ∷ ls) h = refl
 
 pub pieces_of : (way : FromLines) (text : List ℕ) → 0 < length text → mailbox_pieces way text ≡ front_of way false text ∷ later_of way false text
 pieces_of way text h = let e : length (text_of (cut text)) ≡ length text = ap length (text_cut text) in parted_some way (cut text) (omega (arith, e, h))
+
+-- the line that comes next is a field start, or not
+pub starts_line : (line content more : List ℕ) → IsWholeLine line content → starts_field (cut (line ++ more)) ≡ is_field_start content
+starts_line line content more w = ap starts_field (whole_cut line content more w) ∙ ap is_field_start (sym w.content_is)

@@ -1,6 +1,6 @@
 -- The messages of a mailbox are all of it, and none is empty or cut again.
 use Rattle.mk_mailbox.specs.declared.from_lines.FromLines.{FromLines}
-use Rattle.std.proofs.Common.{◌≡◌, ◌<◌, ◌++◌, ℕ, Bool, false, List, [], ◌∷◌, refl, ap, sym, ◌∙◌, inl, inr, map, length, length-append, append_assoc, arith}
+use Rattle.std.proofs.Common.{◌≡◌, ◌<◌, ◌&&◌, ◌++◌, ℕ, Bool, false, List, [], ◌∷◌, refl, ap, sym, ◌∙◌, inl, inr, map, length, length-append, append_assoc, arith}
 use Rattle.std.specs.List.{flat_map}
 use Rattle.std.proofs.lemmas.Bool.{cases_Bool}
 use Rattle.mk_line.specs.declared.cutting.Ending.{Ending}
@@ -8,7 +8,9 @@ use Rattle.mk_line.specs.declared.cutting.Ending.TheVariants.{Crlf, Lf, Missing}
 use Rattle.mk_line.specs.Lines.{AreLines, IsLine, TextLine, cut, is_nil, printed_line, text_line, text_of}
 use Rattle.mk_line.proofs.Cuts.{cut_text, lines_cut, text_cut}
 use Rattle.mk_mailbox.specs.MailboxLaws.{AreOnes, AreSome}
-use Rattle.mk_mailbox.specs.Pieces.{is_first, front, later, parted, mailbox_pieces}
+use Rattle.mk_mailbox.specs.declared.from_lines.FromLines.TheVariants.{Any, Dated, Fielded}
+use Rattle.mk_mailbox.specs.Pieces.{is_first, is_followed, front, later, may_begin, parted, mailbox_pieces}
+use Rattle.mk_mailbox.proofs.LinesGathered.{and_false, other_first}
 
 abbrev joined : List (List TextLine) → List ℕ
 joined ps = flat_map (λ p. p) (map text_of ps)
@@ -19,7 +21,7 @@ front_and_later way e [] = refl
 front_and_later way e (l ∷ ls) =
     let rest = front_and_later way (is_nil l.content) ls in
     let line = append_assoc (printed_line l) (text_of (front way (is_nil l.content) ls)) (joined (later way (is_nil l.content) ls)) in
-    elim (cases_Bool (is_first way e l.content)) [
+    elim (cases_Bool (is_first way e l.content ls)) [
       | inl t ↦ rw t (line ∙ ap (λ x. printed_line l ++ x) rest)
       | inr n ↦ rw n (line ∙ ap (λ x. printed_line l ++ x) rest)
     ]
@@ -46,7 +48,7 @@ some_later : (way : FromLines) (e : Bool) (ls : List TextLine) → AreLines ls �
 some_later way e [] h = tt
 some_later way e (l ∷ ls) h =
     let rest = some_later way (is_nil l.content) ls h.2 in
-    elim (cases_Bool (is_first way e l.content)) [
+    elim (cases_Bool (is_first way e l.content ls)) [
       | inl t ↦ rw t (some_lines l (front way (is_nil l.content) ls) h.0, rest)
       | inr n ↦ rw n rest
     ]
@@ -63,34 +65,60 @@ pub lines_front : (way : FromLines) (e : Bool) (ls : List TextLine) → AreLines
 lines_front way e [] h = tt
 lines_front way e (l ∷ ls) h =
     let rest = lines_front way (is_nil l.content) ls h.2 in
-    elim (cases_Bool (is_first way e l.content)) [
+    elim (cases_Bool (is_first way e l.content ls)) [
       | inl t ↦ rw t tt
       | inr n ↦ rw n (h.0, (λ o. ap (front way (is_nil l.content)) (h.1 o)), rest)
     ]
 
-belongs : (way : FromLines) (e : Bool) (l : TextLine) (ls : List TextLine) → is_first way e l.content ≡ false → front way e (l ∷ ls) ≡ l ∷ front way (is_nil l.content) ls
+belongs : (way : FromLines) (e : Bool) (l : TextLine) (ls : List TextLine) → is_first way e l.content ls ≡ false → front way e (l ∷ ls) ≡ l ∷ front way (is_nil l.content) ls
 belongs way e l ls n = rw n refl
 
-skips : (way : FromLines) (e : Bool) (l : TextLine) (ls : List TextLine) → is_first way e l.content ≡ false → later way e (l ∷ ls) ≡ later way (is_nil l.content) ls
+skips : (way : FromLines) (e : Bool) (l : TextLine) (ls : List TextLine) → is_first way e l.content ls ≡ false → later way e (l ∷ ls) ≡ later way (is_nil l.content) ls
 skips way e l ls n = rw n refl
+
+-- the line that comes next in the message is the one that comes next
+still_followed : (way : FromLines) (e : Bool) (ls : List TextLine) → is_followed way ls ≡ false → is_followed way (front way e ls) ≡ false
+still_followed way e [] f = f
+still_followed way e (l ∷ ls) f =
+    elim (cases_Bool (is_first way e l.content ls)) [
+      | inl t ↦ rw t (none_followed way (l ∷ ls) f)
+      | inr n ↦ rw n f
+    ]
+  where
+    none_followed : (way : FromLines) (ls : List TextLine) → is_followed way ls ≡ false → is_followed way [] ≡ false
+    none_followed Any ls f = f
+    none_followed Dated ls f = f
+    none_followed Fielded ls f = refl
+
+pub still_belongs : (way : FromLines) (e d : Bool) (content : List ℕ) (ls : List TextLine) → is_first way e content ls ≡ false → is_first way e content (front way d ls) ≡ false
+still_belongs way e d content ls n =
+    elim (cases_Bool (may_begin way e content)) [
+      | inl m ↦
+          let bare : is_followed way ls ≡ false = ap (λ t. t && is_followed way ls) (sym m) ∙ n in
+          rw (still_followed way d ls bare) (and_false (may_begin way e content))
+      | inr m ↦ other_first way e content (front way d ls) m
+    ]
 
 -- no line of a message begins another
 front_again : (way : FromLines) (e : Bool) (ls : List TextLine) → front way e (front way e ls) ≡ front way e ls
 front_again way e [] = refl
 front_again way e (l ∷ ls) =
-    elim (cases_Bool (is_first way e l.content)) [
+    elim (cases_Bool (is_first way e l.content ls)) [
       | inl t ↦ rw t refl
       | inr n ↦
+          let still = still_belongs way e (is_nil l.content) l.content ls n in
           ap (front way e) (belongs way e l ls n)
-          ∙ (belongs way e l (front way (is_nil l.content) ls) n ∙ (ap (λ (xs : List TextLine). l ∷ xs) (front_again way (is_nil l.content) ls) ∙ sym (belongs way e l ls n)))
+          ∙ (belongs way e l (front way (is_nil l.content) ls) still ∙ (ap (λ (xs : List TextLine). l ∷ xs) (front_again way (is_nil l.content) ls) ∙ sym (belongs way e l ls n)))
     ]
 
 later_again : (way : FromLines) (e : Bool) (ls : List TextLine) → later way e (front way e ls) ≡ []
 later_again way e [] = refl
 later_again way e (l ∷ ls) =
-    elim (cases_Bool (is_first way e l.content)) [
+    elim (cases_Bool (is_first way e l.content ls)) [
       | inl t ↦ rw t refl
-      | inr n ↦ ap (later way e) (belongs way e l ls n) ∙ (skips way e l (front way (is_nil l.content) ls) n ∙ later_again way (is_nil l.content) ls)
+      | inr n ↦
+          let still = still_belongs way e (is_nil l.content) l.content ls n in
+          ap (later way e) (belongs way e l ls n) ∙ (skips way e l (front way (is_nil l.content) ls) still ∙ later_again way (is_nil l.content) ls)
     ]
 
 one_piece : (way : FromLines) (l : TextLine) (ls : List TextLine) → AreLines (l ∷ ls) → let text = text_of (l ∷ front way (is_nil l.content) ls) in mailbox_pieces way text ≡ text ∷ []
@@ -103,7 +131,7 @@ ones_later : (way : FromLines) (e : Bool) (ls : List TextLine) → AreLines ls �
 ones_later way e [] h = tt
 ones_later way e (l ∷ ls) h =
     let rest = ones_later way (is_nil l.content) ls h.2 in
-    elim (cases_Bool (is_first way e l.content)) [
+    elim (cases_Bool (is_first way e l.content ls)) [
       | inl t ↦ rw t (one_piece way l ls h, rest)
       | inr n ↦ rw n rest
     ]

@@ -9,10 +9,11 @@ use Rattle.mk_line.specs.Kinds.{is_from_line}
 use Rattle.mk_line.specs.Lines.{AreLines, TextLine, cut, ended, ends_open, has_line_feed, is_lf, is_nil, onto_first, text_line, text_of, with_byte}
 use Rattle.mk_line.proofs.Cuts.{last_open, lines_cut, text_append, text_cut}
 use Rattle.mk_mailbox.specs.declared.from_lines.FromLines.{FromLines}
-use Rattle.mk_mailbox.specs.declared.from_lines.FromLines.TheVariants.{Any, Dated}
+use Rattle.mk_mailbox.specs.declared.from_lines.FromLines.TheVariants.{Any, Dated, Fielded}
 use Rattle.mk_mailbox.specs.Gathered.{AreQuiet, IsGathered, IsOnePiece, front_of, later_of, none_from}
-use Rattle.mk_mailbox.specs.Pieces.{front, is_first, later}
+use Rattle.mk_mailbox.specs.Pieces.{front, is_first, later, may_begin}
 use Rattle.mk_mailbox.specs.Places.{ends_empty}
+use Rattle.mk_mailbox.proofs.LinesGathered.{other_first}
 use Rattle.mk_mailbox.proofs.MessageLines.{cut_line}
 
 -- a text of whole lines is cut apart from what follows it
@@ -48,9 +49,13 @@ and_none : (t : Bool) → (t && false) ≡ false
 and_none true = refl
 and_none false = refl
 
-quiet_first : (way : FromLines) (e : Bool) (content : List ℕ) → is_from_line content ≡ false → is_first way e content ≡ false
-quiet_first Any e content h = rw h (and_none e)
-quiet_first Dated e content h = rw h (and_none e)
+quiet_begin : (way : FromLines) (e : Bool) (content : List ℕ) → is_from_line content ≡ false → may_begin way e content ≡ false
+quiet_begin Any e content h = rw h (and_none e)
+quiet_begin Dated e content h = rw h (and_none e)
+quiet_begin Fielded e content h = rw h (and_none e)
+
+quiet_first : (way : FromLines) (e : Bool) (content : List ℕ) (ls : List TextLine) → is_from_line content ≡ false → is_first way e content ls ≡ false
+quiet_first way e content ls h = other_first way e content ls (quiet_begin way e content h)
 
 not_true : (t : Bool) → not t ≡ true → t ≡ false
 not_true true h = cc
@@ -63,13 +68,13 @@ front_quiet : (way : FromLines) (e : Bool) (ls ms : List TextLine) → none_from
 front_quiet way e [] ms h = refl
 front_quiet way e (l ∷ ls) ms h =
     let both = quiet_parts l ls h in
-    rw (quiet_first way e l.content both.0) (ap (λ (xs : List TextLine). l ∷ xs) (front_quiet way (is_nil l.content) ls ms both.1))
+    rw (quiet_first way e l.content (ls ++ ms) both.0) (ap (λ (xs : List TextLine). l ∷ xs) (front_quiet way (is_nil l.content) ls ms both.1))
 
 later_quiet : (way : FromLines) (e : Bool) (ls ms : List TextLine) → none_from ls ≡ true → later way e (ls ++ ms) ≡ later way (ends_empty e ls) ms
 later_quiet way e [] ms h = refl
 later_quiet way e (l ∷ ls) ms h =
     let both = quiet_parts l ls h in
-    rw (quiet_first way e l.content both.0) (later_quiet way (is_nil l.content) ls ms both.1)
+    rw (quiet_first way e l.content (ls ++ ms) both.0) (later_quiet way (is_nil l.content) ls ms both.1)
 
 front_stretch : (way : FromLines) (e : Bool) (lines more : List ℕ) → AreQuiet lines → front_of way e (lines ++ more) ≡ lines ++ front_of way (ends_empty e (cut lines)) more
 front_stretch way e lines more q =
@@ -100,13 +105,16 @@ stretch_ends : (e : Bool) (lines : List ℕ) → 0 < length lines → ends_empty
 stretch_ends e [] h = let none : 0 < 0 = h in absurd (omega arith)
 stretch_ends e (byte ∷ bytes) h = some_ends e (cut (byte ∷ bytes)) (some_cut byte bytes)
 
-pub stretch_on : (way : FromLines) (bytes lines : List ℕ) (line : ℕ) (e : Bool) → IsGathered way bytes line e → line ≡ length bytes → AreQuiet lines → 0 < length lines → IsGathered way (bytes ++ lines) (length (bytes ++ lines)) (ends_empty false (cut lines))
-stretch_on way bytes lines line e g between q some =
+pub stretch_on : (way : FromLines) (bytes lines : List ℕ) (start line : ℕ) (e : Bool) → IsGathered way bytes start line e → start ≡ length bytes → AreQuiet lines → 0 < length lines
+    → IsGathered way (bytes ++ lines) (length (bytes ++ lines)) (length (bytes ++ lines)) (ends_empty false (cut lines))
+stretch_on way bytes lines start line e g between q some =
     let before : IsOnePiece way bytes e = subst (λ text. IsOnePiece way text e) (ap (λ n. take n bytes) between ∙ take-length bytes) g.before in
     let over : IsOnePiece way (bytes ++ lines) (ends_empty false (cut lines)) = subst (IsOnePiece way (bytes ++ lines)) (stretch_ends e lines some) (one_piece_over way bytes lines e before q) in
     record {
+      ordered = omega arith;
       within = omega arith;
       before = subst (λ text. IsOnePiece way text (ends_empty false (cut lines))) (sym (take-length (bytes ++ lines))) over;
+      between = inl (ap (drop (length (bytes ++ lines))) (take-length (bytes ++ lines)) ∙ drop-length (bytes ++ lines));
       behind = inl (ap has_line_feed (drop-length (bytes ++ lines)));
       some = λ _. omega (arith, some, length-append bytes lines);
     }

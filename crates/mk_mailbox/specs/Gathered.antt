@@ -1,12 +1,14 @@
 -- A message that is gathered by lines and by stretches of lines, as private contracts speak of it.
-use Rattle.std.specs.Prelude.{◌≡◌, ◌<◌, ◌≤◌, ◌++◌, ◌⊎◌, ℕ, Bool, true, false, not, List, [], ◌∷◌, map, length, take, drop, codes}
+use Rattle.std.specs.Prelude.{◌≡◌, ◌<◌, ◌≤◌, ◌++◌, ◌⊎◌, if◌then◌else◌, ℕ, Bool, true, false, not, List, [], ◌∷◌, map, length, take, drop, codes}
 use Rattle.std.specs.List.{list_all}
 use Rattle.mk_line.specs.Ascii.{line_feed}
-use Rattle.mk_line.specs.Kinds.{is_from_line}
+use Rattle.mk_line.specs.Kinds.{is_field_start, is_from_line}
 use Rattle.mk_line.specs.Lines.{TextLine, cut, ended, ends_open, has_line_feed, text_of}
 use Rattle.mk_mailbox.specs.declared.from_lines.FromLines.{FromLines}
+use Rattle.mk_mailbox.specs.declared.gathering.Told.{Told}
+use Rattle.mk_mailbox.specs.declared.gathering.Told.TheVariants.{Begins, Waits, Belongs}
 use Rattle.mk_mailbox.specs.Mailboxes.{IsOpenInFront, chunk_bytes}
-use Rattle.mk_mailbox.specs.Pieces.{front, later, mailbox_pieces}
+use Rattle.mk_mailbox.specs.Pieces.{front, later, mailbox_pieces, may_begin, needs_field}
 
 -- the bytes of a text that still belong to a message, and the messages after them
 abbrev pub front_of : FromLines → Bool → List ℕ → List ℕ
@@ -44,12 +46,24 @@ pub record AreQuiet (text : List ℕ) : Type 0 where
   pub whole : ends_open text ≡ false
   pub quiet : none_from (cut text) ≡ true
 
--- the bytes before a place are whole lines of one message, and after it stands at most one line
-pub record IsGathered (way : FromLines) (bytes : List ℕ) (line : ℕ) (behind_empty : Bool) : Type 0 where
+-- a line that begins a message where a field follows it; or none
+abbrev pub IsWaiting : FromLines → Bool → List ℕ → Type 0
+IsWaiting way behind_empty line = (line ≡ []) ⊎ ((content : List ℕ) × IsWholeLine line content × (may_begin way behind_empty content ≡ true) × (needs_field way ≡ true))
+
+-- the bytes before a place are whole lines of one message; after it stands a line that waits for the next one, or none, and then
+-- at most one line
+pub record IsGathered (way : FromLines) (bytes : List ℕ) (start line : ℕ) (behind_empty : Bool) : Type 0 where
+  pub ordered : start ≤ line
   pub within : line ≤ length bytes
-  pub before : IsOnePiece way (take line bytes) behind_empty
+  pub before : IsOnePiece way (take start bytes) behind_empty
+  pub between : IsWaiting way behind_empty (drop start (take line bytes))
   pub behind : IsOneLine (drop line bytes)
-  pub some : behind_empty ≡ true → 0 < line
+  pub some : behind_empty ≡ true → 0 < start
+
+-- what the next line tells of a message, where a line waits for it or not
+abbrev pub told_by : FromLines → Bool → Bool → List ℕ → Told
+told_by way true behind_empty content = if is_field_start content then Begins else Belongs
+told_by way false behind_empty content = if may_begin way behind_empty content then (if needs_field way then Waits else Begins) else Belongs
 
 -- a piece is a whole message, whatever follows, and the rest begins the next one
 pub record IsSplit (way : FromLines) (piece old new : List ℕ) : Type 0 where

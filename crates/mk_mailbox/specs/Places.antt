@@ -2,12 +2,12 @@
 use Rattle.std.specs.Prelude.{◌&&◌, ◌||◌, ℕ, Bool, true, false, not, List, [], ◌∷◌}
 use Rattle.mk_line.specs.Lines.{TextLine, cut, is_nil}
 use Rattle.mk_mailbox.specs.declared.from_lines.FromLines.{FromLines}
-use Rattle.mk_mailbox.specs.Pieces.{is_mail_start, mailbox_pieces}
+use Rattle.mk_mailbox.specs.Pieces.{is_followed, is_mail_start, mailbox_pieces}
 
 -- the first of some lines is a From-line that counts
 abbrev pub begins_from : FromLines → List TextLine → Bool
 begins_from way [] = false
-begins_from way (l ∷ ls) = is_mail_start way l.content
+begins_from way (l ∷ ls) = is_mail_start way l.content && is_followed way ls
 
 -- the last of some lines is empty; `e` where there is none
 abbrev pub ends_empty : Bool → List TextLine → Bool

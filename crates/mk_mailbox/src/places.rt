@@ -4,7 +4,7 @@ ghost use Rattle.mk_line.specs.Lines.{cut as lines_of};
 ghost use Rattle.mk_mailbox.specs.Places.{begins_from, ends_empty as last_is_empty, fits_place, is_uncut as is_one};
 
 use crate::from_lines::FromLines;
-use mk_line::cut;
+use mk_line::{cut, first_line};
 
 /// The place of a message in a mailbox. Where a text that doesn't fit it stands there, the mailbox is cut into other messages.
 #[derive(Clone, Copy, Debug)]
@@ -50,8 +50,8 @@ impl Place {
 fn begins(from_lines: FromLines, text: &[u8]) -> bool
     ensures { result ≡ begins_from from_lines (lines_of text.now) }
 {
-    match cut(text).next() {
-        Some(line) => from_lines.begin_with(line.content),
+    match first_line(text) {
+        Some((line, rest)) => from_lines.begin_before(line.content, rest),
         None => false,
     }
 }
@@ -72,11 +72,13 @@ fn is_uncut(from_lines: FromLines, text: &[u8]) -> bool
     ensures { result ≡ is_one from_lines text.now }
 {
     let mut after_empty = false;
-    for line in cut(text) {
-        if after_empty && from_lines.begin_with(line.content) {
+    let mut rest = text;
+    'each: while let Some((line, behind)) = first_line(rest) {
+        if after_empty && from_lines.begin_before(line.content, behind) {
             return false;
         }
         after_empty = line.content.is_empty();
+        rest = behind;
     }
     true
 }
