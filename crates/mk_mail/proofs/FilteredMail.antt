@@ -1,7 +1,7 @@
 -- A message filtered by letters: its fields alone change, so it begins and ends as it did.
 use Rattle.mk_mailbox.specs.declared.from_lines.FromLines.{FromLines}
-use Rattle.mk_mailbox.specs.declared.from_lines.FromLines.TheVariants.{Any, Dated}
-use Rattle.mk_mailbox.specs.Pieces.{is_left_alone, is_mail_start}
+use Rattle.mk_mailbox.specs.declared.from_lines.FromLines.TheVariants.{Any, Dated, Fielded}
+use Rattle.mk_mailbox.specs.Pieces.{is_followed, is_left_alone, is_mail_start, needs_field}
 use Rattle.std.proofs.Common.{◌≡◌, ◌&&◌, ◌||◌, ◌++◌, ℕ, Bool, true, false, not, if◌then◌else◌, Option, None, Some, Result, Ok, Err, List, [], ◌∷◌, drop, filter, refl, ap, sym, ◌∙◌, subst, inl, inr, map, append_assoc}
 use Rattle.std.specs.List.{list_any}
 use Rattle.std.proofs.lemmas.Bool.{cases_Bool}
@@ -266,14 +266,19 @@ envelope_some (l ∷ ls) = env_some (is_from_line l.content) l ls refl
 start_from : (way : FromLines) (content : List ℕ) → is_mail_start way content ≡ true → is_from_line content ≡ true
 start_from Any content h = h
 start_from Dated content h = (both_true (is_from_line content) (ends_with_date content) h).0
+start_from Fielded content h = h
 
-env_begins : (way : FromLines) (t : Bool) (l : TextLine) (ls more : List TextLine) → is_from_line l.content ≡ t → is_mail_start way l.content ≡ true → begins_from way (option_line (enveloped t l ls).envelope ++ more) ≡ true
-env_begins way true l ls more h s = s
-env_begins way false l ls more h s = let from = start_from way l.content s in cc
+-- without a look at what follows a From-line counts
+free_followed : (way : FromLines) (ls : List TextLine) → needs_field way ≡ false → is_followed way ls ≡ true
+free_followed way ls n = rw n refl
 
-envelope_begins : (way : FromLines) (ls more : List TextLine) → begins_from way ls ≡ true → begins_from way (option_line (document_of ls).envelope ++ more) ≡ true
-envelope_begins way [] more h = cc
-envelope_begins way (l ∷ ls) more h = env_begins way (is_from_line l.content) l ls more refl h
+env_begins : (way : FromLines) (t : Bool) (l : TextLine) (ls more : List TextLine) → needs_field way ≡ false → is_from_line l.content ≡ t → is_mail_start way l.content ≡ true → begins_from way (option_line (enveloped t l ls).envelope ++ more) ≡ true
+env_begins way true l ls more n h s = rw (s, free_followed way more n) refl
+env_begins way false l ls more n h s = let from = start_from way l.content s in cc
+
+envelope_begins : (way : FromLines) (ls more : List TextLine) → needs_field way ≡ false → begins_from way ls ≡ true → begins_from way (option_line (document_of ls).envelope ++ more) ≡ true
+envelope_begins way [] more n h = cc
+envelope_begins way (l ∷ ls) more n h = env_begins way (is_from_line l.content) l ls more n refl (both_true (is_mail_start way l.content) (is_followed way ls) h).0
 
 root_run : (text : List ℕ) → IsRun false (field_lines (tree text).root)
 root_run text =
@@ -306,8 +311,8 @@ same_rest way old new front other rest o n f g b w = record {
 
 -- ---- messages that letters filter
 
-fielded_kept : (way : FromLines) (text : List ℕ) (u : Document) → IsFielded (tree text) u → tree (printed u) ≡ u → IsWhole way false (cut text) → IsKept way (cut text) (cut (printed u))
-fielded_kept way text u a stable w =
+fielded_kept : (way : FromLines) (text : List ℕ) (u : Document) → needs_field way ≡ false → IsFielded (tree text) u → tree (printed u) ≡ u → IsWhole way false (cut text) → IsKept way (cut text) (cut (printed u))
+fielded_kept way text u n a stable w =
     let t = tree text in
     let front = option_line t.envelope in
     let rest = behind_fields t.root in
@@ -319,11 +324,11 @@ fielded_kept way text u a stable w =
     same_rest way (cut text) (cut (printed u)) (front ++ field_lines t.root) (front ++ a.fields) rest
     (old_lines ∙ sym (append_assoc front (field_lines t.root) rest)) (new_lines ∙ sym (append_assoc front a.fields rest))
     (some_append front (field_lines t.root) some (run_some false (field_lines t.root) (root_run text))) (some_append front a.fields some (run_some false a.fields run))
-    (λ h. ap (begins_from way) new_lines ∙ envelope_begins way (cut text) (a.fields ++ rest) h) w
+    (λ h. ap (begins_from way) new_lines ∙ envelope_begins way (cut text) (a.fields ++ rest) n h) w
 
-kept_by : (way : FromLines) (l : PlainLetters) (text : List ℕ) (r : Together) → outcome l text ≡ r → FieldedBy (tree text) r → IsWhole way false (cut text) → IsKept way (cut text) (cut (text_left text r))
-kept_by way l text (Ok q) e a w = fielded_kept way text q.0 a (groups_read_back_lem (edits_of text l) text q.0 q.1 e) w
-kept_by way l text (Err q) e a w = record { whole = w; ends = λ h. h; begins = λ h. h }
+kept_by : (way : FromLines) (l : PlainLetters) (text : List ℕ) (r : Together) → needs_field way ≡ false → outcome l text ≡ r → FieldedBy (tree text) r → IsWhole way false (cut text) → IsKept way (cut text) (cut (text_left text r))
+kept_by way l text (Ok q) n e a w = fielded_kept way text q.0 n a (groups_read_back_lem (edits_of text l) text q.0 q.1 e) w
+kept_by way l text (Err q) n e a w = record { whole = w; ends = λ h. h; begins = λ h. h }
 
 fielded_by : (l : PlainLetters) (text : List ℕ) (r : Together) → outcome l text ≡ r → FieldedBy (tree text) r → IsFielded (tree text) (tree (text_left text r))
 fielded_by l text (Ok q) e a = record { fields = a.fields; same = groups_read_back_lem (edits_of text l) text q.0 q.1 e ∙ a.same }
@@ -332,12 +337,12 @@ fielded_by l text (Err q) e a = as_it_was (tree text)
 pub fields_alone : LettersChangeFieldsAlone
 fields_alone l text = fielded_by l text (outcome l text) refl (together_fielded (edits_of text l) (tree text) (edits_root text l))
 
-pub filtered_kept : (way : FromLines) (l : PlainLetters) (text : List ℕ) → IsWhole way false (cut text) → IsKept way (cut text) (cut (filtered l text))
-filtered_kept way l text w = kept_by way l text (outcome l text) refl (together_fielded (edits_of text l) (tree text) (edits_root text l)) w
+pub filtered_kept : (way : FromLines) (l : PlainLetters) (text : List ℕ) → needs_field way ≡ false → IsWhole way false (cut text) → IsKept way (cut text) (cut (filtered l text))
+filtered_kept way l text n w = kept_by way l text (outcome l text) n refl (together_fielded (edits_of text l) (tree text) (edits_root text l)) w
 
-kept : (way : FromLines) (l : PlainLetters) (text : List ℕ) (alone : Bool) → AreMessage way (cut text) → IsKept way (cut text) (cut (if alone then text else filtered l text))
-kept way l text true m = record { whole = m.1; ends = λ h. h; begins = λ h. h }
-kept way l text false m = filtered_kept way l text m.1
+kept : (way : FromLines) (l : PlainLetters) (text : List ℕ) (alone : Bool) → needs_field way ≡ false → AreMessage way (cut text) → IsKept way (cut text) (cut (if alone then text else filtered l text))
+kept way l text true n m = record { whole = m.1; ends = λ h. h; begins = λ h. h }
+kept way l text false n m = filtered_kept way l text n m.1
 
 pub filtered_apart : FilteredStayApart
-filtered_apart way l text = kept_apart way (filtered_in way l) (λ message m. kept way l message (is_left_alone way message) m) text
+filtered_apart way n l text = kept_apart way (filtered_in way l) (λ message m. kept way l message (is_left_alone way message) n m) text

@@ -9,15 +9,17 @@ use Rattle.mk_line.specs.Lines.{AreLines, IsLine, TextLine, cut, is_nil, text_li
 use Rattle.mk_line.proofs.Cuts.{cut_text, lines_cut, text_append, text_cut}
 use Rattle.mk_head.specs.Splits.{has_line}
 use Rattle.mk_mail.specs.Filtered.{is_left}
-use Rattle.mk_mailbox.specs.Pieces.{is_first, is_mail_start, front, later, parted, mailbox_pieces}
+use Rattle.mk_mailbox.specs.declared.from_lines.FromLines.TheVariants.{Any, Dated, Fielded}
+use Rattle.mk_mailbox.specs.Pieces.{is_first, is_followed, is_mail_start, front, later, may_begin, parted, mailbox_pieces}
 use Rattle.mk_mailbox.specs.Places.{begins_from, ends_empty}
 use Rattle.mk_mail.proofs.FieldNames.{both_true}
-use Rattle.mk_mailbox.proofs.PieceLaws.{lines_front}
+use Rattle.mk_mailbox.proofs.LinesGathered.{begin_none, begin_some, other_first}
+use Rattle.mk_mailbox.proofs.PieceLaws.{lines_front, still_belongs}
 
 -- no line begins a message, where `e` says whether the line before the first is empty
 abbrev pub IsWhole : FromLines → Bool → List TextLine → Type 0
 IsWhole way e [] = Unit {0}
-IsWhole way e (l ∷ ls) = (is_first way e l.content ≡ false) × IsWhole way (is_nil l.content) ls
+IsWhole way e (l ∷ ls) = (is_first way e l.content ls ≡ false) × IsWhole way (is_nil l.content) ls
 
 -- lines of a message: some, none of which begins another
 abbrev pub AreMessage : FromLines → List TextLine → Type 0
@@ -39,13 +41,30 @@ IsMail way ps = AreMail way (map cut ps)
 
 -- ---- joined lines are parted again
 
-front_whole : (way : FromLines) (e : Bool) (ls ms : List TextLine) → IsWhole way e ls → front way e (ls ++ ms) ≡ ls ++ front way (ends_empty e ls) ms
-front_whole way e [] ms w = refl
-front_whole way e (l ∷ ls) ms w = rw w.0 (ap (λ (xs : List TextLine). l ∷ xs) (front_whole way (is_nil l.content) ls ms w.1))
+-- a line of a message that ends with an empty line begins no other, whatever follows the message
+before_more : (way : FromLines) (e : Bool) (l : TextLine) (ls ms : List TextLine) → is_first way e l.content ls ≡ false → ends_empty e (l ∷ ls) ≡ true → is_first way e l.content (ls ++ ms) ≡ false
+before_more way e l [] ms h t = other_first way e l.content ms (none_begins way e l.content t)
+  where
+    none_begins : (way : FromLines) (e : Bool) (content : List ℕ) → is_nil content ≡ true → may_begin way e content ≡ false
+    none_begins way e [] t = begin_none way e
+    none_begins way e (byte ∷ bytes) t = cc
+before_more way e l (m ∷ ls) ms h t = h
 
-later_whole : (way : FromLines) (e : Bool) (ls ms : List TextLine) → IsWhole way e ls → later way e (ls ++ ms) ≡ later way (ends_empty e ls) ms
-later_whole way e [] ms w = refl
-later_whole way e (l ∷ ls) ms w = rw w.0 (later_whole way (is_nil l.content) ls ms w.1)
+front_whole : (way : FromLines) (e : Bool) (ls ms : List TextLine) → IsWhole way e ls → ends_empty e ls ≡ true → front way e (ls ++ ms) ≡ ls ++ front way (ends_empty e ls) ms
+front_whole way e [] ms w t = refl
+front_whole way e (l ∷ ls) ms w t = rw (before_more way e l ls ms w.0 t) (ap (λ (xs : List TextLine). l ∷ xs) (front_whole way (is_nil l.content) ls ms w.1 t))
+
+later_whole : (way : FromLines) (e : Bool) (ls ms : List TextLine) → IsWhole way e ls → ends_empty e ls ≡ true → later way e (ls ++ ms) ≡ later way (ends_empty e ls) ms
+later_whole way e [] ms w t = refl
+later_whole way e (l ∷ ls) ms w t = rw (before_more way e l ls ms w.0 t) (later_whole way (is_nil l.content) ls ms w.1 t)
+
+front_alone : (way : FromLines) (e : Bool) (ls : List TextLine) → IsWhole way e ls → front way e ls ≡ ls
+front_alone way e [] w = refl
+front_alone way e (l ∷ ls) w = rw w.0 (ap (λ (xs : List TextLine). l ∷ xs) (front_alone way (is_nil l.content) ls w.1))
+
+later_alone : (way : FromLines) (e : Bool) (ls : List TextLine) → IsWhole way e ls → later way e ls ≡ []
+later_alone way e [] w = refl
+later_alone way e (l ∷ ls) w = rw w.0 (later_alone way (is_nil l.content) ls w.1)
 
 front_from : (way : FromLines) (ms : List TextLine) → begins_from way ms ≡ true → front way true ms ≡ []
 front_from way [] b = refl
@@ -60,8 +79,8 @@ parted_before : (way : FromLines) (ls ms : List TextLine) → AreMessage way ls 
 parted_before way [] ms a e b = cc
 parted_before way (l ∷ ls) ms a e b =
     let i = is_nil l.content in
-    let front_is : front way i (ls ++ ms) ≡ ls = front_whole way i ls ms a.1.1 ∙ (ap (λ x. ls ++ front way x ms) e ∙ (ap (λ xs. ls ++ xs) (front_from way ms b) ∙ append-nil ls)) in
-    let later_is : later way i (ls ++ ms) ≡ parted way ms = later_whole way i ls ms a.1.1 ∙ (ap (λ x. later way x ms) e ∙ later_from way ms b) in
+    let front_is : front way i (ls ++ ms) ≡ ls = front_whole way i ls ms a.1.1 e ∙ (ap (λ x. ls ++ front way x ms) e ∙ (ap (λ xs. ls ++ xs) (front_from way ms b) ∙ append-nil ls)) in
+    let later_is : later way i (ls ++ ms) ≡ parted way ms = later_whole way i ls ms a.1.1 e ∙ (ap (λ x. later way x ms) e ∙ later_from way ms b) in
     (λ k. (l ∷ front_is k) ∷ later_is k)
 
 -- the lines of a message alone
@@ -69,9 +88,7 @@ parted_alone : (way : FromLines) (ls : List TextLine) → AreMessage way ls → 
 parted_alone way [] a = cc
 parted_alone way (l ∷ ls) a =
     let i = is_nil l.content in
-    let front_is : front way i ls ≡ ls = ap (front way i) (sym (append-nil ls)) ∙ (front_whole way i ls [] a.1.1 ∙ append-nil ls) in
-    let later_is : later way i ls ≡ [] = ap (later way i) (sym (append-nil ls)) ∙ later_whole way i ls [] a.1.1 in
-    (λ k. (l ∷ front_is k) ∷ later_is k)
+    (λ k. (l ∷ front_alone way i ls a.1.1 k) ∷ later_alone way i ls a.1.1 k)
 
 -- ---- joined texts
 
@@ -98,9 +115,17 @@ cut_joined p rest t =
     ap cut (λ i. sym (text_cut p) i ++ sym (text_cut rest) i)
     ∙ (ap cut (sym (text_append (cut p) (cut rest))) ∙ cut_text (cut p ++ cut rest) (lines_joined false (cut p) (cut rest) (lines_cut p) t (lines_cut rest)))
 
+followed_on : (way : FromLines) (ls ms : List TextLine) → is_followed way ls ≡ true → is_followed way (ls ++ ms) ≡ true
+followed_on Any [] ms f = refl
+followed_on Dated [] ms f = refl
+followed_on Fielded [] ms f = cc
+followed_on way (l ∷ ls) ms f = f
+
 begins_on : (way : FromLines) (ls ms : List TextLine) → begins_from way ls ≡ true → begins_from way (ls ++ ms) ≡ true
 begins_on way [] ms b = cc
-begins_on way (l ∷ ls) ms b = b
+begins_on way (l ∷ ls) ms b =
+    let both = both_true (is_mail_start way l.content) (is_followed way ls) b in
+    rw (both.0, followed_on way ls ms both.1) refl
 
 -- all texts of a mailbox begin as the first does
 begins_joined : (way : FromLines) (q : List ℕ) (qs : List (List ℕ)) → AreBefore way (ends_empty false (cut q)) (map cut qs) → begins_from way (cut q) ≡ true → begins_from way (cut (q ++ flat_map (λ p. p) qs)) ≡ true
@@ -123,16 +148,28 @@ mail_parted way (p ∷ q ∷ qs) h =
 whole_front : (way : FromLines) (e : Bool) (ls : List TextLine) → IsWhole way e (front way e ls)
 whole_front way e [] = tt
 whole_front way e (l ∷ ls) =
-    elim (cases_Bool (is_first way e l.content)) [
+    elim (cases_Bool (is_first way e l.content ls)) [
       | inl t ↦ rw t tt
-      | inr n ↦ rw n (n, whole_front way (is_nil l.content) ls)
+      | inr n ↦ rw n (still_belongs way e (is_nil l.content) l.content ls n, whole_front way (is_nil l.content) ls)
     ]
+
+-- the field after a From-line stays in its message
+followed_front : (way : FromLines) (e : Bool) (ls : List TextLine) → e ≡ false → is_followed way ls ≡ true → is_followed way (front way e ls) ≡ true
+followed_front way e [] n f = f
+followed_front way e (l ∷ ls) n f = rw n f
+
+begins_front : (way : FromLines) (e : Bool) (l : TextLine) (ls : List TextLine) → is_first way e l.content ls ≡ true → (e ≡ true) × (begins_from way (l ∷ front way (is_nil l.content) ls) ≡ true)
+begins_front way e l ls t =
+    let both = both_true (may_begin way e l.content) (is_followed way ls) t in
+    let parts = both_true e (is_mail_start way l.content) both.0 in
+    let stays : is_followed way (front way (is_nil l.content) ls) ≡ true = followed_front way (is_nil l.content) ls (begin_some way e l.content both.0) both.1 in
+    (parts.0, rw (parts.1, stays) refl)
 
 before_later : (way : FromLines) (e : Bool) (ls : List TextLine) → AreBefore way (ends_empty e (front way e ls)) (later way e ls)
 before_later way e [] = tt
 before_later way e (l ∷ ls) =
-    elim (cases_Bool (is_first way e l.content)) [
-      | inl t ↦ rw t (both_true e (is_mail_start way l.content) t)
+    elim (cases_Bool (is_first way e l.content ls)) [
+      | inl t ↦ rw t (begins_front way e l ls t)
       | inr n ↦ rw n (before_later way (is_nil l.content) ls)
     ]
 
@@ -140,7 +177,7 @@ mail_later : (way : FromLines) (e : Bool) (ls : List TextLine) → AreMail way (
 mail_later way e [] = tt
 mail_later way e (l ∷ ls) =
     let i = is_nil l.content in
-    elim (cases_Bool (is_first way e l.content)) [
+    elim (cases_Bool (is_first way e l.content ls)) [
       | inl t ↦ rw t ((refl, (refl, whole_front way i ls)), before_later way i ls, mail_later way i ls)
       | inr n ↦ rw n (mail_later way i ls)
     ]
@@ -161,7 +198,7 @@ lines_later : (way : FromLines) (e : Bool) (ls : List TextLine) → AreLines ls 
 lines_later way e [] h = tt
 lines_later way e (l ∷ ls) h =
     let rest = lines_later way (is_nil l.content) ls h.2 in
-    elim (cases_Bool (is_first way e l.content)) [
+    elim (cases_Bool (is_first way e l.content ls)) [
       | inl t ↦ rw t (lines_message way l ls h, rest)
       | inr n ↦ rw n rest
     ]

@@ -1,7 +1,7 @@
 -- Rounds of letters: what they make, one after another, and the messages of a mailbox that they leave.
 use Rattle.std.proofs.Common.{◌≡◌, ◌++◌, if◌then◌else◌, ℕ, Bool, true, false, Ok, Err, List, [], ◌∷◌, refl, ap, ◌∙◌}
 use Rattle.mk_mailbox.specs.declared.from_lines.FromLines.{FromLines}
-use Rattle.mk_mailbox.specs.Pieces.{is_left_alone}
+use Rattle.mk_mailbox.specs.Pieces.{is_left_alone, needs_field}
 use Rattle.mk_line.specs.Lines.{TextLine, cut, eol_of, is_lf}
 use Rattle.mk_edit.specs.Groups.{Together}
 use Rattle.mk_mail.specs.Filtered.{outcome, text_left}
@@ -57,18 +57,18 @@ made_kept : (way : FromLines) (text : List ℕ) (f : List ℕ → Made) (m : Mad
 made_kept way text f (Ok made) k h = later_kept way text made (f made) k (h made k.whole)
 made_kept way text f (Err reason) k h = tt
 
-pub rounds_kept : (way : FromLines) (rs : List PlainRound) (text : List ℕ) → IsWhole way false (cut text) → IsMadeKept way text (rounds_made rs text)
-rounds_kept way [] text w = unchanged way (cut text) w
-rounds_kept way (r ∷ rs) text w =
-    made_kept way text (rounds_made rs) (round_made_at root_path r text) (text_kept way text (outcome (letters_for r text) text) (filtered_kept way (letters_for r text) text w)) (λ made v. rounds_kept way rs made v)
+pub rounds_kept : (way : FromLines) (rs : List PlainRound) (text : List ℕ) → needs_field way ≡ false → IsWhole way false (cut text) → IsMadeKept way text (rounds_made rs text)
+rounds_kept way [] text n w = unchanged way (cut text) w
+rounds_kept way (r ∷ rs) text n w =
+    made_kept way text (rounds_made rs) (round_made_at root_path r text) (text_kept way text (outcome (letters_for r text) text) (filtered_kept way (letters_for r text) text n w)) (λ made v. rounds_kept way rs made n v)
 
 pub left_kept : (way : FromLines) (text : List ℕ) (m : Made) → IsWhole way false (cut text) → IsMadeKept way text m → IsKept way (cut text) (cut (left_of text m))
 left_kept way text (Ok made) w k = k
 left_kept way text (Err reason) w k = unchanged way (cut text) w
 
-message_kept : (way : FromLines) (rs : List PlainRound) (text : List ℕ) (alone : Bool) → AreMessage way (cut text) → IsKept way (cut text) (cut (if alone then text else rounds_left rs text))
-message_kept way rs text true m = unchanged way (cut text) m.1
-message_kept way rs text false m = left_kept way text (rounds_made rs text) m.1 (rounds_kept way rs text m.1)
+message_kept : (way : FromLines) (rs : List PlainRound) (text : List ℕ) (alone : Bool) → needs_field way ≡ false → AreMessage way (cut text) → IsKept way (cut text) (cut (if alone then text else rounds_left rs text))
+message_kept way rs text true n m = unchanged way (cut text) m.1
+message_kept way rs text false n m = left_kept way text (rounds_made rs text) m.1 (rounds_kept way rs text n m.1)
 
 pub rounds_apart : RoundsStayApart
-rounds_apart way rs text = kept_apart way (rounds_left_in way rs) (λ message m. message_kept way rs message (is_left_alone way message) m) text
+rounds_apart way n rs text = kept_apart way (rounds_left_in way rs) (λ message m. message_kept way rs message (is_left_alone way message) n m) text

@@ -1,12 +1,12 @@
 -- Rounds at any path: what they leave of the messages of a mailbox takes the places of these messages.
-use Rattle.std.proofs.Common.{◌≡◌, ◌&&◌, ◌||◌, if◌then◌else◌, ℕ, Bool, true, false, not, Ok, Err, List, [], ◌∷◌, ap, sym, ◌∙◌, subst, inl, inr, eqb-true}
+use Rattle.std.proofs.Common.{◌≡◌, ◌&&◌, ◌||◌, if◌then◌else◌, ℕ, Bool, true, false, not, Ok, Err, List, [], ◌∷◌, refl, ap, sym, ◌∙◌, subst, inl, inr, eqb-true}
 use Rattle.std.proofs.lemmas.Bool.{cases_Bool}
 use Rattle.mk_mailbox.specs.declared.from_lines.FromLines.{FromLines}
-use Rattle.mk_mailbox.specs.Pieces.{is_first, is_left_alone}
+use Rattle.mk_mailbox.specs.Pieces.{is_first, is_left_alone, needs_field}
 use Rattle.mk_mailbox.specs.Places.{begins_from, ends_empty, is_uncut, takes_place}
 use Rattle.mk_mailbox.proofs.PlaceLemmas.{are_whole, uncut}
 use Rattle.mk_line.specs.Lines.{TextLine, cut, is_nil}
-use Rattle.mk_mail.specs.Apart.{SectionsStayApart, mail_left, mail_made, placed_made, section_made}
+use Rattle.mk_mail.specs.Apart.{SectionsStayApart, always_fits, mail_left, mail_made, placed_made, section_made}
 use Rattle.mk_mail.specs.Letters.{is_root, root_path}
 use Rattle.mk_mail.specs.Rounds.{Made, PlainRound, left_of}
 use Rattle.mk_mail.proofs.FieldNames.{both_true}
@@ -16,7 +16,7 @@ use Rattle.mk_mail.proofs.RoundsMade.{IsMadeKept, left_kept, rounds_kept, unchan
 whole_by : (way : FromLines) (e : Bool) (ls : List TextLine) → are_whole way e ls ≡ true → IsWhole way e ls
 whole_by way e [] h = tt
 whole_by way e (l ∷ ls) h =
-    elim (cases_Bool (is_first way e l.content)) [
+    elim (cases_Bool (is_first way e l.content ls)) [
       | inl t ↦ let no : false ≡ true = (rw t at h) in absurd (cc)
       | inr n ↦ (n, whole_by way (is_nil l.content) ls (rw n at h))
     ]
@@ -51,10 +51,16 @@ root_is [] h = cc
 root_is (k ∷ []) h = ap (λ n. n ∷ []) (eqb-true k 1 h)
 root_is (k ∷ n ∷ ks) h = cc
 
+not_true : (t : Bool) → not t ≡ true → t ≡ false
+not_true true h = cc
+not_true false h = refl
+
 apart_kept : (way : FromLines) (path : List ℕ) (rs : List PlainRound) (text : List ℕ) → IsWhole way false (cut text) → IsMadeKept way text (mail_made way path rs text)
 apart_kept way path rs text w =
-    elim (cases_Bool (is_root path)) [
-      | inl t ↦ rw t (subst (λ q. IsMadeKept way text (section_made q rs text)) (sym (root_is path t)) (rounds_kept way rs text w))
+    elim (cases_Bool (always_fits way path)) [
+      | inl t ↦
+          let both = both_true (is_root path) (not (needs_field way)) t in
+          rw t (subst (λ q. IsMadeKept way text (section_made q rs text)) (sym (root_is path both.0)) (rounds_kept way rs text (not_true (needs_field way) both.1) w))
       | inr n ↦ rw n (placed_kept way text (section_made path rs text))
     ]
 

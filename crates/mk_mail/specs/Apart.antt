@@ -1,11 +1,11 @@
 -- Rounds of letters at any section of a message, alone and in a mailbox (own).
-use Rattle.std.specs.Prelude.{◌≡◌, if◌then◌else◌, ℕ, Bool, Ok, Err, List, filter, is_some, map}
+use Rattle.std.specs.Prelude.{◌≡◌, ◌&&◌, if◌then◌else◌, ℕ, Bool, not, Ok, Err, List, filter, is_some, map}
 use Rattle.std.specs.List.{flat_map}
 use Rattle.mk_tree.specs.Documents.{tree}
 use Rattle.mk_tree.specs.Sections.{section_at}
 use Rattle.mk_decide.specs.Edits.{NoSuchSection, Recut}
 use Rattle.mk_mailbox.specs.declared.from_lines.FromLines.{FromLines}
-use Rattle.mk_mailbox.specs.Pieces.{is_left_alone, mailbox_pieces}
+use Rattle.mk_mailbox.specs.Pieces.{is_left_alone, mailbox_pieces, needs_field}
 use Rattle.mk_mailbox.specs.Places.{takes_place}
 use Rattle.mk_mail.specs.Filtered.{is_left}
 use Rattle.mk_mail.specs.Letters.{is_root}
@@ -24,9 +24,13 @@ abbrev pub placed_made : FromLines → List ℕ → Made → Made
 placed_made way text (Ok made) = if takes_place way text made then Ok made else Err Recut
 placed_made way text (Err reason) = Err reason
 
--- at the root each text that is made does
+-- at the root each text that is made does, unless a field must follow a From-line: edits may leave none
+abbrev pub always_fits : FromLines → List ℕ → Bool
+always_fits way path = is_root path && not (needs_field way)
+
+-- where not each text does, it is looked at
 abbrev pub apart_made : FromLines → List ℕ → List ℕ → Made → Made
-apart_made way path text m = if is_root path then m else placed_made way text m
+apart_made way path text m = if always_fits way path then m else placed_made way text m
 
 -- what rounds make of a section of a message of a mailbox that is cut at these From-lines
 abbrev pub mail_made : FromLines → List ℕ → List PlainRound → List ℕ → Made

@@ -46,7 +46,7 @@ pub fn prepended_fields_keep_their_bytes()
 
 /// The messages of a mailbox, each filtered by letters, are a mailbox of these messages: none is cut in two and no two
 /// become one. A message of which no byte is left is none. With dates asked for, empty lines before the first From-line
-/// are left as they are.
+/// are left as they are. Where a field must follow a From-line, letters alone don't promise it: `sections_stay_apart` does.
 pub fn filtered_stay_apart()
     ensures { FilteredStayApart }
 {}
@@ -62,12 +62,13 @@ pub fn rounds_are_piped()
     ensures { RoundsArePiped }
 {}
 
-/// The messages of a mailbox stay apart after rounds of letters, as after letters.
+/// The messages of a mailbox stay apart after rounds of letters, as after letters, unless a field must follow a From-line.
 pub fn rounds_stay_apart()
     ensures { RoundsStayApart }
 {}
 
-/// So they stay apart after rounds of letters at any path.
+/// They stay apart after rounds of letters at any path, whatever must follow a From-line: a message of which the text that was
+/// made doesn't fit its place is left as it came.
 pub fn sections_stay_apart()
     ensures { SectionsStayApart }
 {}

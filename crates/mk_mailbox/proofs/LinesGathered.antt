@@ -40,13 +40,13 @@ bare_first : (way : FromLines) (e : Bool) (content : List ℕ) (ls : List TextLi
 bare_first way e content ls n s = rw (n, s) (and_false (may_begin way e content))
 
 -- a From-line isn't empty, and directly after a line that isn't none begins a message
-begin_none : (way : FromLines) (e : Bool) → may_begin way e [] ≡ false
+pub begin_none : (way : FromLines) (e : Bool) → may_begin way e [] ≡ false
 begin_none Any true = refl
 begin_none Dated true = refl
 begin_none Fielded true = refl
 begin_none way false = refl
 
-begin_some : (way : FromLines) (e : Bool) (content : List ℕ) → may_begin way e content ≡ true → is_nil content ≡ false
+pub begin_some : (way : FromLines) (e : Bool) (content : List ℕ) → may_begin way e content ≡ true → is_nil content ≡ false
 begin_some way e [] m = let none = begin_none way e in cc
 begin_some way e (byte ∷ bytes) m = refl
 
