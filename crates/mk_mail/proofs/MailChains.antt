@@ -13,7 +13,7 @@ use Rattle.mk_mailbox.specs.declared.from_lines.FromLines.TheVariants.{Any, Date
 use Rattle.mk_mailbox.specs.Pieces.{is_first, is_followed, is_mail_start, front, later, may_begin, parted, mailbox_pieces}
 use Rattle.mk_mailbox.specs.Places.{begins_from, ends_empty}
 use Rattle.mk_mail.proofs.FieldNames.{both_true}
-use Rattle.mk_mailbox.proofs.LinesGathered.{begin_none, begin_some, other_first}
+use Rattle.mk_mailbox.proofs.LineStarts.{begin_none, begin_some, other_first}
 use Rattle.mk_mailbox.proofs.PieceLaws.{lines_front, still_belongs}
 
 -- no line begins a message, where `e` says whether the line before the first is empty

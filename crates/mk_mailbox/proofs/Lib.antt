@@ -1,6 +1,9 @@
 pub mod DateParts
 pub mod LineBytes
 pub mod MessageLines
+pub mod LineStarts
+pub mod GatheredParts
+pub mod LastLines
 pub mod LinesGathered
 pub mod QuietLines
 pub mod FoundLines

@@ -10,7 +10,7 @@ use Rattle.mk_line.proofs.Cuts.{cut_text, lines_cut, text_cut}
 use Rattle.mk_mailbox.specs.MailboxLaws.{AreOnes, AreSome}
 use Rattle.mk_mailbox.specs.declared.from_lines.FromLines.TheVariants.{Any, Dated, Fielded}
 use Rattle.mk_mailbox.specs.Pieces.{is_first, is_followed, front, later, may_begin, parted, mailbox_pieces}
-use Rattle.mk_mailbox.proofs.LinesGathered.{and_false, other_first}
+use Rattle.mk_mailbox.proofs.LineStarts.{and_false, other_first}
 
 abbrev joined : List (List TextLine) → List ℕ
 joined ps = flat_map (λ p. p) (map text_of ps)

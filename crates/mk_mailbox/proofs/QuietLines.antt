@@ -13,7 +13,7 @@ use Rattle.mk_mailbox.specs.declared.from_lines.FromLines.TheVariants.{Any, Date
 use Rattle.mk_mailbox.specs.Gathered.{AreQuiet, IsGathered, IsOnePiece, front_of, later_of, none_from}
 use Rattle.mk_mailbox.specs.Pieces.{front, is_first, later, may_begin}
 use Rattle.mk_mailbox.specs.Places.{ends_empty}
-use Rattle.mk_mailbox.proofs.LinesGathered.{other_first}
+use Rattle.mk_mailbox.proofs.LineStarts.{other_first}
 use Rattle.mk_mailbox.proofs.MessageLines.{cut_line}
 
 -- a text of whole lines is cut apart from what follows it

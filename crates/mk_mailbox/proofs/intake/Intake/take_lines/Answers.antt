@@ -2,7 +2,7 @@ use Rattle.std.proofs.Common.{◌++◌, subst}
 use Rattle.mk_mailbox.specs.Gathered.{IsSplit}
 use Rattle.mk_mailbox.specs.Held.{unread}
 use Rattle.mk_mailbox.specs.Intakes.{kept_by}
-use Rattle.mk_mailbox.proofs.LinesGathered.{split_on}
+use Rattle.mk_mailbox.proofs.GatheredParts.{split_on}
 use Rattle.mk_mailbox.proofs.intake.Intake.take_lines.Goals as goal
 
 pub returns-in-Some-clause-piece : goal.returns-in-Some-clause-piece
