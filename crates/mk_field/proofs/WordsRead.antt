@@ -11,8 +11,7 @@ use Rattle.mk_line.specs.Ascii.{is_blank, is_name_byte}
 use Rattle.mk_line.specs.Lines.{is_nil}
 use Rattle.mk_line.specs.Marks.{trimmed, trimmed_before}
 use Rattle.mk_head.specs.Values.{stripped}
-use Rattle.mk_code.specs.declared.one_word.Readable.TheVariants.{All, Texts}
-use Rattle.mk_code.specs.EncodedWords.{Run, Gap, Word, decoded_with, has_pair, is_shown, run_before, runs, shown, text_decoded, unfolded, words_decoded, words_encoded}
+use Rattle.mk_code.specs.EncodedWords.{Run, Gap, Word, has_pair, is_shown, run_before, runs, shown, text_decoded, unfolded, words_decoded, words_encoded}
 use Rattle.mk_code.proofs.OutputCuts.{differs}
 use Rattle.mk_code.proofs.WordsBack.{words_back}
 use Rattle.mk_code.proofs.WordsKept.{unfold_byte, words_kept}
@@ -20,21 +19,20 @@ use Rattle.mk_script.specs.Paths.{parted}
 use Rattle.mk_script.proofs.PieceLemmas.{HoldsNo, parted-append}
 use Rattle.mk_field.specs.Filtering.{behind_colon, part_behind}
 use Rattle.mk_mail.specs.Prepended.{is_one_line, is_plain}
-use Rattle.mk_wording.specs.Wording.{field_or, field_kind, worded_by, worded_field, worded_field_of, worded_value}
-use Rattle.mk_wording.specs.declared.names.FieldKind.{FieldKind}
-use Rattle.mk_wording.specs.declared.names.FieldKind.TheVariants.{Text}
+use Rattle.mk_wording.specs.Wording.{field_kind, field_or, is_structured, worded_by, worded_field, worded_field_of, worded_value}
+use Rattle.mk_wording.proofs.FieldLemmas.{text_written}
 use Rattle.mk_field.specs.Wording.{decoded_value, line_byte}
 use Rattle.mk_mail.proofs.Plainness.{needed, plain_stays}
 use Rattle.mk_field.specs.WordLaws.{WordedFieldsAreRead}
 
 -- a space before a value stays before what it says
-space_shown : (rs : List Run) → shown All false (run_before 32 rs) ≡ 32 ∷ shown All false rs
-space_shown [] = refl
-space_shown (Gap gap ∷ rs) = refl
-space_shown (Word word ∷ rs) = refl
+space_shown : (which : _) (rs : List Run) → shown which false (run_before 32 rs) ≡ 32 ∷ shown which false rs
+space_shown which [] = refl
+space_shown which (Gap gap ∷ rs) = refl
+space_shown which (Word word ∷ rs) = refl
 
 space_decoded : (value : List ℕ) → words_decoded (32 ∷ value) ≡ 32 ∷ words_decoded value
-space_decoded value = ap (λ bytes. shown All false (runs bytes)) (unfold_byte 32 value refl refl) ∙ space_shown (runs (unfolded value))
+space_decoded value = ap (λ bytes. shown _ false (runs bytes)) (unfold_byte 32 value refl refl) ∙ space_shown _ (runs (unfolded value))
 
 -- a text on one line stays as it is
 line_kept : (text : List ℕ) → is_one_line text ≡ true → map line_byte text ≡ text
@@ -45,10 +43,10 @@ line_kept (x ∷ xs) h =
 
 -- all words are decoded where that gives UTF-8
 all_decoded : (value text : List ℕ) → words_decoded value ≡ text → IsUtf8 text → text_decoded value ≡ text
-all_decoded value text d u = ap (λ bytes. if is_utf8 bytes then bytes else decoded_with Texts value) d ∙ chosen (is_utf8-from_IsUtf8 text u)
+all_decoded value text d u = chosen (words_decoded value) _ (ap is_utf8 d ∙ is_utf8-from_IsUtf8 text u) ∙ d
   where
-    chosen : is_utf8 text ≡ true → (if is_utf8 text then text else decoded_with Texts value) ≡ text
-    chosen h = rw h refl
+    chosen : (all some : List ℕ) → is_utf8 all ≡ true → (if is_utf8 all then all else some) ≡ all
+    chosen all some h = rw h refl
 
 space_is_text : (text : List ℕ) → IsUtf8 text → IsUtf8 (32 ∷ text)
 space_is_text text u = IsUtf8-append (32 ∷ []) text (IsUtf8-from_is_utf8 (32 ∷ []) refl) u
@@ -114,12 +112,12 @@ abbrev pub made_by : Ending → List ℕ → List ℕ → Bool → List ℕ
 made_by eol name text needs = decoded_value (behind_colon (if needs then field_or (field name text) name (worded_value (field_kind name) eol text) else field name text))
 
 -- what is read of the field that is made of a name and a text
-parts_read : (eol : Ending) (name text : List ℕ) (stays : Bool) → is_plain text ≡ stays → list_all is_name_byte name ≡ true → field_kind name ≡ Text → IsUtf8 text → IsBytes text → is_one_line text ≡ true
+parts_read : (eol : Ending) (name text : List ℕ) (stays : Bool) → is_plain text ≡ stays → list_all is_name_byte name ≡ true → is_structured name ≡ false → IsUtf8 text → IsBytes text → is_one_line text ≡ true
     → stripped text ≡ text → decoded_value (behind_colon (worded_field_of eol (field name text) name text)) ≡ text
 parts_read eol name text true e h a u b l s = ap (made_by eol name text) (plain_stays text u e) ∙ plain_read name text h e u l s
 parts_read eol name text false e h a u b l s =
     ap (made_by eol name text) (needed text u e)
-    ∙ (ap (λ k. decoded_value (behind_colon (field_or (field name text) name (worded_value k eol text)))) a ∙ words_read eol name text h u b l s)
+    ∙ (ap (λ o. decoded_value (behind_colon (field_or (field name text) name o))) (text_written eol name text a) ∙ words_read eol name text h u b l s)
 
 pub worded_read : WordedFieldsAreRead
 worded_read eol name text n a u b l s =

@@ -1,5 +1,5 @@
 -- Fields whose values go in as encoded words (RFC 2047; which values do is own).
-use Rattle.std.specs.Prelude.{◌&&◌, ◌||◌, ◌++◌, if◌then◌else◌, ℕ, Bool, true, not, Option, None, Some, List, [], ◌∷◌, codes, drop, is_some, take}
+use Rattle.std.specs.Prelude.{◌&&◌, ◌||◌, ◌++◌, if◌then◌else◌, ℕ, Bool, true, false, not, Option, None, Some, List, [], ◌∷◌, codes, drop, is_some, take}
 use Rattle.std.specs.List.{list_any}
 use Rattle.mk_line.specs.declared.cutting.Ending.{Ending}
 use Rattle.mk_line.specs.declared.cutting.Ending.TheVariants.{Lf}
@@ -45,6 +45,17 @@ field_kind name =
     if is_one_of_names address_names (without_resent name) then Addresses
     else (if is_one_of_names parameter_names name then Parameters
     else (if is_one_of_names comment_names (without_resent name) then Comments else Text))
+
+-- not text
+abbrev pub holds_structure : FieldKind → Bool
+holds_structure Addresses = true
+holds_structure Parameters = true
+holds_structure Comments = true
+holds_structure Text = false
+
+-- a field of this name has a structured value, in which encoded words stand in some places alone
+abbrev pub is_structured : List ℕ → Bool
+is_structured name = holds_structure (field_kind name)
 
 -- the field of a name and a value
 abbrev pub made_field : List ℕ → List ℕ → List ℕ
