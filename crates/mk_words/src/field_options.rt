@@ -1,6 +1,6 @@
 //! The words of `field`.
 
-use crate::mailbox_options::rfc4155;
+use crate::mailbox_options::with_cuts;
 use crate::options::{
     ADD, ADD_IF, DECODE, DROP, EACH, ENCODE, EOL, FIELD, FIRST, LAST, ONLY, PATH, PREFIXED,
     PREPEND, REFUSED_OK, RENAME, TAKE, UNFOLD, WHOLE, explain, flag, from, in_place, with_wait,
@@ -13,7 +13,7 @@ const A_FIELD: &str = "FIELD";
 
 const A_NAME: &str = "NAME:";
 
-/// mimetool field [--from FILE|--in-place FILE] [--wait[=SECONDS]] [--tempfail] [-p PATH] [--prepend NAME:TEXT] [--drop NAME:] [-a FIELD] [-A FIELD] [-i FIELD] [-I FIELD] [-u NAME:] [-U NAME:] [-x NAME:] [-X NAME:] [--rename OLD:NEW] [--unfold] [--decode] [--encode] [--eol] [--refused-ok] [-s [--rfc4155]]
+/// mimetool field [--from FILE|--in-place FILE] [--wait[=SECONDS]] [--tempfail] [-p PATH] [--prepend NAME:TEXT] [--drop NAME:] [-a FIELD] [-A FIELD] [-i FIELD] [-I FIELD] [-u NAME:] [-U NAME:] [-x NAME:] [-X NAME:] [--rename OLD:NEW] [--unfold] [--decode] [--encode] [--eol] [--refused-ok] [-s [--rfc4155|--mbox HOW]]
 pub fn field_command<'a>(alloc: Global) -> Result<Command<'a>, AllocError> {
     let rename = letter(alloc, RENAME, "OLD:NEW", "Give the fields OLD the name NEW").long(RENAME);
     let prepend = letter(
@@ -94,7 +94,7 @@ fn with_names<'a>(alloc: Global, command: Command<'a>) -> Result<Command<'a>, Al
 
 // How values are read and written, and what the input is.
 fn with_flags<'a>(alloc: Global, command: Command<'a>) -> Result<Command<'a>, AllocError> {
-    command
+    let command = command
         .arg(flag(
             alloc,
             UNFOLD,
@@ -131,8 +131,8 @@ fn with_flags<'a>(alloc: Global, command: Command<'a>) -> Result<Command<'a>, Al
             EACH,
             "Treat the input as a mailbox, message by message",
         )
-        .short('s'))?
-        .arg(rfc4155(alloc))
+        .short('s'))?;
+    with_cuts(alloc, command)
 }
 
 // An option that may be given again, with a value each time.

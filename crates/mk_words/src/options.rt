@@ -175,8 +175,11 @@ pub const MESSAGES: &str = "messages";
 /// `-n N`: the N-th message of a mailbox.
 pub const NUMBER: &str = "NUMBER";
 
-/// `--rfc4155`: a mailbox is cut only at From-lines that end with a date.
+/// `--rfc4155`: a mailbox is cut only at From-lines that end with a date, as with `--mbox=date`.
 pub const RFC4155: &str = "rfc4155";
+
+/// `--mbox HOW`: at which From-lines a mailbox is cut.
+pub const MBOX: &str = "mbox";
 
 /// `--unquote`: lines of the message that a mailbox has marked lose a mark.
 pub const UNQUOTE: &str = "unquote";
@@ -265,7 +268,7 @@ fn wait<'a>(alloc: Global) -> Arg<'a> {
         .action(ArgAction::Set)
 }
 
-// mimetool sections [-n N [--rfc4155] [--unquote]] [--json [--utf8]] [--explain]
+// mimetool sections [-n N [--rfc4155|--mbox HOW] [--unquote]] [--json [--utf8]] [--explain]
 fn sections_command<'a>(alloc: Global) -> Result<Command<'a>, AllocError> {
     let command = Command::new(alloc, SECTIONS)
         .about("Lists the sections of the message, one a line")
@@ -282,7 +285,7 @@ fn sections_command<'a>(alloc: Global) -> Result<Command<'a>, AllocError> {
     with_number(alloc, command)
 }
 
-// mimetool extract [-n N [--rfc4155] [--unquote]] -s PATH [--raw|--head|--prefix]
+// mimetool extract [-n N [--rfc4155|--mbox HOW] [--unquote]] -s PATH [--raw|--head|--prefix]
 fn extract_command<'a>(alloc: Global) -> Result<Command<'a>, AllocError> {
     let path = Arg::new(alloc, PATH)
         .short('s')
@@ -321,7 +324,7 @@ fn extract_command<'a>(alloc: Global) -> Result<Command<'a>, AllocError> {
     with_number(alloc, command)
 }
 
-// mimetool unpack [-n N [--rfc4155] [--unquote]] [-f] [-t] [-s PATH].. [--silent|--paths] [--utf8] [-C DIR]
+// mimetool unpack [-n N [--rfc4155|--mbox HOW] [--unquote]] [-f] [-t] [-s PATH].. [--silent|--paths] [--utf8] [-C DIR]
 fn unpack_command<'a>(alloc: Global) -> Result<Command<'a>, AllocError> {
     let section = Arg::new(alloc, PATH)
         .short('s')
