@@ -16,8 +16,7 @@ use Rattle.mk_mailbox.specs.declared.places.Place.{Place}
 use Rattle.mk_mailbox.specs.declared.from_lines.FromLines.{FromLines}
 use Rattle.mk_mailbox.specs.Places.{begins_from, ends_empty, fits_place}
 use Rattle.mk_line.specs.Lines.{cut}
-use Rattle.mk_mail.specs.Apart.{has_section, mail_made, placed_made, section_made}
-use Rattle.mk_mail.specs.Letters.{is_root}
+use Rattle.mk_mail.specs.Apart.{always_fits, has_section, mail_made, placed_made, section_made}
 use Rattle.mk_field.specs.Filtering.{PlainFilter, filter_made}
 use Rattle.mk_mail.specs.Filtered.{outcome_at}
 use Rattle.mk_mail.specs.Letters.{PlainLetters, edits_at}
@@ -152,10 +151,10 @@ fitted_so : (way : FromLines) (p : Place) (text : List ℕ) (m : Made) → p.fro
 fitted_so way p text (Ok made) a b e = λ i. if fits_place (a i) (b i) (e i) made then Ok made else Err Recut
 fitted_so way p text (Err reason) a b e = refl
 
--- below the root what is made of a message of a mailbox fits its place
-pub place_kept : (f : PlainFilter) (each root : Bool) (p : Place) (text : List ℕ) → each ≡ true → root ≡ is_root f.path → root ≡ false → p.from_lines ≡ f.from_lines → p.begins ≡ begins_from f.from_lines (cut text)
+-- what is made of a message of a mailbox fits its place, where it is looked at
+pub place_kept : (f : PlainFilter) (each always : Bool) (p : Place) (text : List ℕ) → each ≡ true → always ≡ always_fits f.from_lines f.path → always ≡ false → p.from_lines ≡ f.from_lines → p.begins ≡ begins_from f.from_lines (cut text)
     → p.ends ≡ ends_empty false (cut text) → fitted (Some p) (section_made f.path f.rounds text) ≡ filter_made each f text
-place_kept f each root p text t r n a b e =
+place_kept f each always p text t r n a b e =
     let m = section_made f.path f.rounds text in
     fitted_so f.from_lines p text m a b e
     ∙ sym (ap (λ x. if x then mail_made f.from_lines f.path f.rounds text else m) t ∙ ap (λ x. if x then m else placed_made f.from_lines text m) (sym r ∙ n))

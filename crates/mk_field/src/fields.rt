@@ -6,7 +6,7 @@ ghost use Rattle.mk_decide.specs.Answers.{is_memory};
 ghost use Rattle.mk_edit.specs.Histories.{first_text, started, text_now};
 ghost use Rattle.mk_mailbox.specs.Devices.{Rose};
 ghost use Rattle.mk_transfer.specs.RunClauses.{Sends};
-ghost use Rattle.mk_mail.specs.Apart.{section_made};
+ghost use Rattle.mk_mail.specs.Apart.{always_fits as fits_always, section_made};
 ghost use Rattle.mk_mail.specs.LetterViews.{bytes_in, letters_of};
 ghost use Rattle.mk_mail.specs.Letters.{are_allowed, is_root as is_root_path};
 ghost use Rattle.mk_mail.specs.Rounds.{rounds_made_at};
@@ -18,7 +18,7 @@ use crate::filters::{FieldFilter, Round, ask};
 use crate::giving::given;
 use mk_edit::{EditError, GroupError, Session};
 use mk_line::Meter;
-use mk_mail::{Letters, Place, Sink, field_edits_at};
+use mk_mail::{FromLines, Letters, Place, Sink, field_edits_at};
 use mk_report::report_message_at;
 use mk_transfer::{Stop, send};
 use mk_tree::Doc;
@@ -114,15 +114,22 @@ fn say_message<O: Sink, E: Sink>(
     }
 }
 
-// The place in a mailbox that what is made of a message must fit: at the root all that is made does.
+// The place in a mailbox that what is made of a message must fit, unless all that is made does.
 fn place_to_keep(filter: &FieldFilter<'_>, each: bool, message: &[u8]) -> Option<Place>
     ensures { fitted result (section_made filter.now.path.now (map round_of filter.now.rounds.now) message.now) ≡ filter_made each (filter_of filter.now) message.now }
 {
-    if each && !is_root(filter.path) {
+    if each && !always_fits(filter.from_lines, filter.path) {
         Some(Place::of(filter.from_lines, message))
     } else {
         None
     }
+}
+
+// Whether all that is made at a path fits the place of its message: at the root, where no field must follow a From-line.
+fn always_fits(from_lines: FromLines, path: &[u32]) -> bool
+    ensures { result ≡ fits_always from_lines path.now }
+{
+    is_root(path) && !from_lines.needs_field()
 }
 
 fn is_root(path: &[u32]) -> bool
