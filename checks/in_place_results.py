@@ -252,7 +252,7 @@ def check_own_journal(program):
     make(folder, {"f": b"A: b\n\nx\n", "l": Link("f")})
     for words in (["--wait", "-j", "f"], ["-j", "./f"], ["-j", "l"]):
         found = program.run(["undo", *words, "--in-place", "f"], folder)
-        program.ended(f"FILE as its own journal: {words}", found, 3, errors=read_fault(words[-1], "the file of --in-place can't be its journal"),
+        program.ended(f"FILE as its own journal: {words}", found, 3, errors=read_fault(words[-1], "the file of --in-place can't also be its journal"),
                       text=(b"A: b\n\nx\n", read(folder, "f")), files=(["f", "l"], names(folder)))
 
 

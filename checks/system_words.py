@@ -3,7 +3,7 @@
 from common import FOLDER, make, names
 from usage_rows import APART, BESIDE, IN_PLACE, VALUES, WITH_FROM
 
-NO_SCRIPT = "give a SCRIPT, or its lines, each after -e"
+NO_SCRIPT = "give a SCRIPT, or its lines, each with -e"
 
 
 def faults():
@@ -17,7 +17,7 @@ def faults():
     for command in ("undo", "redo"):
         yield [command], "error: the following required arguments were not provided:\n  -j <JOURNAL>\n"
     yield ["pack", "-b", "b"], "error: the following required arguments were not provided:\n  <SPEC>...\n"
-    yield ["pack", "-b", "b", "text/plain:none", "x"], "error: invalid value 'x' for '<SPEC>...': write TYPE:FILE, as image/gif:dot.gif\n"
+    yield ["pack", "-b", "b", "text/plain:none", "x"], "error: invalid value 'x' for '<SPEC>...': write TYPE:FILE, such as image/gif:dot.gif\n"
     yield ["edit", "none", "-Z"], "error: unexpected argument '-Z' found\n"
 
 

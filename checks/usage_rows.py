@@ -1,15 +1,15 @@
 """Command lines that are invalid as they stand, and what is said of each. The words are those of clap."""
 
-A_TEXT = "write a name, a colon and a text on one line, as 'Subject:[list] '"
-A_PAIR = "write two names with a colon between them, as Subject:X-Subject"
-A_FIELD = "write a name, a colon and a value, as 'X-Seen: yes'"
-A_FIELD_OR_NAME = A_FIELD + ", or a name and a colon alone, as X-Seen:"
-A_NAME = "write a name and a colon, as Subject:"
-A_NAME_OR_FRONT = A_NAME + ", or with an asterisk before the colon, as X-*:"
-A_PATH = "write numbers from 1 on with dots between them, as 1.2"
-A_SPEC = "write TYPE:FILE, as image/gif:dot.gif"
+A_TEXT = "write a name, a colon and a text on one line, such as 'Subject:[list] '"
+A_PAIR = "write two names with a colon between them, such as Subject:X-Subject"
+A_FIELD = "write a name, a colon and a value, such as 'X-Seen: yes'"
+A_FIELD_OR_NAME = A_FIELD + ", or a name and a colon alone, such as X-Seen:"
+A_NAME = "write a name and a colon, such as Subject:"
+A_NAME_OR_FRONT = A_NAME + ", or with an asterisk before the colon, such as X-*:"
+A_PATH = "write numbers from 1 with dots between them, such as 1.2"
+A_SPEC = "write TYPE:FILE, such as image/gif:dot.gif"
 SECONDS = "write a whole number of seconds, from 0 to 4294967295"
-APART = "-x and -X print fields, so neither stands beside another letter"
+APART = "-x and -X print fields, so neither goes with another letter"
 
 COMMANDS = ["edit", "undo", "redo", "sections", "extract", "unpack", "pack", "field"]
 WITH_FROM = [command for command in COMMANDS if command != "pack"]
@@ -111,14 +111,14 @@ SAID = [
     ("--json of another command", ["unpack", "--json"], ["unexpected argument '--json' found", "Usage: mimetool unpack"]),
     ("--utf8 without --json", ["sections", "--utf8"], ["--utf8 goes only with --json", "Usage: mimetool sections"]),
     ("a line feed in a line of a script", ["edit", "-e", "undo\nx"],
-     ['invalid value "undo\\nx" for \'-e <LINE>\'', "write one line, and -e again before each further one", "Usage: mimetool edit"]),
+     ['invalid value "undo\\nx" for \'-e <LINE>\'', "write one line, and use -e again for each further line", "Usage: mimetool edit"]),
     ("a line feed after a line of a script", ["edit", "-e", "undo", "-e", "undo\n", "-j", "none/j"], ['invalid value "undo\\n"', "Usage: mimetool edit"]),
     ("seconds without an equals sign", ["field", "--wait", "5"], ["unexpected argument '5' found", "write '--wait=5'", "Usage: mimetool field"]),
     ("--tempfail with a value", ["undo", "-j", "j", "--tempfail=75"], ["--tempfail", "Usage: mimetool undo"]),
     ("a file for sections", ["sections", "f"], ["unexpected argument 'f' found", "tip: to read the message from a file, write '--from f'", "Usage: mimetool sections"]),
     ("a file for redo", ["redo", "-j", "j", "f"], ["unexpected argument 'f' found", "'--from f'", "'--in-place f'", "Usage: mimetool redo"]),
     *[(f"{words[0]} of formail", ["field", *words], [f"unexpected argument '{words[0]}' found", tip, "Usage: mimetool field"]) for words, tip in (
-        (["-R", "A", "B"], "write '--rename OLD:NEW'"), (["-c", "-x", "A:"], "write '--unfold' beside -x"), (["-z"], "'--unfold' beside -x"),
+        (["-R", "A", "B"], "write '--rename OLD:NEW'"), (["-c", "-x", "A:"], "write '--unfold' with -x"), (["-z"], "'--unfold' with -x"),
         (["-k"], "the body is always kept"), (["-r"], "no replies are written"), (["-D", "99", "f"], "no Message-IDs are kept"))],
     ("a letter in capitals", ["field", "--Rename", "A:B"], ["unexpected argument '--Rename' found", "Usage: mimetool field"]),
 ]

@@ -167,7 +167,7 @@ def obey(history, steps, turned):
 
 def told(steps):
     """A piece of `append` without an empty line is read as fields, which is said (own)."""
-    rest = b"has no empty line, so its lines are read as fields; append-text takes them as a text\n"
+    rest = b"has no empty line, so its lines are read as fields; append-text takes them as text\n"
     appended = [(at, job) for at, job in steps if isinstance(job, jobs.Job) and job.word == "append" and job.text]
     return b"".join(b"script: line %d: piece %d " % (at, job.piece) + rest
                     for at, job in appended if all(line.content for line in lines.cut(job.text)))

@@ -24,7 +24,7 @@ const UNDO_SCRIPT: &[u8] = b"undo\n";
 const REDO_SCRIPT: &[u8] = b"redo\n";
 
 /// What is said of a journal that is the file of `--in-place`.
-const OWN_JOURNAL: &str = "the file of --in-place can't be its journal";
+const OWN_JOURNAL: &str = "the file of --in-place can't also be its journal";
 
 /// mimetool edit
 pub fn edit<R: Files<File = File> + Clock + AllocGlobal, S: Source, O: Sink, E: Sink>(

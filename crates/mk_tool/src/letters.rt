@@ -99,28 +99,29 @@ fn place_each<'a>(
 }
 
 /// What a letter takes.
-const A_TEXT: &str = "write a name, a colon and a text on one line, as 'Subject:[list] '";
+const A_TEXT: &str = "write a name, a colon and a text on one line, such as 'Subject:[list] '";
 
-const A_PAIR: &str = "write two names with a colon between them, as Subject:X-Subject";
+const A_PAIR: &str = "write two names with a colon between them, such as Subject:X-Subject";
 
-const A_FIELD: &str = "write a name, a colon and a value, as 'X-Seen: yes'";
+const A_FIELD: &str = "write a name, a colon and a value, such as 'X-Seen: yes'";
 
 const A_FIELD_OR_NAME: &str =
-    "write a name, a colon and a value, as 'X-Seen: yes', or a name and a colon alone, as X-Seen:";
+    "write a name, a colon and a value, such as 'X-Seen: yes', or a name and a colon alone, such as X-Seen:";
 
-const A_NAME: &str = "write a name and a colon, as Subject:";
+const A_NAME: &str = "write a name and a colon, such as Subject:";
 
 const A_NAME_OR_FRONT: &str =
-    "write a name and a colon, as Subject:, or with an asterisk before the colon, as X-*:";
+    "write a name and a colon, such as Subject:, or with an asterisk before the colon, such as X-*:";
 
-const APART: &str = "-x and -X print fields, so neither stands beside another letter";
+const APART: &str = "-x and -X print fields, so neither goes with another letter";
 
 /// What the options on values want beside them.
 const UNFOLD_ALONE: &str = "--unfold is for the values that -x prints";
 
 const DECODE_ALONE: &str = "--decode is for the values that -x prints";
 
-const STRUCTURED: &str = "in such a field --encode writes names, comments and parameters, and all else is ASCII: write 'From: Jörg <j@example.org>'";
+const STRUCTURED: &str =
+    "in such a field --encode only encodes names, comments and parameters; all else has to be ASCII, as in 'From: Jörg <j@example.org>'";
 
 const ENCODE_ALONE: &str = "--encode is for the fields of -a, -A, -i and -I";
 

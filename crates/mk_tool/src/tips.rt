@@ -61,7 +61,7 @@ fn tell_of_word<E: Sink>(
     match pieces.get(index) {
         Some(text) if !text.is_empty() && !cut(text).any(|line| line.content.is_empty()) => {
             let line = format!(in alloc;
-                "script: line {number}: piece {piece} has no empty line, so its lines are read as fields; append-text takes them as a text\n"
+                "script: line {number}: piece {piece} has no empty line, so its lines are read as fields; append-text takes them as text\n"
             )?;
             match write_all(err, line.as_bytes()) {
                 Ok(()) => Ok(()),

@@ -14,7 +14,7 @@ use mk_words::waiting::why_no_seconds;
 use std::alloc::{AllocError, Global};
 
 /// What is said of an edit without lines.
-const NO_SCRIPT: &str = "give a SCRIPT, or its lines, each after -e";
+const NO_SCRIPT: &str = "give a SCRIPT, or its lines, each with -e";
 
 /// What is said of a plain listing with names in UTF-8.
 const NO_JSON: &str = "--utf8 goes only with --json: the plain listing has no names";
@@ -25,7 +25,8 @@ const NO_NUMBER: &str = "--rfc4155 goes only with -n: it says how a mailbox is c
 const NO_MAILBOX: &str = "--rfc4155 goes only with -s: it says how a mailbox is cut";
 
 /// What is said of marks where no message of a mailbox is read.
-const NO_MARKS: &str = "--unquote goes only with -n: it takes off what a mailbox puts before lines";
+const NO_MARKS: &str =
+    "--unquote goes only with -n: it removes the > that a mailbox puts before lines";
 
 /// The options that take a path, as help writes them.
 const SECTION: &str = "-s <PATH>";
@@ -126,7 +127,7 @@ fn why_no_lines(alloc: Global, lines: &[&str]) -> Result<Option<String>, AllocEr
         if line.contains('\n') {
             let line = *line;
             let sentence = format!(in alloc;
-                "invalid value {line:?} for '-e <LINE>': write one line, and -e again before each further one"
+                "invalid value {line:?} for '-e <LINE>': write one line, and use -e again for each further line"
             )?;
             return Ok(Some(sentence));
         }
@@ -148,7 +149,7 @@ fn why_no_path(alloc: Global, word: &str, option: &str) -> Result<Option<String>
         return Ok(None);
     }
     let sentence = format!(in alloc;
-        "invalid value '{word}' for '{option}': write numbers from 1 on with dots between them, as 1.2"
+        "invalid value '{word}' for '{option}': write numbers from 1 with dots between them, such as 1.2"
     )?;
     Ok(Some(sentence))
 }
@@ -182,7 +183,7 @@ fn why_no_part(alloc: Global, word: &str, option: &str) -> Result<Option<String>
         return Ok(None);
     }
     let sentence = format!(in alloc;
-        "invalid value '{word}' for '{option}': write TYPE:FILE, as image/gif:dot.gif"
+        "invalid value '{word}' for '{option}': write TYPE:FILE, such as image/gif:dot.gif"
     )?;
     Ok(Some(sentence))
 }

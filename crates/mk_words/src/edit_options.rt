@@ -56,11 +56,11 @@ pub fn edit_command<'a>(alloc: Global) -> Result<Command<'a>, AllocError> {
         .action(ArgAction::Append);
     let script = Arg::new(alloc, SCRIPT)
         .help(
-            "The file with the script: one edit a line, such as `add 1 Subject: hello`, `del 1 Subject 2` or `undo`",
+            "The file with the script: one edit per line, such as `add 1 Subject: hello`, `del 1 Subject 2` or `undo`",
         )
         .action(ArgAction::Set);
     let pieces = Arg::new(alloc, PIECE)
-        .help("Files that the script names by number, from 1 on")
+        .help("Files that the script names by number, from 1")
         .action(ArgAction::Append);
     let command = Command::new(alloc, EDIT)
         .about("Edits the message by the lines of a script, and prints it")
@@ -73,13 +73,13 @@ pub fn edit_command<'a>(alloc: Global) -> Result<Command<'a>, AllocError> {
         .arg(flag(
             alloc,
             EOL,
-            "End the lines of pieces as the message's lines end; what goes out as base64 stays as it is",
+            "Give the lines of pieces the line endings of the message; what is encoded as base64 stays as it is",
         )
         .long(EOL))?
         .arg(flag(
             alloc,
             EXPLAIN,
-            "Say why a line of SCRIPT is invalid, as is always said for -e, and what the reason of a refused line means",
+            "Say why a line of SCRIPT is invalid, as is always done for -e, and what the reason for a refused line means",
         )
         .long(EXPLAIN))?
         .arg(line)?

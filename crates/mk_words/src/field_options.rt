@@ -20,13 +20,13 @@ pub fn field_command<'a>(alloc: Global) -> Result<Command<'a>, AllocError> {
         alloc,
         PREPEND,
         "NAME:TEXT",
-        "Put TEXT before what the fields NAME say; all else in them stays as it is",
+        "Put TEXT at the start of the values of the fields NAME; all else in them stays as it is",
     )
     .long(PREPEND);
     let command = Command::new(alloc, FIELD)
         .about("Adds, renames and removes fields of a message, or prints those of a name")
         .after_help(
-            "Letters work in this order, whatever the order of the command line: --prepend, --drop, --rename, -a, -A, -i, -I, -u, -U. A letter that is given again works on what the earlier ones made, as in a pipe.\n\nExamples:\n  mimetool field -I 'X-Seen: yes' --in-place message\n  mimetool field -I 'X-Seen: yes' -I 'X-By: me' < message\n  mimetool field --prepend 'Subject:[list] ' < message\n  mimetool field -s -x Subject: --from mailbox\n  mimetool field -p 1.2 -x Content-Type: < message",
+            "Letters work in this order, whatever the order of the command line: --prepend, --drop, --rename, -a, -A, -i, -I, -u, -U. A letter that is given again works on the result of the earlier ones, as in a pipe.\n\nExamples:\n  mimetool field -I 'X-Seen: yes' --in-place message\n  mimetool field -I 'X-Seen: yes' -I 'X-By: me' < message\n  mimetool field --prepend 'Subject:[list] ' < message\n  mimetool field -s -x Subject: --from mailbox\n  mimetool field -p 1.2 -x Content-Type: < message",
         )
         .arg(from(alloc))?
         .arg(
@@ -38,7 +38,7 @@ pub fn field_command<'a>(alloc: Global) -> Result<Command<'a>, AllocError> {
             alloc,
             PATH,
             PATH,
-            "Work on the fields of the section at PATH, as 1.2, not those of the message",
+            "Work on the fields of the section at PATH, such as 1.2, not those of the message",
         )
         .short('p'))?
         .arg(prepend)?
@@ -56,7 +56,7 @@ fn with_fields<'a>(alloc: Global, command: Command<'a>) -> Result<Command<'a>, A
             alloc,
             ADD_IF,
             A_FIELD,
-            "Add FIELD if there is no field of its name",
+            "Add FIELD if there is no field with its name",
         )
         .short('a'))?
         .arg(letter(alloc, ADD, A_FIELD, "Add FIELD").short('A'))?
@@ -64,14 +64,14 @@ fn with_fields<'a>(alloc: Global, command: Command<'a>) -> Result<Command<'a>, A
             alloc,
             PREFIXED,
             A_FIELD,
-            "Put Old- before the fields of its name, and add FIELD; a name and a colon alone add none",
+            "Put Old- before the fields with its name, and add FIELD; a name and a colon alone add nothing",
         )
         .short('i'))?
         .arg(letter(
             alloc,
             ONLY,
             A_FIELD,
-            "Remove the fields of its name, and add FIELD; a name and a colon alone add none",
+            "Remove the fields with its name, and add FIELD; a name and a colon alone add nothing",
         )
         .short('I'))
 }
@@ -83,7 +83,7 @@ fn with_names<'a>(alloc: Global, command: Command<'a>) -> Result<Command<'a>, Al
             alloc,
             DROP,
             A_NAME,
-            "Remove the fields NAME; NAME*: means all whose names begin so",
+            "Remove the fields NAME; NAME*: means all whose names begin with NAME",
         )
         .long(DROP))?
         .arg(letter(alloc, FIRST, A_NAME, "Keep only the first field NAME").short('u'))?
@@ -104,25 +104,25 @@ fn with_flags<'a>(alloc: Global, command: Command<'a>) -> Result<Command<'a>, Al
         .arg(flag(
             alloc,
             DECODE,
-            "With -x, print what each field says on one line, its encoded words decoded",
+            "With -x, print the value of each field on one line, with its encoded words decoded",
         )
         .long(DECODE))?
         .arg(flag(
             alloc,
             ENCODE,
-            "Write values of FIELD that aren't plain ASCII as encoded words; in structured fields names, comments and parameters",
+            "Write values of FIELD that aren't plain ASCII as encoded words; in structured fields, only names, comments and parameters",
         )
         .long(ENCODE))?
         .arg(flag(
             alloc,
             EOL,
-            "End the lines of FIELD as the message ends its lines",
+            "Give the lines of FIELD the line endings of the message",
         )
         .long(EOL))?
         .arg(flag(
             alloc,
             REFUSED_OK,
-            "Exit with 0 where an edit is refused; it is reported all the same",
+            "Exit with 0 even if an edit is refused; the refusal is still reported",
         )
         .long(REFUSED_OK))?
         .arg(explain(alloc))?

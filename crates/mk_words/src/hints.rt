@@ -24,35 +24,35 @@ const LETTERS: [(&str, &str); 14] = [
     ("-R", "to rename fields, write '--rename OLD:NEW'"),
     (
         "-c",
-        "to print each value on one line, write '--unfold' beside -x",
+        "to print each value on one line, write '--unfold' with -x",
     ),
     (
         "-z",
-        "'--unfold' beside -x prints values without the blanks at both ends; nothing removes empty fields",
+        "'--unfold' with -x prints values without the blanks at both ends; no option removes empty fields",
     ),
     (
         "-k",
         "the body is always kept; to print it alone, write 'mimetool extract -s 1'",
     ),
-    ("-r", "no replies are written, so there is nothing to write"),
-    ("-t", "no replies are written, so there is nothing to write"),
+    ("-r", "mimetool writes no replies, so no option replaces it"),
+    ("-t", "mimetool writes no replies, so no option replaces it"),
     (
         "-D",
-        "no Message-IDs are kept between runs, so there is nothing to write",
+        "no Message-IDs are kept between runs, so no option replaces it",
     ),
-    ("-l", "no log is written, so there is nothing to write"),
+    ("-l", "no log is written, so it isn't needed"),
     ("-b", "nothing is quoted, so it isn't needed"),
-    ("-f", "no From-line is made, so it isn't needed"),
+    ("-f", "no From-line is added, so it isn't needed"),
     ("-Y", "Content-Length isn't read, so it isn't needed"),
     (
         "-d",
-        "a mailbox is cut at From-lines alone, so it isn't needed",
+        "a mailbox is cut only at From-lines, so it isn't needed",
     ),
     (
         "-e",
-        "a message begins only after an empty line, so there is nothing to write",
+        "a message begins only after an empty line, so it isn't needed",
     ),
-    ("-q", "it prints no warnings, so it isn't needed"),
+    ("-q", "mimetool prints no warnings, so it isn't needed"),
 ];
 
 /// An error of clap's own form, with what to write in place of the word that clap refuses. `None` where that isn't known.
@@ -102,7 +102,7 @@ fn hint(
         return Ok(None);
     }
     if stands_after(words, WAIT_OPTION, word) {
-        return Ok(Some(format!(in alloc; "to wait so many seconds, write '--wait={word}'")?));
+        return Ok(Some(format!(in alloc; "to wait that many seconds, write '--wait={word}'")?));
     }
     if name == FIELD && word.contains(':') {
         return Ok(Some(String::from_str(alloc, A_FIELD)?));

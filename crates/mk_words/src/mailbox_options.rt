@@ -7,7 +7,7 @@ use std::alloc::{AllocError, Global};
 /// mimetool messages [--from FILE] [--rfc4155|--mbox HOW]
 pub fn messages_command<'a>(alloc: Global) -> Result<Command<'a>, AllocError> {
     let command = Command::new(alloc, MESSAGES)
-        .about("Lists the messages of a mailbox, one a line")
+        .about("Lists the messages of a mailbox, one per line")
         .after_help(
             "Examples:\n  mimetool messages < mailbox\n  mimetool messages --mbox=date --from mailbox",
         )
@@ -30,7 +30,7 @@ fn unquote<'a>(alloc: Global) -> Arg<'a> {
     flag(
         alloc,
         UNQUOTE,
-        "With -n, take one > off lines that begin with >From, >>From and so on",
+        "With -n, remove one > from lines that begin with >From, >>From and so on",
     )
     .long(UNQUOTE)
 }

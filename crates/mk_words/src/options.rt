@@ -241,7 +241,7 @@ pub fn in_place<'a>(alloc: Global) -> Result<Arg<'a>, AllocError> {
     Arg::new(alloc, IN_PLACE)
         .long("in-place")
         .value_name("FILE")
-        .help("Read the message from FILE, and replace FILE by the result")
+        .help("Read the message from FILE, and replace FILE with the result")
         .allow_hyphen_values(true)
         .action(ArgAction::Set)
         .conflicts_with(FROM)
@@ -252,7 +252,7 @@ pub fn with_wait<'a>(alloc: Global, command: Command<'a>) -> Result<Command<'a>,
     command.arg(wait(alloc))?.arg(flag(
         alloc,
         TEMPFAIL,
-        "Exit with 75, not 3 or 4, where a read or a write fails or memory runs out",
+        "Exit with 75, not 3 or 4, when a read or a write fails or memory runs out",
     )
     .long(TEMPFAIL))
 }
@@ -271,7 +271,7 @@ fn wait<'a>(alloc: Global) -> Arg<'a> {
 // mimetool sections [-n N [--rfc4155|--mbox HOW] [--unquote]] [--json [--utf8]] [--explain]
 fn sections_command<'a>(alloc: Global) -> Result<Command<'a>, AllocError> {
     let command = Command::new(alloc, SECTIONS)
-        .about("Lists the sections of the message, one a line")
+        .about("Lists the sections of the message, one per line")
         .after_help(
             "Examples:\n  mimetool sections < message\n  mimetool sections --json --from message",
         )
@@ -289,7 +289,7 @@ fn sections_command<'a>(alloc: Global) -> Result<Command<'a>, AllocError> {
 fn extract_command<'a>(alloc: Global) -> Result<Command<'a>, AllocError> {
     let path = Arg::new(alloc, PATH)
         .short('s')
-        .help("The path of the section, as 1 or 1.2")
+        .help("The path of the section, such as 1 or 1.2")
         .required(true)
         .allow_hyphen_values(true)
         .action(ArgAction::Set);
@@ -300,7 +300,7 @@ fn extract_command<'a>(alloc: Global) -> Result<Command<'a>, AllocError> {
         )
         .arg(from(alloc))?
         .arg(path)?
-        .arg(flag(alloc, RAW, "Print the content as it stands, not decoded").long(RAW))?
+        .arg(flag(alloc, RAW, "Print the content as it is, not decoded").long(RAW))?
         .arg(
             flag(
                 alloc,
@@ -314,7 +314,7 @@ fn extract_command<'a>(alloc: Global) -> Result<Command<'a>, AllocError> {
             flag(
                 alloc,
                 PREFIX,
-                "Of base64 that isn't whole, print what decodes; it is reported all the same",
+                "Print what can be decoded of invalid base64; the fault is still reported",
             )
             .long(PREFIX)
             .conflicts_with(RAW)?
@@ -328,7 +328,9 @@ fn extract_command<'a>(alloc: Global) -> Result<Command<'a>, AllocError> {
 fn unpack_command<'a>(alloc: Global) -> Result<Command<'a>, AllocError> {
     let section = Arg::new(alloc, PATH)
         .short('s')
-        .help("Write only the leaves at and below this path, as 1.2; may be given more than once")
+        .help(
+            "Write only the leaves at and below this path, such as 1.2; may be given more than once",
+        )
         .allow_hyphen_values(true)
         .action(ArgAction::Append);
     let paths = flag(
@@ -355,7 +357,7 @@ fn unpack_command<'a>(alloc: Global) -> Result<Command<'a>, AllocError> {
         .arg(paths.conflicts_with(SILENT)?)?
         .arg(utf8(
             alloc,
-            "Name files in UTF-8, as the message says, not in ASCII alone",
+            "Name files in UTF-8, as the message does, not only in ASCII",
         ))?
         .arg(dir)?
         .arg(explain(alloc))?;

@@ -24,7 +24,7 @@ fn with_kind<'a>(alloc: Global, command: Command<'a>) -> Result<Command<'a>, All
         .arg(value(
             alloc,
             BOUNDARY,
-            "The boundary between the parts, such as =_b; if left out, one is made of what is packed",
+            "The boundary between the parts, such as =_b; if left out, one is made from what is packed",
         )
         .short('b'))?
         .arg(value(
@@ -58,12 +58,12 @@ fn with_parts<'a>(alloc: Global, command: Command<'a>) -> Result<Command<'a>, Al
         .arg(flag(
             alloc,
             EOL,
-            "End the lines of texts as the lines of the fields end",
+            "Give the lines of texts the line endings of the fields",
         )
         .long(EOL))?
         .arg(utf8(
             alloc,
-            "Write names of files that aren't ASCII as they are, too, for unpack --utf8",
+            "Also write file names that aren't ASCII as they are, for unpack --utf8",
         ))?
         .arg(explain(alloc))?
         .arg(specs(alloc)?)
@@ -82,7 +82,7 @@ fn forward<'a>(alloc: Global) -> Arg<'a> {
         .long(FORWARD)
         .value_name("FILE")
         .help(
-            "Add the message in FILE as it is, a part message/rfc822 after the others; may be repeated",
+            "Add the message in FILE as it is, as a part message/rfc822 after the others; may be repeated",
         )
         .action(ArgAction::Append)
 }

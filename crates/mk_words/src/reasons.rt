@@ -9,18 +9,21 @@ const COLON: &[u8] = b": ";
 const REASONS: [(&str, &str); 25] = [
     (
         "NoSuchSection",
-        "there is no section at this path; the listing has the paths",
+        "there is no section at this path; 'sections' lists the paths",
     ),
     (
         "NotMultipart",
-        "this section isn't a multipart; 'wrap' makes one of it",
+        "this section isn't a multipart; 'wrap' puts it into one",
     ),
     (
         "NotLeaf",
-        "this section isn't a leaf; 'replace' puts another one in its place",
+        "this section isn't a leaf; 'replace' puts another section in its place",
     ),
     ("NotPart", "this section isn't a part of a multipart"),
-    ("NoSuchField", "the section has no such field of this name"),
+    (
+        "NoSuchField",
+        "the section has no field of this name and number",
+    ),
     ("BadPlace", "the multipart has fewer parts than that"),
     (
         "BadField",
@@ -29,42 +32,42 @@ const REASONS: [(&str, &str); 25] = [
     ("BadName", "this name can't be written"),
     (
         "BadBoundary",
-        "a boundary has 1 to 70 letters, digits and signs of '()+_,-./:=?, and spaces but at its end",
+        "a boundary has 1 to 70 characters: letters, digits, any of '()+_,-./:=?, and spaces, but no space at the end",
     ),
     ("BadSubtype", "this isn't a token, such as mixed"),
     (
         "OpenLine",
-        "a line without an ending would stand before another line; put the field at the top, or end that line first",
+        "a line without a line ending would come before another line; put the field at the top, or end that line first",
     ),
     (
         "HoldsBoundary",
-        "a line would be read as a delimiter of a multipart; write another line, or take another boundary",
+        "a line would be read as a delimiter of a multipart; change that line, or use another boundary",
     ),
     ("Recut", "the message would be read in another way"),
-    ("NothingToUndo", "no step is done"),
+    ("NothingToUndo", "there is no step to undo"),
     (
         "NothingToRedo",
-        "no step is undone, or an edit has taken its place",
+        "no step was undone, or an edit was made since",
     ),
     ("UnknownEncoding", "this transfer encoding isn't known"),
     (
         "BadBase64",
-        "the content isn't whole base64; 'extract --prefix' prints what decodes of it",
+        "the content isn't valid base64; 'extract --prefix' prints what can be decoded of it",
     ),
     ("BadType", "this media type can't be attached"),
     (
         "BadCharset",
-        "these bytes aren't a text in this charset; 'content --charset' says another one",
+        "these bytes aren't text in this charset; 'content --charset' names another one",
     ),
     (
         "BinaryContent",
         "the content has a NUL or a line of more than 998 bytes; encode it as qp or base64",
     ),
-    ("NoSuchMessage", "the mailbox has fewer messages"),
+    ("NoSuchMessage", "the mailbox has fewer messages than that"),
     ("JournalSyntax", "this file isn't a journal"),
     (
         "JournalOther",
-        "the journal belongs to another message, or to this one as it was before it was changed without it",
+        "the journal belongs to another message, or this message was changed without it",
     ),
     (
         "JournalMismatch",
@@ -72,7 +75,7 @@ const REASONS: [(&str, &str); 25] = [
     ),
     (
         "exists",
-        "files have this name and its numbers; '-f' replaces them",
+        "this name is taken, and so are those with .1 to .99 after it; '-f' overwrites the file",
     ),
 ];
 
@@ -80,15 +83,15 @@ const REASONS: [(&str, &str); 25] = [
 const PACK_REASONS: [(&str, &str); 4] = [
     (
         "BadField",
-        "this isn't exactly one field, or it is one that pack makes, or more than fields stands on standard input",
+        "this isn't exactly one field, or it is one that pack makes, or standard input has more than fields",
     ),
     (
         "BadType",
-        "this media type can't be attached; '--forward' takes a message, and '--charset' says a charset",
+        "this media type can't be attached; '--forward' adds a message, and '--charset' names the charset of texts",
     ),
     (
         "BadName",
-        "this name of a file can't be written; '--utf8' writes names that aren't ASCII",
+        "this file name can't be written; '--utf8' writes names that aren't ASCII",
     ),
     ("BadCharset", "this isn't a token, such as utf-8"),
 ];

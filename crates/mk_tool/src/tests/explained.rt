@@ -8,32 +8,32 @@ const ROWS: &str = r"
 words: edit|--explain|-e|del 1 X 1|-e|wrap 1 mixed b
 message: A: b\n\n--b\n
 output: A: b\n\n--b\n
-errors: line 1: the section has no such field of this name\nline 1: NoSuchField\nline 2: a line would be read as a delimiter of a multipart; write another line, or take another boundary\nline 2: HoldsBoundary 1\n
+errors: line 1: the section has no field of this name and number\nline 1: NoSuchField\nline 2: a line would be read as a delimiter of a multipart; change that line, or use another boundary\nline 2: HoldsBoundary 1\n
 status: Refused
 
 == letters that are refused
 words: field|--explain|-A|X: y
 message: A: b
 output: A: b
-errors: message 1: a line without an ending would stand before another line; put the field at the top, or end that line first\nmessage 1: OpenLine\n
+errors: message 1: a line without a line ending would come before another line; put the field at the top, or end that line first\nmessage 1: OpenLine\n
 status: Refused
 
 == a section that isn't there
 words: extract|--explain|-s|2
 message: A: b\n\nx\n
-errors: 2: there is no section at this path; the listing has the paths\n2: NoSuchSection\n
+errors: 2: there is no section at this path; 'sections' lists the paths\n2: NoSuchSection\n
 status: Refused
 
 == several that aren't there
 words: unpack|--explain|-s|2|-s|3
 message: A: b\n\nx\n
-errors: 2: there is no section at this path; the listing has the paths\n2: NoSuchSection\n3: there is no section at this path; the listing has the paths\n3: NoSuchSection\n
+errors: 2: there is no section at this path; 'sections' lists the paths\n2: NoSuchSection\n3: there is no section at this path; 'sections' lists the paths\n3: NoSuchSection\n
 status: Refused
 
 == a message that isn't there
 words: sections|--explain|-n|2
 message: A: b\n\nx\n
-errors: message 2: the mailbox has fewer messages\nmessage 2: NoSuchMessage\n
+errors: message 2: the mailbox has fewer messages than that\nmessage 2: NoSuchMessage\n
 status: Refused
 
 == a line that is no word of scripts

@@ -212,19 +212,19 @@ words: field|-u|A:|-u|B
 
 == an address that isn't ASCII, in encoded words
 words: field|--encode|-I|From: ä@b
-begins: error: invalid value 'From: ä@b' for '-I <FIELD>': in such a field --encode writes names, comments and parameters
+begins: error: invalid value 'From: ä@b' for '-I <FIELD>': in such a field --encode only encodes names, comments and parameters
 
 == a type that isn't ASCII
 words: field|--encode|-A|Content-Type: text/ä
-begins: error: invalid value 'Content-Type: text/ä' for '-A <FIELD>': in such a field --encode writes names, comments and parameters
+begins: error: invalid value 'Content-Type: text/ä' for '-A <FIELD>': in such a field --encode only encodes names, comments and parameters
 
 == bytes after a quoted string
 words: field|--encode|-I|Content-Disposition: attachment; filename=\x22ä\x22 b
-begins: error: invalid value 'Content-Disposition: attachment; filename=\x22ä\x22 b' for '-I <FIELD>': in such a field --encode writes names, comments and parameters
+begins: error: invalid value 'Content-Disposition: attachment; filename=\x22ä\x22 b' for '-I <FIELD>': in such a field --encode only encodes names, comments and parameters
 
 == a name alone
 words: field|--encode|-A|A: ä|-A|Resent-To: Jörg
-begins: error: invalid value 'Resent-To: Jörg' for '-A <FIELD>': in such a field --encode writes names, comments and parameters
+begins: error: invalid value 'Resent-To: Jörg' for '-A <FIELD>': in such a field --encode only encodes names, comments and parameters
 
 == a letter that there isn't
 words: field|-r

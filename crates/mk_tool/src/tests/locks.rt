@@ -198,7 +198,7 @@ fn a_file_cant_be_its_own_journal(rt: HostRuntime) -> Result<(), Fail> {
     for wait in ["--wait=0", "--wait"] {
         let words = ["undo", wait, "-j", link, "--in-place", file];
         let errors =
-            b"mimetool: mimetool_own_journal_test/link: the file of --in-place can't be its journal\nmimetool: read fault\n";
+            b"mimetool: mimetool_own_journal_test/link: the file of --in-place can't also be its journal\nmimetool: read fault\n";
         same(&rt, &obeyed(&rt, &words, b"")?, b"", errors, Status::Fault);
     }
     assert_eq!(rt; fs::read_to_string(&rt, file)?.as_str(), MESSAGE);

@@ -154,7 +154,7 @@ words: sections|--unquote
 words: extract|--unquote|-s|1
 words: unpack|--unquote
 words: edit|--unquote|-e|undo
-begins: error: --unquote goes only with -n: it takes off what a mailbox puts before lines\n\nUsage: mimetool\x20
+begins: error: --unquote goes only with -n: it removes the > that a mailbox puts before lines\n\nUsage: mimetool\x20
 
 == --rfc4155 without -s
 words: field|--rfc4155

@@ -18,7 +18,7 @@ fn pieces_without_an_empty_line_are_told(rt: HostRuntime) -> Result<(), Fail> {
     fs::write(&rt, fields, "Note: two\n")?;
     fs::write(&rt, part, "A: 1\n\ntwo\n")?;
     let told =
-        b"script: line 1: piece 1 has no empty line, so its lines are read as fields; append-text takes them as a text\n";
+        b"script: line 1: piece 1 has no empty line, so its lines are read as fields; append-text takes them as text\n";
     let found = obeyed(&rt, &["edit", "-e", "append 1 1", fields], MULTIPART)?;
     let output =
         b"Content-Type: multipart/mixed; boundary=b\n\n--b\n\none\n--b\nNote: two\n--b--\n";

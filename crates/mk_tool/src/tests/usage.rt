@@ -8,111 +8,111 @@ use std::test::Fail;
 const VALUES: &str = r"
 == -s <PATH> doesn't take ''
 words: extract|-s|
-begins: error: invalid value '' for '-s <PATH>': write numbers from 1 on with dots between them, as 1.2\n\nUsage: mimetool extract\x20
+begins: error: invalid value '' for '-s <PATH>': write numbers from 1 with dots between them, such as 1.2\n\nUsage: mimetool extract\x20
 
 == -s <PATH> doesn't take '1.01'
 words: extract|-s|1.01
-begins: error: invalid value '1.01' for '-s <PATH>': write numbers from 1 on with dots between them, as 1.2\n\nUsage: mimetool extract\x20
+begins: error: invalid value '1.01' for '-s <PATH>': write numbers from 1 with dots between them, such as 1.2\n\nUsage: mimetool extract\x20
 
 == -s <PATH> doesn't take '0'
 words: extract|-s|0
-begins: error: invalid value '0' for '-s <PATH>': write numbers from 1 on with dots between them, as 1.2\n\nUsage: mimetool extract\x20
+begins: error: invalid value '0' for '-s <PATH>': write numbers from 1 with dots between them, such as 1.2\n\nUsage: mimetool extract\x20
 
 == -s <PATH> doesn't take '1.'
 words: extract|-s|1.
-begins: error: invalid value '1.' for '-s <PATH>': write numbers from 1 on with dots between them, as 1.2\n\nUsage: mimetool extract\x20
+begins: error: invalid value '1.' for '-s <PATH>': write numbers from 1 with dots between them, such as 1.2\n\nUsage: mimetool extract\x20
 
 == -s <PATH> doesn't take '-1'
 words: extract|-s|-1
-begins: error: invalid value '-1' for '-s <PATH>': write numbers from 1 on with dots between them, as 1.2\n\nUsage: mimetool extract\x20
+begins: error: invalid value '-1' for '-s <PATH>': write numbers from 1 with dots between them, such as 1.2\n\nUsage: mimetool extract\x20
 
 == -s <PATH> doesn't take '1.4294967296'
 words: extract|-s|1.4294967296
-begins: error: invalid value '1.4294967296' for '-s <PATH>': write numbers from 1 on with dots between them, as 1.2\n\nUsage: mimetool extract\x20
+begins: error: invalid value '1.4294967296' for '-s <PATH>': write numbers from 1 with dots between them, such as 1.2\n\nUsage: mimetool extract\x20
 
 == -s <PATH> of unpack doesn't take '0'
 words: unpack|-s|1|-s|0|-s|x
-begins: error: invalid value '0' for '-s <PATH>': write numbers from 1 on with dots between them, as 1.2\n\nUsage: mimetool unpack\x20
+begins: error: invalid value '0' for '-s <PATH>': write numbers from 1 with dots between them, such as 1.2\n\nUsage: mimetool unpack\x20
 
 == -p <PATH> doesn't take '1.0'
 words: field|-p|1.0|-x|A:
-begins: error: invalid value '1.0' for '-p <PATH>': write numbers from 1 on with dots between them, as 1.2\n\nUsage: mimetool field\x20
+begins: error: invalid value '1.0' for '-p <PATH>': write numbers from 1 with dots between them, such as 1.2\n\nUsage: mimetool field\x20
 
 == -p <PATH> doesn't take '-1'
 words: field|-p|-1|-A|A: 9
-begins: error: invalid value '-1' for '-p <PATH>': write numbers from 1 on with dots between them, as 1.2\n\nUsage: mimetool field\x20
+begins: error: invalid value '-1' for '-p <PATH>': write numbers from 1 with dots between them, such as 1.2\n\nUsage: mimetool field\x20
 
 == <SPEC>... doesn't take 'text'
 words: pack|-b|b|text
-begins: error: invalid value 'text' for '<SPEC>...': write TYPE:FILE, as image/gif:dot.gif\n\nUsage: mimetool pack\x20
+begins: error: invalid value 'text' for '<SPEC>...': write TYPE:FILE, such as image/gif:dot.gif\n\nUsage: mimetool pack\x20
 
 == <SPEC>... doesn't take 'n'
 words: pack|-b|b|text/plain:n|n
-begins: error: invalid value 'n' for '<SPEC>...': write TYPE:FILE, as image/gif:dot.gif\n\nUsage: mimetool pack\x20
+begins: error: invalid value 'n' for '<SPEC>...': write TYPE:FILE, such as image/gif:dot.gif\n\nUsage: mimetool pack\x20
 
 == --part <SPEC> doesn't take 'text'
 words: pack|--part|text
-begins: error: invalid value 'text' for '--part <SPEC>': write TYPE:FILE, as image/gif:dot.gif\n\nUsage: mimetool pack\x20
+begins: error: invalid value 'text' for '--part <SPEC>': write TYPE:FILE, such as image/gif:dot.gif\n\nUsage: mimetool pack\x20
 
 == -u <NAME:> doesn't take 'A'
 words: field|-u|A
-begins: error: invalid value 'A' for '-u <NAME:>': write a name and a colon, as Subject:\n\nUsage: mimetool field\x20
+begins: error: invalid value 'A' for '-u <NAME:>': write a name and a colon, such as Subject:\n\nUsage: mimetool field\x20
 
 == -u <NAME:> doesn't take 'A: b'
 words: field|-u|A: b
-begins: error: invalid value 'A: b' for '-u <NAME:>': write a name and a colon, as Subject:\n\nUsage: mimetool field\x20
+begins: error: invalid value 'A: b' for '-u <NAME:>': write a name and a colon, such as Subject:\n\nUsage: mimetool field\x20
 
 == -U <NAME:> doesn't take 'A'
 words: field|-U|A
-begins: error: invalid value 'A' for '-U <NAME:>': write a name and a colon, as Subject:\n\nUsage: mimetool field\x20
+begins: error: invalid value 'A' for '-U <NAME:>': write a name and a colon, such as Subject:\n\nUsage: mimetool field\x20
 
 == -x <NAME:> doesn't take 'A'
 words: field|-x|A
-begins: error: invalid value 'A' for '-x <NAME:>': write a name and a colon, as Subject:\n\nUsage: mimetool field\x20
+begins: error: invalid value 'A' for '-x <NAME:>': write a name and a colon, such as Subject:\n\nUsage: mimetool field\x20
 
 == -X <NAME:> doesn't take 'A'
 words: field|-X|A
-begins: error: invalid value 'A' for '-X <NAME:>': write a name and a colon, as Subject:\n\nUsage: mimetool field\x20
+begins: error: invalid value 'A' for '-X <NAME:>': write a name and a colon, such as Subject:\n\nUsage: mimetool field\x20
 
 == -X <NAME:> doesn't take ':'
 words: field|-X|:
-begins: error: invalid value ':' for '-X <NAME:>': write a name and a colon, as Subject:\n\nUsage: mimetool field\x20
+begins: error: invalid value ':' for '-X <NAME:>': write a name and a colon, such as Subject:\n\nUsage: mimetool field\x20
 
 == --rename <OLD:NEW> doesn't take 'AB'
 words: field|--rename|AB
-begins: error: invalid value 'AB' for '--rename <OLD:NEW>': write two names with a colon between them, as Subject:X-Subject\n\nUsage: mimetool field\x20
+begins: error: invalid value 'AB' for '--rename <OLD:NEW>': write two names with a colon between them, such as Subject:X-Subject\n\nUsage: mimetool field\x20
 
 == --rename <OLD:NEW> doesn't take 'A:B C'
 words: field|--rename|A:B C
-begins: error: invalid value 'A:B C' for '--rename <OLD:NEW>': write two names with a colon between them, as Subject:X-Subject\n\nUsage: mimetool field\x20
+begins: error: invalid value 'A:B C' for '--rename <OLD:NEW>': write two names with a colon between them, such as Subject:X-Subject\n\nUsage: mimetool field\x20
 
 == -a <FIELD> doesn't take 'x'
 words: field|-a|x
-begins: error: invalid value 'x' for '-a <FIELD>': write a name, a colon and a value, as 'X-Seen: yes'\n\nUsage: mimetool field\x20
+begins: error: invalid value 'x' for '-a <FIELD>': write a name, a colon and a value, such as 'X-Seen: yes'\n\nUsage: mimetool field\x20
 
 == -a <FIELD> doesn't take 'A:'
 words: field|-a|A:
-begins: error: invalid value 'A:' for '-a <FIELD>': write a name, a colon and a value, as 'X-Seen: yes'\n\nUsage: mimetool field\x20
+begins: error: invalid value 'A:' for '-a <FIELD>': write a name, a colon and a value, such as 'X-Seen: yes'\n\nUsage: mimetool field\x20
 
 == -A <FIELD> doesn't take 'A:'
 words: field|-A|A:
-begins: error: invalid value 'A:' for '-A <FIELD>': write a name, a colon and a value, as 'X-Seen: yes'\n\nUsage: mimetool field\x20
+begins: error: invalid value 'A:' for '-A <FIELD>': write a name, a colon and a value, such as 'X-Seen: yes'\n\nUsage: mimetool field\x20
 
 == -i <FIELD> doesn't take 'x'
 words: field|-i|x
-begins: error: invalid value 'x' for '-i <FIELD>': write a name, a colon and a value, as 'X-Seen: yes', or a name and a colon alone, as X-Seen:\n\nUsage: mimetool field\x20
+begins: error: invalid value 'x' for '-i <FIELD>': write a name, a colon and a value, such as 'X-Seen: yes', or a name and a colon alone, such as X-Seen:\n\nUsage: mimetool field\x20
 
 == -I <FIELD> doesn't take ''
 words: field|-I|
-begins: error: invalid value '' for '-I <FIELD>': write a name, a colon and a value, as 'X-Seen: yes', or a name and a colon alone, as X-Seen:\n\nUsage: mimetool field\x20
+begins: error: invalid value '' for '-I <FIELD>': write a name, a colon and a value, such as 'X-Seen: yes', or a name and a colon alone, such as X-Seen:\n\nUsage: mimetool field\x20
 
 == -I <FIELD> doesn't take 'x y'
 words: field|-A|A: 1|-I|x y
-begins: error: invalid value 'x y' for '-I <FIELD>': write a name, a colon and a value, as 'X-Seen: yes', or a name and a colon alone, as X-Seen:\n\nUsage: mimetool field\x20
+begins: error: invalid value 'x y' for '-I <FIELD>': write a name, a colon and a value, such as 'X-Seen: yes', or a name and a colon alone, such as X-Seen:\n\nUsage: mimetool field\x20
 
 == -I <FIELD> doesn't take 'x'
 words: field|-x|A:|-I|x
-begins: error: invalid value 'x' for '-I <FIELD>': write a name, a colon and a value, as 'X-Seen: yes', or a name and a colon alone, as X-Seen:\n\nUsage: mimetool field\x20
+begins: error: invalid value 'x' for '-I <FIELD>': write a name, a colon and a value, such as 'X-Seen: yes', or a name and a colon alone, such as X-Seen:\n\nUsage: mimetool field\x20
 ";
 
 #[test]
@@ -124,11 +124,11 @@ fn invalid_values_are_named(rt: HostRuntime) -> Result<(), Fail> {
 const SENTENCES: &str = r"
 == -x and -X
 words: field|-x|A:|-X|A:
-begins: error: -x and -X print fields, so neither stands beside another letter\n
+begins: error: -x and -X print fields, so neither goes with another letter\n
 
 == -x and a letter that edits
 words: field|-x|A:|-I|A: 9
-begins: error: -x and -X print fields, so neither stands beside another letter\n
+begins: error: -x and -X print fields, so neither goes with another letter\n
 
 == --decode without -x
 words: field|--decode|-X|A:
@@ -189,7 +189,7 @@ begins: error: the following required arguments were not provided:\n  -s <PATH>\
 
 == no script
 words: edit
-begins: error: give a SCRIPT, or its lines, each after -e\n
+begins: error: give a SCRIPT, or its lines, each with -e\n
 
 == no journal
 words: undo
@@ -301,15 +301,15 @@ fn words_are_looked_at_before_files(rt: HostRuntime) -> Result<(), Fail> {
 const LINES: [(&[&str], &[u8]); 3] = [
     (
         &["edit", "-e", "add 1 A: b\nundo"],
-        b"error: invalid value \"add 1 A: b\\nundo\" for '-e <LINE>': write one line, and -e again before each further one\n",
+        b"error: invalid value \"add 1 A: b\\nundo\" for '-e <LINE>': write one line, and use -e again for each further line\n",
     ),
     (
         &["edit", "-e", "undo", "-e", "undo\n"],
-        b"error: invalid value \"undo\\n\" for '-e <LINE>': write one line, and -e again before each further one\n",
+        b"error: invalid value \"undo\\n\" for '-e <LINE>': write one line, and use -e again for each further line\n",
     ),
     (
         &["edit", "-e", "\n", "--from", "mimetool_none"],
-        b"error: invalid value \"\\n\" for '-e <LINE>': write one line, and -e again before each further one\n",
+        b"error: invalid value \"\\n\" for '-e <LINE>': write one line, and use -e again for each further line\n",
     ),
 ];
 
@@ -358,7 +358,7 @@ begins: error: unexpected argument 'A: 1' found\n\n  tip: to add a field, write 
 == seconds without an equals sign
 words: field|--wait|5
 words: undo|-j|j|--wait|5
-begins: error: unexpected argument '5' found\n\n  tip: to wait so many seconds, write '--wait=5'\n
+begins: error: unexpected argument '5' found\n\n  tip: to wait that many seconds, write '--wait=5'\n
 
 == -R
 words: field|-R|A|B
@@ -367,11 +367,11 @@ begins: error: unexpected argument '-R' found\n\n  tip: to rename fields, write 
 == -c
 words: field|-c|-x|A:
 words: field|-x|A:|-c
-begins: error: unexpected argument '-c' found\n\n  tip: to print each value on one line, write '--unfold' beside -x\n
+begins: error: unexpected argument '-c' found\n\n  tip: to print each value on one line, write '--unfold' with -x\n
 
 == -z
 words: field|-z
-begins: error: unexpected argument '-z' found\n\n  tip: '--unfold' beside -x prints values without the blanks at both ends; nothing removes empty fields\n
+begins: error: unexpected argument '-z' found\n\n  tip: '--unfold' with -x prints values without the blanks at both ends; no option removes empty fields\n
 
 == -k
 words: field|-k|-X|A:
@@ -380,11 +380,11 @@ begins: error: unexpected argument '-k' found\n\n  tip: the body is always kept;
 == -r
 words: field|-r
 words: field|-rk
-begins: error: unexpected argument '-r' found\n\n  tip: no replies are written, so there is nothing to write\n
+begins: error: unexpected argument '-r' found\n\n  tip: mimetool writes no replies, so no option replaces it\n
 
 == -D
 words: field|-D|8192|cache
-begins: error: unexpected argument '-D' found\n\n  tip: no Message-IDs are kept between runs, so there is nothing to write\n
+begins: error: unexpected argument '-D' found\n\n  tip: no Message-IDs are kept between runs, so no option replaces it\n
 ";
 
 #[test]
