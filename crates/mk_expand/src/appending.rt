@@ -55,7 +55,7 @@ fn append_to(
     Ok(edits)
 }
 
-// Puts an ending after the last of so many parts, where no line follows it.
+// Puts a line ending after the last of so many parts, if no line follows it.
 fn divide_last(
     alloc: Global,
     section: &Section<'_>,
@@ -74,7 +74,7 @@ fn divide_last(
     Ok(edits)
 }
 
-// Puts an ending after a part.
+// Puts a line ending after a part.
 fn division(
     alloc: Global,
     raw: &[u8],
@@ -91,7 +91,7 @@ fn division(
     Ok(Edit::SetSection { path, text })
 }
 
-/// A made part as it goes after the others of the multipart at a path: with an ending, where a line is to follow it.
+/// A made part as it goes after the others of the multipart at a path: with a line ending, if a line is to follow it.
 pub(crate) fn part_to_append(
     doc: &Doc,
     path: &[u32],
@@ -142,7 +142,7 @@ fn is_last_followed(section: &Section<'_>) -> bool
     }
 }
 
-// A part more, and nothing else.
+// One more part, and nothing else.
 fn inserted(
     alloc: Global,
     path: Vec<u32>,

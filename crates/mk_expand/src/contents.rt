@@ -25,10 +25,10 @@ use std::alloc::{AllocError, Global};
 
 const CARRIAGE_RETURN: u8 = b'\r';
 
-/// The most bytes of a line that stands unencoded, without its ending (RFC 2045, 2.8).
+/// The most bytes of a line that isn't encoded, without its ending (RFC 2045, 2.8).
 const LONGEST_LINE: usize = 998;
 
-/// The bytes of a piece that are to be the content of the section at a path. Where that is base64, they stay as they are.
+/// The bytes of a piece that are to be the content of the section at a path. If that is base64, they stay as they are.
 pub(crate) fn content_bytes(
     alloc: Global,
     doc: &Doc,
@@ -134,7 +134,7 @@ pub(crate) fn body_with(text: Vec<u8>, eol: Ending, followed: bool) -> Result<Ve
     Ok(body)
 }
 
-/// Puts an ending between a text and the line that is to follow it.
+/// Puts a line ending between a text and the line that is to follow it.
 pub(crate) fn divide(text: &mut Vec<u8>, eol: Ending) -> Result<(), AllocError>
     ensures { OnOk result (text.new.items ≡ divided eol text.old.items) }
 {
@@ -156,7 +156,7 @@ fn ends_in_return(text: &[u8]) -> bool
     }
 }
 
-/// Whether bytes may stand unencoded: no byte is NUL, and no line is too long.
+/// Whether bytes may go without an encoding: no byte is NUL, and no line is too long.
 pub(crate) fn is_eight_bit(bytes: &[u8]) -> bool
     ensures { result ≡ are_eight_bit bytes.now }
 {

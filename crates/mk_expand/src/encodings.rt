@@ -23,7 +23,7 @@ use std::alloc::{AllocError, Global};
 
 const FIELD: &[u8] = b"Content-Transfer-Encoding: ";
 
-/// Puts the content of the leaf at a path in another transfer encoding, and says so in its fields.
+/// Writes the content of the leaf at a path in another transfer encoding, and says so in its fields.
 pub(crate) fn set_encoding(
     alloc: Global,
     doc: &Doc,

@@ -9,10 +9,10 @@ use thiserror::Error;
 /// Why a word of a script stands for no edits.
 #[derive(Clone, Copy, Debug, PartialEq, Eq, Error)]
 pub enum WordError {
-    /// The transfer encoding of the leaf is one that nothing can be written in (RFC 2045, 6).
+    /// Nothing can be written in the transfer encoding of the leaf (RFC 2045, 6).
     #[error("the transfer encoding is unknown")]
     UnknownEncoding,
-    /// The content of the leaf is said to be base64, and its letters are no encoding of any bytes.
+    /// The content of the leaf is said to be base64, but its letters don't encode any bytes.
     #[error("the content is no base64")]
     BadBase64,
     /// The media type can't be attached.
@@ -21,10 +21,10 @@ pub enum WordError {
     /// The name can't be written.
     #[error("the name can't be written")]
     BadName,
-    /// The charset can't be named, or the bytes are no text in it (RFC 2046, 4.1.2).
+    /// The charset can't be named, or the bytes aren't text in it (RFC 2046, 4.1.2).
     #[error("the content is no text in its charset")]
     BadCharset,
-    /// The content can't stand unencoded: it holds a NUL, or a line of more than 998 bytes (RFC 2045, 2.8).
+    /// The content has to be encoded: it holds a NUL, or a line of more than 998 bytes (RFC 2045, 2.8).
     #[error("the content can't stand unencoded")]
     BinaryContent,
     /// Memory ran out.

@@ -14,7 +14,7 @@ use mk_head::{each_field, one_field};
 use mk_tree::Doc;
 use std::alloc::{AllocError, Global};
 
-/// Takes out all fields of a name of the section at a path.
+/// Removes all fields of a name from the section at a path.
 pub(crate) fn drop_all(
     alloc: Global,
     doc: &Doc,
@@ -33,7 +33,7 @@ pub(crate) fn drop_all(
     }
 }
 
-// Takes out the fields of a name that stand in a head.
+// Removes the fields of a name from a head.
 fn removals(alloc: Global, head: &[u8], path: &[u32], name: &[u8]) -> Result<Vec<Edit>, AllocError>
     ensures { IfOk result (λ edits. plain_edits edits.items ≡ map (λ f. RemoveField path.now name.now 1) (filter (is_named name.now) (fields_in head.now))) }
 {
@@ -46,7 +46,7 @@ fn removals(alloc: Global, head: &[u8], path: &[u32], name: &[u8]) -> Result<Vec
     Ok(edits)
 }
 
-/// Puts a field into the place of those of its name in the section at a path, or adds it where there is none.
+/// Puts a field in the place of those of its name in the section at a path, or adds it if there is none.
 pub(crate) fn put(
     alloc: Global,
     doc: &Doc,
@@ -65,7 +65,7 @@ pub(crate) fn put(
     }
 }
 
-// Puts a field into the place of the first of a name that stands in a head; the others go.
+// Puts a field in the place of the first of a name in a head; the others go.
 fn put_over_named(
     alloc: Global,
     head: &[u8],
@@ -102,7 +102,7 @@ fn name_in(text: &[u8]) -> &[u8]
     }
 }
 
-// A field more, and nothing else.
+// One more field, and nothing else.
 fn added(alloc: Global, path: &[u32], text: &[u8]) -> Result<Vec<Edit>, AllocError>
     ensures { IfOk result (λ edits. plain_edits edits.items ≡ AddField path.now false text.now ∷ []) }
 {

@@ -2,17 +2,17 @@
 
 ghost use Rattle.mk_expand.specs.ExpandLaws.{AppendsKeepContents, ContentsAreGivenBack, EncodingsKeepContents};
 
-/// What `content` gives a leaf is what is extracted of it afterwards.
+/// What `content` gives a leaf is what is extracted from it afterwards.
 pub fn contents_are_given_back()
     ensures { ContentsAreGivenBack }
 {}
 
-/// What is extracted of a leaf stays when `encode` puts it in another transfer encoding.
+/// What is extracted from a leaf stays the same when `encode` puts it in another transfer encoding.
 pub fn encodings_keep_contents()
     ensures { EncodingsKeepContents }
 {}
 
-/// What is extracted of each leaf stays when `append` puts a part after the others of a multipart.
+/// What is extracted from each leaf stays the same when `append` puts a part after the others of a multipart.
 pub fn appends_keep_contents()
     ensures { AppendsKeepContents }
 {}

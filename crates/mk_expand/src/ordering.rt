@@ -1,4 +1,4 @@
-//! Parts in the order in which they are taken out.
+//! Parts in the order in which they are removed.
 
 ghost use Rattle.std.specs.Prelude.{◌≡◌, map, IfOk};
 ghost use Rattle.mk_script.specs.ScriptViews.{paths_in};
@@ -10,7 +10,7 @@ use mk_decide::Edit;
 use std::alloc::{AllocError, Global};
 use std::cmp::Ordering;
 
-/// Takes out the parts at these paths, as they are before any of them goes: the later ones go first.
+/// Removes the parts at these paths, which are those before any of them goes: the later ones go first.
 pub(crate) fn removals(alloc: Global, paths: Vec<Vec<u32>>) -> Result<Vec<Edit>, AllocError>
     ensures { IfOk result (λ edits. plain_edits edits.items ≡ map (λ path. RemovePart path) (later_first (paths_in paths.items))) }
 {
@@ -32,7 +32,7 @@ fn latest_first(alloc: Global, paths: Vec<Vec<u32>>) -> Result<Vec<Vec<u32>>, Al
     Ok(list)
 }
 
-// Puts a path among others of which the later come first; one that is there already is dropped.
+// Puts a path among others, the later ones first; one that is there already is dropped.
 fn place(alloc: Global, list: Vec<Vec<u32>>, path: Vec<u32>) -> Result<Vec<Vec<u32>>, AllocError>
     ensures { IfOk result (λ placed. paths_in placed.items ≡ placed_among path.items (paths_in list.items)) }
 {

@@ -9,7 +9,7 @@ use std::alloc::{AllocError, Global};
 pub struct Pieces<'a> {
     /// Their texts. Pieces count from 1.
     pub texts: &'a [Vec<u8>],
-    /// Whether their lines end as those of the message do. What goes out as base64 stays as it is.
+    /// Whether their lines end as those of the message do. What is encoded as base64 stays as it is.
     pub turned: bool,
 }
 

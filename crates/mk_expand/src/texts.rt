@@ -40,7 +40,7 @@ const QUOTE: u8 = b'"';
 
 const BACKSLASH: u8 = b'\\';
 
-/// Whether a leaf of a type may hold these bytes: a text only where they may be in its charset.
+/// Whether a leaf of a type may hold these bytes: a text only if they may be in its charset.
 pub(crate) fn may_hold(media: &ContentType, bytes: &[u8]) -> bool
     ensures { result ≡ may_hold_so (media_type_of media.now) bytes.now }
 {
@@ -53,7 +53,7 @@ fn is_text(media: &ContentType) -> bool
     media.main.as_slice() == TEXT
 }
 
-// Whether bytes may be a text of a subtype that names this charset, or none.
+// Whether bytes may be a text of a subtype that names this charset, or no charset.
 fn may_be_text(sub: &[u8], charset: Option<&[u8]>, bytes: &[u8]) -> bool
     ensures { result ≡ may_be_text_so sub.now (option_map (λ c. c.now) charset.entry) bytes.now }
 {
@@ -156,7 +156,7 @@ fn charset_field(
     Ok(field)
 }
 
-// Writes the parameters of a type but its charset.
+// Writes the parameters of a type except its charset.
 fn push_parameters(text: &mut Vec<u8>, media: &ContentType) -> Result<(), AllocError>
     ensures { OnOk result (text.new.items ≡ text.old.items ++ flat_map parameter_text (media_type_of media.now).params) }
 {
@@ -190,7 +190,7 @@ fn push_value(text: &mut Vec<u8>, value: &[u8]) -> Result<(), AllocError>
     text.extend_from_slice(b"\"")
 }
 
-// Writes what stands between the quotes of a quoted string.
+// Writes what is between the quotes of a quoted string.
 fn push_quoted(text: &mut Vec<u8>, value: &[u8]) -> Result<(), AllocError>
     ensures { OnOk result (text.new.items ≡ text.old.items ++ flat_map quoted_byte value.now) }
 {
@@ -233,7 +233,7 @@ pub(crate) fn attach_text(
     }
 }
 
-// The charset that a text is said to be in: none where it is ASCII, or else utf-8.
+// The charset that a text is said to be in: `None` if it is ASCII, or else utf-8.
 fn charset_of(text: &[u8]) -> Result<Option<&'static [u8]>, WordError>
     ensures charset { IfOk result (λ charset. said_charset text.now ≡ Ok (option_map (λ c. c.now) charset)) }
     ensures fault { IfErr result (λ error. IsFault error (said_charset text.now)) }

@@ -54,7 +54,7 @@ pub fn is_plain(word: &Word) -> bool
 }
 
 /// The edits that a word stands for in a document, in the order in which they are made. Lines that are made, and fields, end
-/// with `eol`. A path that leads nowhere is no fault: the edit that is refused for it stands for the word.
+/// with `eol`. A path that leads nowhere isn't a fault: the edit that is refused for it stands for the word.
 pub fn edits_for(
     alloc: Global,
     word: Word,
@@ -221,7 +221,7 @@ fn attach_to(
     }
 }
 
-// A field with an ending.
+// A field with a line ending.
 fn ended(field: Vec<u8>, eol: Ending) -> Result<Vec<u8>, AllocError>
     ensures { IfOk result (λ text. text.items ≡ field_text eol field.items) }
 {
@@ -230,7 +230,7 @@ fn ended(field: Vec<u8>, eol: Ending) -> Result<Vec<u8>, AllocError>
     Ok(text)
 }
 
-// A field that is a piece, with an ending where its last line has none.
+// The field in a piece, with a line ending if its last line has none.
 fn closed(field: Vec<u8>, eol: Ending) -> Result<Vec<u8>, AllocError>
     ensures { IfOk result (λ text. text.items ≡ closed_field eol field.items) }
 {

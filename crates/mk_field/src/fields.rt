@@ -25,7 +25,7 @@ use mk_tree::Doc;
 use std::alloc::{AllocError, Global};
 
 /// Prints what a filter gives or leaves of a message, one of a mailbox or by itself. Where an edit is refused, it is printed as
-/// it came, and reported by its number from 1 on. Answers whether it was reported.
+/// it came, and reported by its number from 1. Answers whether it was reported.
 pub fn filter_message<O: Sink, E: Sink>(
     alloc: Global,
     filter: &FieldFilter<'_>,
@@ -141,7 +141,7 @@ fn is_root(path: &[u32]) -> bool
     }
 }
 
-// Prints what is given of a document, and reports it where it has no section at a path.
+// Prints what is given of a document, and reports it if it has no section at a path.
 fn give_fields<O: Sink, E: Sink>(
     alloc: Global,
     path: &[u32],
@@ -210,8 +210,8 @@ fn edit_message<O: Sink, E: Sink>(
     }
 }
 
-// Makes the edits of a filter in a message that was just read. Answers the reason where they are refused; the message stands as
-// it came then.
+// Makes the edits of a filter in a message that was just read. Answers the reason if they are refused; the message is then as
+// it came.
 fn edit_section(
     alloc: Global,
     filter: &FieldFilter<'_>,
@@ -256,7 +256,7 @@ fn edit_in_rounds(
     fit(place, session)
 }
 
-// Takes all steps of a session back where its text doesn't fit a place. Answers the reason then.
+// Undoes all steps of a session if its text doesn't fit a place. Answers the reason then.
 fn fit(place: Option<Place>, session: &mut Session) -> Result<Option<EditError>, AllocError>
     ensures fitted { IfOk result (λ refusal. IsFitted place refusal session.old session.new) }
     ensures named { IfOk result (λ refusal. IfSome refusal (λ error. is_memory error ≡ false)) }
@@ -273,7 +273,7 @@ fn fit(place: Option<Place>, session: &mut Session) -> Result<Option<EditError>,
     }
 }
 
-// Takes all steps of a session back.
+// Undoes all steps of a session.
 fn take_back(session: &mut Session) -> Result<(), AllocError>
     ensures { OnOk result (text_now session.new ≡ first_text session.old) }
 {
@@ -286,7 +286,7 @@ fn take_back(session: &mut Session) -> Result<(), AllocError>
     Ok(())
 }
 
-// Makes the edits of letters in a message, as one step. Answers the reason where one is refused; nothing changed then.
+// Makes the edits of letters in a message, as one step. Answers the reason if one is refused; nothing is changed then.
 fn edit(
     alloc: Global,
     path: &[u32],

@@ -16,7 +16,7 @@ use mk_mailbox::MOST_READS;
 use mk_transfer::{Cause, Status, finish, give_up, read_all, reading, writing};
 use std::alloc::Global;
 
-/// The number of the message where all of the input is one.
+/// The number of the message if all of the input is one.
 const ONLY: u64 = 1;
 
 /// Filters the fields of the message that the input gives by letters, or gives its fields of a name; with `each` those of
@@ -190,7 +190,7 @@ fn filter_each<S: Source, O: Sink, E: Sink>(
     Err(Cause::Read)
 }
 
-// Whether so many reads were made that no more are.
+// Whether so many reads were made that there are no more.
 fn are_too_many(before: u64, now: u64) -> bool
     ensures { result ≡ nat_le 2147483647 (now - before) }
 {

@@ -112,7 +112,7 @@ const ROOT: &[u32] = &[1];
 /// What a run that filters fields is asked for.
 #[derive(Clone, Copy, Debug)]
 pub struct FieldFilter<'a> {
-    /// The rounds, each of which works on what the one before it left. Letters that ask for fields are of the only one.
+    /// The rounds, each of which works on what the one before it left. Letters that ask for fields must be in the only round.
     pub rounds: &'a [Round<'a>],
     /// How `-x` prints values.
     pub form: ValueForm,

@@ -8,10 +8,10 @@ use mk_script::turned;
 use mk_wording::worded_field;
 use std::alloc::{AllocError, Global};
 
-/// How the fields of letters go into a message; as they are given, where nothing is asked for.
+/// How the fields of letters go into a message; as they are given, if nothing is asked for.
 #[derive(Clone, Copy, Debug, Default, PartialEq, Eq)]
 pub struct FieldForm {
-    /// With their values in encoded words, where they need them (RFC 2047).
+    /// With their values in encoded words, if they need them (RFC 2047).
     pub encoded: bool,
     /// With lines that end as those of the message do.
     pub turned: bool,
@@ -35,7 +35,7 @@ pub(crate) fn in_form(
     }
 }
 
-// A field in encoded words, where they are asked for.
+// A field in encoded words, if they are asked for.
 fn encoded_if(
     alloc: Global,
     field: &[u8],

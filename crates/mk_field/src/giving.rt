@@ -1,4 +1,4 @@
-//! What a filter gives of a document that asks for the fields of a name.
+//! What a filter that asks for the fields of a name gives of a document.
 
 ghost use Rattle.std.specs.Prelude.{◌≡◌, map, IfOk};
 ghost use Rattle.mk_mail.specs.LetterViews.{bytes_in, letters_of};
@@ -15,7 +15,7 @@ use std::alloc::{AllocError, Global};
 
 const COLON: u8 = b':';
 
-/// What a filter gives of a document that asks for fields of a name. `None` where it doesn't.
+/// What a filter that asks for fields of a name gives of a document. `None` if it doesn't ask for any.
 pub(crate) fn given(
     alloc: Global,
     filter: &FieldFilter<'_>,
@@ -35,7 +35,7 @@ pub(crate) fn given(
     }
 }
 
-// What letters at a path give of a document that ask for fields of a name.
+// What letters that ask for fields of a name give of a document at a path.
 fn given_by_letters(
     alloc: Global,
     letters: &Letters,

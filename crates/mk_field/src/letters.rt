@@ -18,10 +18,10 @@ use std::alloc::{AllocError, Global};
 
 const COLON: u8 = b':';
 
-/// What stands at the end of a name that is a front.
+/// The mark at the end of a name that means all names that begin with it.
 const ASTERISK: u8 = b'*';
 
-/// The words that stand after the letters of `field`, each where its letter was given.
+/// The words after the letters of `field`, each if its letter was given.
 #[derive(Debug, Drop)]
 pub struct LetterWords<'a> {
     /// `--prepend NAME:TEXT`
@@ -55,7 +55,7 @@ impl LetterWords<'_> {
     ghost use Rattle.mk_field.specs.Asked.{asked, have_colons as words_have_colons, words_of};
     ghost use Rattle.mk_field.specs.RoundsAsked.{letters_if};
 
-    /// What the words ask for. `None` where a name stands without its colon.
+    /// What the words ask for. `None` if a name has no colon after it.
     pub fn letters(&self, alloc: Global) -> Result<Option<Letters>, AllocError>
         ensures { IfOk result (λ letters. option_map letters_of letters ≡ asked (words_of self.now)) }
     {
@@ -77,8 +77,8 @@ impl LetterWords<'_> {
         }))
     }
 
-    /// What the words ask for with the fields in a form, for messages whose lines end with `eol`. `None` where a name stands
-    /// without its colon.
+    /// What the words ask for with the fields in a form, for messages whose lines end with `eol`. `None` if a name has
+    /// no colon after it.
     pub fn letters_in(
         &self,
         alloc: Global,
@@ -98,7 +98,7 @@ impl LetterWords<'_> {
         Ok(Some(letters))
     }
 
-    // Whether each word that is a name has its colon, and so those of `--rename` and `--prepend` after a name.
+    // Whether each word that is a name ends with a colon, and those of `--rename` and `--prepend` have one after a name.
     fn have_colons(&self) -> bool
         ensures { result ≡ words_have_colons (words_of self.now) }
     {
@@ -131,7 +131,7 @@ fn is_named(word: &str) -> bool
     before_colon(word.as_bytes()).is_some()
 }
 
-// Whether a word is a name and a colon, where there is one.
+// Whether a word is a name and a colon, if there is a word.
 fn may_name(word: Option<&str>) -> bool
     ensures { result ≡ passes is_name_word (option_map (λ s. s.now) word.entry) }
 {
@@ -141,7 +141,7 @@ fn may_name(word: Option<&str>) -> bool
     }
 }
 
-// Whether a word has a colon, where there is one.
+// Whether a word has a colon, if there is a word.
 fn may_part(word: Option<&str>) -> bool
     ensures { result ≡ passes is_pair_word (option_map (λ s. s.now) word.entry) }
 {
@@ -187,7 +187,7 @@ fn field_in(
     }
 }
 
-// The name that stands before the colon of a word.
+// The name before the colon of a word.
 fn name(alloc: Global, word: Option<&str>) -> Result<Option<Vec<u8>>, AllocError>
     ensures { IfOk result (λ name. bytes_in name ≡ option_and_then name_in_word (option_map (λ s. s.now) word.entry)) }
 {

@@ -1,4 +1,4 @@
-//! Values of fields as they are printed, with their encoded words decoded or as they stand (RFC 2047).
+//! Values of fields as they are printed, with their encoded words decoded or as they are (RFC 2047).
 
 ghost use Rattle.std.specs.Prelude.{◌≡◌, ◌++◌, IfOk, OnOk, map};
 ghost use Rattle.mk_field.specs.Wording.{line_byte as byte_of_line, one_line as text_on_one_line, printed_value};

@@ -67,7 +67,7 @@ pub fn rounds_of_words<'a>(
     Ok(rounds)
 }
 
-/// What the words of rounds ask for, with the fields that they add in a form. `None` where a name stands without its colon.
+/// What the words of rounds ask for, with the fields that they add in a form. `None` if a name has no colon after it.
 pub fn letters_of_rounds(
     alloc: Global,
     rounds: &[LetterWords<'_>],
@@ -110,7 +110,7 @@ impl<'a> LetterWords<'a> {
         }
     }
 
-    // Whether a letter is there that may be there once.
+    // Whether a letter that may be there only once is there already.
     fn has(&self, letter: Letter) -> bool
         ensures { result ≡ is_given letter (words_of self.now) }
     {
@@ -149,7 +149,7 @@ impl<'a> LetterWords<'a> {
         Ok(())
     }
 
-    // The round that the words ask for. `None` where a name stands without its colon.
+    // The round that the words ask for. `None` if a name has no colon after it.
     fn round(&self, alloc: Global, form: FieldForm) -> Result<Option<RoundLetters>, AllocError>
         ensures { IfOk result (λ round. option_map round_letters round ≡ round_if form (words_of self.now)) }
     {

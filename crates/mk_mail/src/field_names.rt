@@ -13,7 +13,7 @@ const FIRST_OF_NAME: u8 = b'!';
 
 const LAST_OF_NAME: u8 = b'~';
 
-/// Whether only blanks stand after the first colon.
+/// Whether only blanks follow the first colon.
 pub(crate) fn is_bare(field: &[u8]) -> bool
     ensures { result ≡ bare field.now }
 {
@@ -34,7 +34,7 @@ fn are_blank(bytes: &[u8]) -> bool
     true
 }
 
-// Whether a byte may stand in a name (RFC 5322, 2.2).
+// Whether a byte may be in a name (RFC 5322, 2.2).
 fn is_name_byte(byte: u8) -> bool
     ensures { result ≡ name_byte byte }
 {
@@ -48,7 +48,7 @@ pub(crate) fn name_of(field: &[u8]) -> &[u8]
     &field[..name_size(field)]
 }
 
-// How many bytes of a name stand at the start.
+// How many bytes of a name are at the start.
 fn name_size(field: &[u8]) -> usize
     ensures size { result ≡ prefix_len name_byte field.now }
     ensures within { result ≤ length field.now }

@@ -28,7 +28,7 @@ pub(crate) struct Filter<'a> {
 }
 
 impl<'a> Filter<'a> {
-    /// The fields as they stand in the section at a path, none where there is no such section.
+    /// The fields as they are in the section at a path; none if there is no such section.
     pub(crate) fn new(alloc: Global, doc: &'a Doc, path: &[u32]) -> Result<Filter<'a>, AllocError>
         ensures { IfOk result (λ f. work_of f ≡ untouched (names_at path.now doc.now)) }
     {
@@ -54,7 +54,7 @@ impl<'a> Filter<'a> {
         Ok(())
     }
 
-    /// Gives the fields of a name another.
+    /// Gives the fields of a name another name.
     pub(crate) fn rename(
         &mut self,
         path: &[u32],
@@ -72,7 +72,7 @@ impl<'a> Filter<'a> {
         Ok(())
     }
 
-    /// Adds a field, unless one of its name is there.
+    /// Adds a field, unless there is one of its name.
     pub(crate) fn add_if(
         &mut self,
         path: &[u32],
@@ -131,7 +131,7 @@ impl<'a> Filter<'a> {
         self.add_full(path, field, eol)
     }
 
-    /// Removes the fields of a name but for the first.
+    /// Removes the fields of a name except the first.
     pub(crate) fn keep_first(&mut self, path: &[u32], name: &[u8]) -> Result<(), AllocError>
         ensures { OnOk result (work_of self.new ≡ then_do (work_of self.old) (first_letter path.now name.now)) }
     {
@@ -140,7 +140,7 @@ impl<'a> Filter<'a> {
         Ok(())
     }
 
-    /// All edits, at last those that remove the fields of a name but for the last.
+    /// All edits, at the end those that remove the fields of a name except the last.
     pub(crate) fn into_edits(
         mut self,
         path: &[u32],
@@ -200,7 +200,7 @@ fn remove_dropped<'a>(
     Ok(list)
 }
 
-// Gives the fields of a name another, which isn't the same.
+// Gives the fields of a name another name, which isn't the same.
 fn rename_all<'a>(
     path: &[u32],
     names: Vec<CowSlice<'a, u8>>,
@@ -304,7 +304,7 @@ fn remove_all<'a>(
     Ok(list)
 }
 
-// Removes the fields of a name but for one, each by the number `k`.
+// Removes the fields of a name except one, each by the number `k`.
 fn remove_later<'a>(
     path: &[u32],
     names: Vec<CowSlice<'a, u8>>,
@@ -351,7 +351,7 @@ fn renaming(alloc: Global, path: &[u32], name: &[u8], k: u32, to: &[u8]) -> Resu
     })
 }
 
-// A field more at the end, with an ending.
+// One more field at the end, with a line ending.
 fn addition(alloc: Global, path: &[u32], field: &[u8], eol: Ending) -> Result<Edit, AllocError>
     ensures { IfOk result (λ edit. edit_of edit ≡ AddField path.now false (field.now ++ ending_bytes eol)) }
 {

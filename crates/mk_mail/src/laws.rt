@@ -17,13 +17,13 @@ pub fn built_messages_give_back()
     ensures { BuiltMessagesGiveBack }
 {}
 
-/// So it is of a message that is built as a multipart of any subtype, a digest too, whose texts name no charset.
+/// The same holds for a message that is built as a multipart of any subtype, a digest too, whose texts name no charset.
 pub fn built_multiparts_give_back()
     ensures { BuiltMultipartsGiveBack }
 {}
 
-/// So it is of a message that is built with forwarded messages, too: each of these is a section of its own after the parts, and
-/// its content is the message without a From-line at its start, byte for byte.
+/// The same holds for a message that is built with forwarded messages: each of these is a section of its own after the parts,
+/// and its content is the message without a From-line at its start, byte for byte.
 pub fn forwarded_messages_give_back()
     ensures { ForwardedMessagesGiveBack }
 {}
@@ -38,14 +38,14 @@ pub fn letters_change_fields_alone()
     ensures { LettersChangeFieldsAlone }
 {}
 
-/// A field with a text put before what it says has all its bytes, in their order: those of the text stand after its colon and
+/// A field with a text put before what it says has all its bytes, in their order: those of the text come after its colon and
 /// white space.
 pub fn prepended_fields_keep_their_bytes()
     ensures { PrependedFieldsKeepTheirBytes }
 {}
 
 /// The messages of a mailbox, each filtered by letters, are a mailbox of these messages: none is cut in two and no two
-/// become one. A message of which no byte is left is none. With dates asked for, empty lines before the first From-line
+/// become one. A message of which no byte is left doesn't count. With dates asked for, empty lines before the first From-line
 /// are left as they are. Where a field must follow a From-line, letters alone don't promise it: `sections_stay_apart` does.
 pub fn filtered_stay_apart()
     ensures { FilteredStayApart }
@@ -56,7 +56,7 @@ pub fn one_round_filters()
     ensures { OneRoundFilters }
 {}
 
-/// Rounds behind others make of a text what they make of the text that the others made, as runs in a pipe do; and where one of
+/// Rounds after others make of a text what they make of the text that the others made, as runs in a pipe do; and if one of
 /// the others is refused, nothing is made.
 pub fn rounds_are_piped()
     ensures { RoundsArePiped }

@@ -21,8 +21,8 @@ use std::alloc::{AllocError, Global};
 /// The path of the root.
 const ROOT: [u32; 1] = [1];
 
-/// What a filter of fields is asked for, each letter at most once but `--drop`. A name stands without its colon, a field without the
-/// ending of its last line. They work in this order, each on the fields that those before it left.
+/// What a filter of fields is asked for, each letter at most once except `--drop`. A name has no colon after it, and the
+/// last line of a field no ending. They work in this order, each on the fields that those before it left.
 #[derive(Debug, Drop)]
 pub struct Letters {
     /// `--prepend`: puts a text before what the first hundred fields of a name say.
@@ -31,7 +31,7 @@ pub struct Letters {
     pub drops: Vec<NamePattern>,
     /// `--rename`: gives each field of the first name the second.
     pub rename: Option<(Vec<u8>, Vec<u8>)>,
-    /// `-a`: adds a field, unless one of its name is there.
+    /// `-a`: adds a field, unless there is one of its name.
     pub add_if: Option<Vec<u8>>,
     /// `-A`: adds a field.
     pub add: Option<Vec<u8>>,
@@ -57,7 +57,7 @@ impl Letters {
         self.have_values() && self.stand_together()
     }
 
-    // Whether each value may be had.
+    // Whether each value is valid.
     fn have_values(&self) -> bool
         ensures { result ≡ values_are_had (letters_of self.now) }
     {
@@ -74,7 +74,7 @@ impl Letters {
             && is_given_name(&self.whole)
     }
 
-    // Whether no letter that gives fields stands beside another.
+    // Whether no letter that gives fields is there with another.
     fn stand_together(&self) -> bool
         ensures { result ≡ stand_so (letters_of self.now) }
     {
@@ -89,7 +89,7 @@ impl Letters {
         self.prepend.is_some() || self.edits_by_names()
     }
 
-    // Whether a letter is there that works by the names of fields.
+    // Whether there is a letter that works by the names of fields.
     fn edits_by_names(&self) -> bool
         ensures { result ≡ by_names (letters_of self.now) }
     {
@@ -112,7 +112,7 @@ pub fn field_edits(alloc: Global, doc: &Doc, letters: &Letters) -> Result<Vec<Ed
     field_edits_at(alloc, doc, &ROOT, letters)
 }
 
-/// The same at the section of a path. Where there is no such section, letters find no field there; an edit that adds one is
+/// The same at the section of a path. If there is no such section, letters find no field there; an edit that adds one is
 /// refused.
 pub fn field_edits_at(
     alloc: Global,
@@ -156,7 +156,7 @@ fn letter_edits(
     filter.into_edits(path, &letters.last)
 }
 
-// The work of `--rename`, where it is asked for; and so for each letter.
+// The work of `--rename`, if it is asked for; the same for each letter below.
 fn rename<'a>(
     filter: &mut Filter<'a>,
     path: &[u32],

@@ -1,4 +1,4 @@
-//! Names of fields by their fronts.
+//! Names of fields by how they begin.
 
 ghost use Rattle.std.specs.Prelude.{◌≡◌, map};
 ghost use Rattle.std.specs.List.{list_all};
@@ -7,12 +7,12 @@ ghost use Rattle.mk_mail.specs.Letters.{is_dropped as is_dropped_name, is_meant,
 
 use mk_line::is_name;
 
-/// Names of fields: one, or all that begin so. ASCII case doesn't count.
+/// Names of fields: one, or all that begin with a text. ASCII case doesn't count.
 #[derive(Debug, Drop)]
 pub struct NamePattern {
     /// The name, or what names begin with.
     pub text: Vec<u8>,
-    /// Whether it means all names that begin so.
+    /// Whether it means all names that begin with the text.
     pub is_front: bool,
 }
 

@@ -18,7 +18,7 @@ use mk_line::{Ending, is_blank, is_name, leading_blanks, split_at_first, trimmed
 use mk_tree::Doc;
 use std::alloc::{AllocError, Global};
 
-/// How many fields of a name get a text. Each edit looks for its field from the first on, so very many would take long.
+/// How many fields of a name get a text. Each edit looks for its field from the first, so very many would take long.
 const MOST_PREPENDED: u32 = 100;
 
 const COLON: u8 = b':';
@@ -48,7 +48,7 @@ impl Prepend {
     ghost use Rattle.mk_mail.specs.LetterViews.{prepend_of};
     ghost use Rattle.mk_mail.specs.Prepended.{is_prepend};
 
-    // Whether its name is one, and its text one line that isn't empty.
+    // Whether its name is valid, and its text is one line that isn't empty.
     pub(crate) fn ok(&self) -> bool
         ensures { result ≡ is_prepend (prepend_of self.now) }
     {
@@ -190,7 +190,7 @@ fn begins_word(value: &[u8]) -> bool
     matches!(value, [EQUALS, QUESTION_MARK, ..])
 }
 
-// The text as it stands before an encoded word.
+// The text as it is put before an encoded word.
 fn before_word(alloc: Global, text: &[u8], eol: Ending) -> Result<Vec<u8>, AllocError>
     requires { eol ≢ Ending.Missing }
     ensures { IfOk result (λ made. made.items ≡ made_before_word eol text.now) }
@@ -205,7 +205,7 @@ fn before_word(alloc: Global, text: &[u8], eol: Ending) -> Result<Vec<u8>, Alloc
     Ok(made)
 }
 
-// The text as it stands before any other value.
+// The text as it is put before any other value.
 fn before_text(alloc: Global, text: &[u8], eol: Ending) -> Result<Vec<u8>, AllocError>
     requires { eol ≢ Ending.Missing }
     ensures { IfOk result (λ made. made.items ≡ made_before_text eol text.now) }
@@ -220,7 +220,7 @@ fn before_text(alloc: Global, text: &[u8], eol: Ending) -> Result<Vec<u8>, Alloc
     }
 }
 
-// The blanks at the end of a text, or a space where it ends with none.
+// The blanks at the end of a text, or a space if it has none there.
 fn gap_after(text: &[u8]) -> &[u8]
     ensures { result.now ≡ gap_of text.now }
 {

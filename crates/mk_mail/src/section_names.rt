@@ -13,7 +13,7 @@ use mk_tree::Doc;
 use std::alloc::{AllocError, Global};
 use std::borrow::CowSlice;
 
-/// The names of the fields of the section at a path, none where there is no such section.
+/// The names of the fields of the section at a path; none if there is no such section.
 pub(crate) fn names_of<'a>(
     alloc: Global,
     doc: &'a Doc,
@@ -24,7 +24,7 @@ pub(crate) fn names_of<'a>(
     names_in(alloc, head_at(doc, path))
 }
 
-/// The bytes of the fields of the section at a path, none where there is no such section.
+/// The bytes of the fields of the section at a path; none if there is no such section.
 pub fn head_at<'a>(doc: &'a Doc, path: &[u32]) -> &'a [u8]
     ensures { fields_of (fields_from false (cut result.now)) ≡ fields_at path.now doc.now }
 {

@@ -11,7 +11,7 @@ use memchr::memmem;
 /// What an encoded word begins with.
 const MARK: &[u8; 2] = b"=?";
 
-/// The value as text, where it needs encoded words: it is UTF-8, and isn't printable ASCII or holds `=?`.
+/// The value as text, if it needs encoded words: it is UTF-8, and isn't printable ASCII or holds `=?`.
 pub fn text_for_words(value: &[u8]) -> Option<&str>
     ensures { MatchOption result (needs_words value.now ≡ false) (λ text. (needs_words value.now ≡ true) × (text.now ≡ value.now)) }
 {

@@ -6,7 +6,7 @@ use mk_mailbox::{Fault, Source};
 /// A device that gives the bytes of a text, and never fails.
 #[derive(Debug, Drop)]
 pub struct InMemory<'a> {
-    /// The bytes that were not read yet.
+    /// The bytes that aren't read yet.
     pub rest: &'a [u8],
     reads: u64,
 }

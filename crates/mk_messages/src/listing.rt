@@ -13,9 +13,9 @@ use mk_tree::Doc;
 use mk_view::list;
 use std::alloc::{AllocError, Global};
 
-/// Lists the messages of the mailbox that the input gives, a line each: its number from 1, where it begins and where it ends
+/// Lists the messages of the mailbox that the input gives, one per line: its number from 1, where it begins and where it ends
 /// in bytes from 0, and how many sections it has. Each line goes out before the next message is read. Then the output is
-/// finished. It leaves it to the caller to say why the run is given up.
+/// finished. The caller is left to say why the run is given up.
 pub fn try_messages<S: Source, O: Sink>(
     alloc: Global,
     input: &mut S,

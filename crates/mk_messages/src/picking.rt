@@ -11,7 +11,7 @@ use mk_mailbox::{FromLines, MailFault, Mailbox, Sink, Source};
 use mk_transfer::{Stop, send};
 use std::alloc::Global;
 
-/// The message of a number, from 1, of the mailbox that the input gives; none where it has fewer. The messages before it are
+/// The message of a number, from 1, of the mailbox that the input gives; `None` if it has fewer. The messages before it are
 /// read one at a time and dropped, and of what follows it nothing is read but the rest of a chunk.
 pub fn pick<S: Source>(
     alloc: Global,

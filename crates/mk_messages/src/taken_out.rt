@@ -14,7 +14,7 @@ const MARK: u8 = b'>';
 
 const FROM: &[u8] = b"From ";
 
-/// Takes the empty line off that ends a message in a mailbox. A text that doesn't begin with a From-line stays as it is.
+/// Removes the empty line that ends a message in a mailbox. A text that doesn't begin with a From-line stays as it is.
 pub fn without_separator(message: Vec<u8>) -> Vec<u8>
     ensures { result.items ≡ text_alone message.items }
 {
@@ -50,7 +50,7 @@ fn separator_length(text: &[u8]) -> usize
     length
 }
 
-/// Takes one mark off each line that a mailbox has marked: `>From `, and any with more marks before it.
+/// Removes one mark from each line that a mailbox has marked: `>From `, and any with more marks before it.
 pub fn unmarked(alloc: Global, message: &[u8]) -> Result<Vec<u8>, AllocError>
     ensures { IfOk result (λ text. text.items ≡ unmarked_text message.now) }
 {

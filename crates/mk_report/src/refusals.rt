@@ -51,7 +51,7 @@ fn refusal_line(
     Ok(line)
 }
 
-/// Reports a message for which an edit at the root is refused, by its number from 1 on.
+/// Reports a message for which an edit at the root is refused, by its number from 1.
 pub fn report_message<E: Sink>(
     alloc: Global,
     err: &mut E,

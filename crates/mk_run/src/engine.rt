@@ -25,7 +25,7 @@ use mk_script::{ScriptError, Step};
 use mk_transfer::{Cause, Status, Stop, finish, give_up, read_all, reading, send, writing};
 use std::alloc::{AllocError, Global};
 
-/// Edits the message that the input gives by the steps of a script, and prints what becomes of it.
+/// Edits the message that the input gives by the steps of a script, and prints the result.
 /// Each refusal is reported as it comes, and doesn't end the run; a refused journal does.
 /// The journal is written once the whole message has gone out. Then the output is finished, and after it the journal.
 pub fn run_edit<S: Source, O: Sink, E: Sink, J: Sink>(
@@ -45,7 +45,7 @@ pub fn run_edit<S: Source, O: Sink, E: Sink, J: Sink>(
         (held (S.remaining input.new) (O.contents out.new) (E.contents err.new))
         (J.contents jout.old) (J.contents jout.new) (J.finished jout.new) }
 
-    // A fault is answered only where a device failed, or where so much was read that reading was given up.
+    // A fault is answered only if a device failed, or if so much was read that reading was given up.
     ensures blamed { result ≡ Status.Fault →
         let before = counts (S.failures input.old) (S.read_count input.old) (O.failures out.old) (E.failures err.old) in
         let after = counts (S.failures input.new) (S.read_count input.new) (O.failures out.new) (E.failures err.new) in
@@ -57,7 +57,7 @@ pub fn run_edit<S: Source, O: Sink, E: Sink, J: Sink>(
         (counts (S.failures input.new) (S.read_count input.new) (O.failures out.new) (E.failures err.new)) }
     ensures kept { ends_itself result ≡ true → J.failures jout.new ≡ J.failures jout.old }
 
-    // The output is finished where the message goes out, and else it isn't, unless finishing the journal fails after it.
+    // The output is finished if the message goes out. Otherwise it isn't, unless finishing the journal fails after it.
     ensures prints { Prints result (journaling_of journal.entry)
         (held (S.remaining input.old) (O.contents out.old) (E.contents err.old))
         (held (S.remaining input.new) (O.contents out.new) (E.contents err.new)) (O.finished out.old) (O.finished out.new) }
@@ -164,7 +164,7 @@ fn run_steps<S: Source, O: Sink, E: Sink, J: Sink>(
     }
 }
 
-// Does the steps on a session, and writes what becomes of it. The journal is made before the first byte goes out.
+// Does the steps on a session, and writes the result. The journal is made before the first byte goes out.
 fn run_session<O: Sink, E: Sink, J: Sink>(
     alloc: Global,
     mut session: Session,

@@ -44,7 +44,7 @@ fn start(alloc: Global, message: Vec<u8>) -> Result<Session, LoadError>
     }
 }
 
-/// Whether an error says that there is no memory.
+/// Whether an error says that memory ran out.
 pub fn is_memory(error: LoadError) -> bool
     ensures { result ≡ says_memory error }
 {
@@ -56,7 +56,7 @@ pub fn is_memory(error: LoadError) -> bool
     }
 }
 
-/// The journal that a run leaves, where it keeps one.
+/// The journal that a run leaves, if it keeps one.
 pub fn journal_of(session: &Session, journal: Journal<'_>) -> Result<Option<Vec<u8>>, AllocError>
     ensures { IfOk result (λ kept. bytes_kept kept ≡ left_journal (journaling_of journal.entry) session.now) }
 {

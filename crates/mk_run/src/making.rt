@@ -72,7 +72,7 @@ pub(crate) fn make_word(
     }
 }
 
-/// Makes words one after another, all or none.
+/// Makes words one after another, all of them or none.
 pub(crate) fn make_words(
     alloc: Global,
     session: &mut Session,
@@ -175,7 +175,7 @@ fn make_in_turn(
     }
 }
 
-// Puts edits after others.
+// Adds edits after others.
 fn append(all: &mut Vec<Edit>, edits: Vec<Edit>) -> Result<(), AllocError>
     ensures { OnOk result (map edit_of all.new.items ≡ map edit_of all.old.items ++ map edit_of edits.items) }
 {
@@ -225,7 +225,7 @@ fn make_on(
     }
 }
 
-// Makes edits as one step. A refusal comes with the number of the edit, from 0 on.
+// Makes edits as one step. A refusal comes with the number of the edit, from 0.
 fn make_edits(session: &mut Session, edits: &[Edit]) -> Result<(), (usize, EditError)>
     ensures { MakesEdits result (map edit_of edits.now) session.old session.new }
 {
@@ -252,7 +252,7 @@ fn number_at(numbers: &[usize], index: usize) -> usize
     }
 }
 
-// The path of an edit of a number, from 0 on.
+// The path of an edit of a number, from 0.
 fn path_at(edits: &[Edit], index: usize) -> &[u32]
     ensures { result.now ≡ path_in (map edit_of edits.now) index }
 {

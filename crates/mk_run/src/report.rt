@@ -74,7 +74,7 @@ fn sentence(fault: LineFault) -> &'static str
     }
 }
 
-/// Reports why a step isn't done; running out of memory isn't reported, but answered.
+/// Reports why a step isn't done; running out of memory is answered, not reported.
 pub(crate) fn report_step<E: Sink>(alloc: Global, err: &mut E, error: StepError) -> Result<(), Stop>
     ensures sends { IfSome (refusal_in error) (λ reason. Sends result (refusal_line reason)
         (E.contents err.old) (E.contents err.new) (E.failures err.old) (E.failures err.new)) }

@@ -42,7 +42,7 @@ pub fn do_steps<E: Sink>(
     Ok(refused)
 }
 
-// Does one step and reports it where it is refused. Answers whether it was.
+// Does one step and reports it if it is refused. Answers whether it was.
 fn do_step<E: Sink>(
     alloc: Global,
     session: &mut Session,

@@ -26,8 +26,8 @@ const UNDERSCORE: u8 = b'_';
 /// What a forwarded message is measured as.
 const RFC822: &[u8; 14] = b"message/rfc822";
 
-/// The boundary of a message of these fields, parts and forwarded messages, where none is given: the first that begins no line
-/// of a message. In truth that is the first of all, whose digest no message can know.
+/// The boundary of a message of these fields, parts and forwarded messages, if none is given: the first that begins no line
+/// of a message. In practice that is the very first, since no message can know its digest.
 pub(crate) fn free_boundary(
     alloc: Global,
     fields: &[Vec<u8>],
@@ -76,7 +76,7 @@ fn numbered(alloc: Global, first: &[u8], number: u64) -> Result<Vec<u8>, AllocEr
     Ok(boundary)
 }
 
-// Whether a boundary may stand around all messages.
+// Whether a boundary begins no line of any message.
 fn are_clear(boundary: &[u8], messages: &[Forward]) -> bool
     ensures { result ≡ are_all_clear boundary.now (map forwarded_of messages.now) }
 {
@@ -146,7 +146,7 @@ fn push_message(all: &mut Vec<u8>, forward: &Forward) -> Result<(), AllocError>
     push_measured(all, forward.message())
 }
 
-// The name of a part; nothing where it has none.
+// The name of a part; empty if it has none.
 fn name(part: &Attach) -> &[u8]
     ensures { result.now ≡ unwrap_or (attached_of part.now).name [] }
 {

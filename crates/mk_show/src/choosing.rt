@@ -87,7 +87,7 @@ fn lines_for(alloc: Global, doc: &Doc, paths: &[Vec<u32>]) -> Result<Vec<u8>, Al
     Ok(lines)
 }
 
-// Puts the line for a path after others, if it leads to no section.
+// Adds the line for a path after others, if it leads to no section.
 fn push_missing(
     alloc: Global,
     lines: &mut Vec<u8>,

@@ -9,13 +9,13 @@ use mk_mailbox::Fault;
 
 /// A device that keeps files by their names. It counts its failures; the count stays at the greatest `u64` once it is there.
 pub trait Folder {
-    /// The files that stand in it, where the device tells them: those of a real folder are not known.
+    /// The files in it, if the device tells them: those of a real folder aren't known.
     ghost files: { Self → Option FilesOf };
 
     ghost failures: { Self → ℕ };
 
-    /// Puts a text under a name, which leads to nothing outside the folder, and answers true. Where a file has the name and
-    /// `over` is false it writes nothing and answers false.
+    /// Puts a text under a name, which leads to nothing outside the folder, and answers true. If a file has the name and
+    /// `over` is false, it writes nothing and answers false.
     fn put(&mut self, name: &[u8], text: &[u8], over: bool) -> Result<bool, Fault>
         requires { is_safe name.now ≡ true }
         ensures files { Puts result over (files self.old) (files self.new) name.now text.now }

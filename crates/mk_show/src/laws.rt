@@ -4,7 +4,7 @@ ghost use Rattle.mk_show.specs.FreeBoundary.{FreeBoundariesAreBoundaries, FreeBo
 ghost use Rattle.mk_show.specs.OwnBoundary.{OwnBoundariesAreBoundaries};
 ghost use Rattle.mk_show.specs.Packing.{BodiesAreRefused};
 
-/// A text with a body is never packed: its first field that can't stand at the start is named, or else their number.
+/// A text with a body is never packed: its first field that can't be at the start is named, or else their number.
 pub fn bodies_are_refused()
     ensures { BodiesAreRefused }
 {}

@@ -28,11 +28,11 @@ use std::alloc::{AllocError, Global};
 #[derive(Clone, Copy, Debug)]
 pub struct PackOptions<'a> {
     pub form: NameForm,
-    /// The subtype of the multipart, as `mixed`.
+    /// The subtype of the multipart, such as `mixed`.
     pub subtype: &'a [u8],
     /// The charset that texts name.
     pub charset: Option<&'a [u8]>,
-    /// The boundary between the parts. Where there is none, one is made of what is packed.
+    /// The boundary between the parts. If there is none, one is made from what is packed.
     pub boundary: Option<&'a [u8]>,
     /// Whether the lines of texts end as those of the fields do.
     pub turned: bool,
@@ -195,7 +195,7 @@ fn message(
     }
 }
 
-/// Copies parts, with the lines of texts ended so.
+/// Copies parts, with these line endings in texts.
 pub fn turned_parts(alloc: Global, parts: &[Attach], eol: Ending) -> Result<Vec<Attach>, AllocError>
     ensures { IfOk result (λ turned. map attached_of turned.items ≡ map (turned_so eol) (map attached_of parts.now)) }
 {
@@ -206,7 +206,7 @@ pub fn turned_parts(alloc: Global, parts: &[Attach], eol: Ending) -> Result<Vec<
     Ok(all)
 }
 
-// A part whose lines, where it is a text, end so.
+// A part, with these line endings if it is a text.
 fn turned_part(alloc: Global, part: &Attach, eol: Ending) -> Result<Attach, AllocError>
     ensures { IfOk result (λ turned. attached_of turned ≡ turned_so eol (attached_of part.now)) }
 {
@@ -306,8 +306,8 @@ fn build_in(
     }
 }
 
-// The fields at the start of a text. Where more than a separator stands after them, an empty one is put after them too, which
-// is no field.
+// The fields at the start of a text. If more than a separator follows them, an empty one is put after them too, which
+// isn't a field.
 fn fields(alloc: Global, text: &[u8]) -> Result<Vec<Vec<u8>>, AllocError>
     ensures { IfOk result (λ fields. map (λ f. f.items) fields.items ≡ fields_given (lines_of text.now)) }
 {
@@ -328,7 +328,7 @@ fn fields_in_front(alloc: Global, text: &[u8]) -> Result<Vec<Vec<u8>>, AllocErro
     Ok(fields)
 }
 
-// Whether more than a separator stands after the fields.
+// Whether more than a separator follows the fields.
 fn has_body(alloc: Global, text: &[u8]) -> Result<bool, AllocError>
     ensures { IfOk result (λ has. has ≡ has_a_body (lines_of text.now)) }
 {

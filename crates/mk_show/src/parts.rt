@@ -56,7 +56,7 @@ impl<'a> Spec<'a> {
         })
     }
 
-    /// The same, to be shown where it is a text: a text has no name then.
+    /// The same, to be shown if it is a text: a text has no name then.
     pub fn inline(&self, alloc: Global, text: Vec<u8>) -> Result<Attach, AllocError>
         ensures { IfOk result (λ part. attached_of part ≡ inlined_file (spec_view self.now) text.items) }
     {

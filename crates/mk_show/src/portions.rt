@@ -19,11 +19,11 @@ use std::alloc::{AllocError, Global};
 pub enum Portion {
     /// Its content, decoded where it is a leaf.
     Content,
-    /// Its content as it stands.
+    /// Its content as it is.
     Raw,
-    /// Its fields as they stand, without the separator.
+    /// Its fields as they are, without the separator.
     Head,
-    /// Its content; where that is base64 that isn't whole, what decodes of it, and the reason too.
+    /// Its content; if that is base64 that isn't whole, what can be decoded of it, and the reason too.
     Prefix,
 }
 
@@ -56,7 +56,7 @@ fn as_it_stands(alloc: Global, path: &[u32], bytes: Option<&[u8]>) -> Result<Ans
     }
 }
 
-// The content of the section at a path, and what decodes of it where that is base64 that isn't whole.
+// The content of the section at a path, or what can be decoded of it if that is base64 that isn't whole.
 fn prefix(alloc: Global, doc: &Doc, path: &[u32]) -> Result<Answer, AllocError>
     ensures { IfOk result (λ a. IsPrefix path.now (section_at path.now (tree doc.now)) (run_of_answer a)) }
 {

@@ -19,7 +19,7 @@ use mk_transfer::{Cause, Status, Stop, give_up, reading, send, writing};
 use mk_view::{ExtractError, Leaf, NameForm, content_in, numbered};
 use std::alloc::{AllocError, Global};
 
-/// How many names are tried for a leaf: its own, and that with the numbers from 1 on after it.
+/// How many names are tried for a leaf: its own, and that with the numbers from 1 after it.
 const MOST_TRIES: u64 = 100;
 
 /// What is said of the files that are put.
@@ -36,7 +36,7 @@ pub enum Report {
 /// How files are put.
 #[derive(Clone, Copy, Debug)]
 pub struct Manner {
-    /// Files that have a name are written over.
+    /// Files that have a name already are overwritten.
     pub over: bool,
     pub report: Report,
 }
@@ -49,7 +49,7 @@ pub struct UnpackOptions<'a> {
     pub form: NameForm,
     /// Texts without a name are stored too.
     pub texts: bool,
-    /// The paths of the sections whose leaves alone are stored, with those below them; `None` is all leaves. Their names are
+    /// Only the leaves at and below the sections at these paths are stored; `None` means all leaves. Their names are
     /// those that they get among all leaves.
     pub sections: Option<&'a [Vec<u32>]>,
 }
@@ -168,7 +168,7 @@ pub fn try_unpack_in<S: Source, O: Sink, E: Sink, F: Folder>(
     try_unpack_with(alloc, input, out, err, dir, options)
 }
 
-/// Does the same, as the options say. Each path that leads to no section is reported first, in the order given.
+/// Does the same, as the options say. Paths that lead to no section are reported first, in the order given.
 pub fn try_unpack_with<S: Source, O: Sink, E: Sink, F: Folder>(
     alloc: Global,
     input: &mut S,
@@ -322,7 +322,7 @@ fn unpack_leaf<O: Sink, E: Sink, F: Folder>(
     }
 }
 
-// Puts a text under the first of the names that is free, or under the name itself where files may be written over. Answers
+// Puts a text under the first of the names that is free, or under the name itself if files may be overwritten. Answers
 // the name that was taken.
 fn put_free<F: Folder>(
     alloc: Global,

@@ -69,7 +69,7 @@ impl<R: Read + Drop> Source for Input<R> {
 pub trait MaybePipe: Sink {
     ghost broken: { Self → Bool };
 
-    /// Whether a write failed since nobody reads the pipe any more.
+    /// Whether a write failed because nobody reads the pipe any more.
     fn is_broken_pipe(&self) -> bool
         ensures { result ≡ broken self.now };
 }

@@ -30,8 +30,8 @@ enum State {
     Ended,
 }
 
-/// The file that a message comes from, as the sink of what becomes of it. It is replaced as a whole: until all is written
-/// and stands on the disk, it is as it was. Where it would get the bytes that it has, nothing is done to it.
+/// The file that a message comes from, as the sink of the result. It is replaced as a whole: until all is written and is
+/// on the disk, it is as it was. If it would get the bytes that it has, nothing is done to it.
 #[derive(Drop)]
 pub struct EditedFile<'a, R: Files<File = File> + AllocGlobal> {
     rt: &'a R,
@@ -48,7 +48,7 @@ pub struct EditedFile<'a, R: Files<File = File> + AllocGlobal> {
 impl<'a, R: Files<File = File> + Clock + AllocGlobal> EditedFile<'a, R> {
     /// Opens the file at a path, once as a sink and once for reading. A link is followed. No other run can open it as a sink
     /// until this one is dropped. If another run has it open, this waits as long as the limit says, or without a limit as long
-    /// as it takes; then that is an error of the kind `WouldBlock`, or `TimedOut` where it waited. What isn't a regular file is
+    /// as it takes; then that is an error of the kind `WouldBlock`, or `TimedOut` if it waited. What isn't a regular file is
     /// an error of the kind `InvalidInput`.
     pub fn open(rt: &'a R, path: &str, limit: Option<Duration>) -> io::Result<(Self, File)> {
         let path = followed(rt, path)?;
@@ -87,7 +87,7 @@ impl<R: Files<File = File> + AllocGlobal> EditedFile<'_, R> {
         self.error
     }
 
-    // Writes a front of the piece.
+    // Writes the start of the piece.
     fn write_some(&mut self, piece: &[u8]) -> io::Result<usize>
         ensures counted { self.new.faults ≡ self.old.faults }
         ensures unfinished { self.new.is_finished ≡ self.old.is_finished }
@@ -108,8 +108,8 @@ impl<R: Files<File = File> + AllocGlobal> EditedFile<'_, R> {
         }
     }
 
-    // How many bytes of the piece the old file has next; 0 where one of those that are looked at differs. It isn't inlined, so
-    // its buffer and that of `copy_front` never lie on the stack together, which may have no room for both.
+    // How many bytes of the piece the old file has next; 0 if one of those that are looked at differs. It isn't inlined, so
+    // its buffer and that of `copy_front` are never on the stack together, which may have no room for both.
     #[inline(never)]
     fn same_bytes(&mut self, piece: &[u8]) -> io::Result<usize>
         ensures counted { self.new.faults ≡ self.old.faults }
@@ -141,7 +141,7 @@ impl<R: Files<File = File> + AllocGlobal> EditedFile<'_, R> {
         begun
     }
 
-    // Lets what was written take the place of the old file, where it differs from that.
+    // Puts what was written in the place of the old file, if it differs from that.
     fn end(&mut self) -> io::Result<()>
         ensures counted { self.new.faults ≡ self.old.faults }
         ensures unfinished { self.new.is_finished ≡ self.old.is_finished }
@@ -164,7 +164,7 @@ impl<R: Files<File = File> + AllocGlobal> EditedFile<'_, R> {
         Ok(())
     }
 
-    // Counts a failure, and takes the fresh file away.
+    // Counts a failure, and removes the fresh file.
     fn fail(&mut self, error: io::Error) -> Fault
         ensures counted { self.new.faults ≡ ticked self.old.faults }
         ensures unfinished { self.new.is_finished ≡ self.old.is_finished }

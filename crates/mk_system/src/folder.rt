@@ -19,7 +19,7 @@ const NAMELESS: &str = "a folder needs a name";
 /// Why a file wasn't written.
 #[derive(Drop)]
 pub struct Unwritten {
-    /// The path of the file. `None` where the folder itself can't be made.
+    /// The path of the file. `None` if the folder itself can't be made.
     pub path: Option<PathBuf>,
     pub error: io::Error,
 }
@@ -36,7 +36,7 @@ impl From<AllocError> for Unwritten {
     }
 }
 
-/// A folder of the system. It is made at the first file, where it isn't there.
+/// A folder of the system. It is made for the first file, if it doesn't exist.
 #[derive(Drop)]
 pub struct Directory<'r, 'p, R: Files<File = File> + AllocGlobal> {
     rt: &'r R,
@@ -60,12 +60,12 @@ impl<'r, 'p, R: Files<File = File> + AllocGlobal> Directory<'r, 'p, R> {
         }
     }
 
-    /// The file that was last not written, and why.
+    /// The last file that wasn't written, and why.
     pub fn close(self) -> Option<Unwritten> {
         self.unwritten
     }
 
-    // Makes the folder where it isn't there.
+    // Makes the folder if it doesn't exist.
     fn make(&mut self) -> io::Result<()>
         ensures { self.new.faults ≡ self.old.faults }
     {
@@ -79,7 +79,7 @@ impl<'r, 'p, R: Files<File = File> + AllocGlobal> Directory<'r, 'p, R> {
         Ok(())
     }
 
-    // Writes a file. `false` where one of the name is there, and may not be written over.
+    // Writes a file. `false` if there is one of the name, and it may not be overwritten.
     fn write(&mut self, name: &[u8], text: &[u8], over: bool) -> Result<bool, Unwritten>
         ensures { self.new.faults ≡ self.old.faults }
     {
@@ -113,8 +113,8 @@ impl<'r, 'p, R: Files<File = File> + AllocGlobal> Directory<'r, 'p, R> {
     }
 }
 
-// Puts a new file in the place of the one at a path, if one is there. So no link is followed, and what has another name too
-// stays as it is.
+// Puts a new file in the place of the one at a path, if there is one. So no link is followed, and a file that also has
+// another name stays as it is.
 fn write_over<R: Files<File = File> + AllocGlobal>(
     rt: &R,
     path: &PathBuf,
@@ -134,7 +134,7 @@ fn write_over<R: Files<File = File> + AllocGlobal>(
     }
 }
 
-// Writes a new file, or nothing where something has the path, be it a link that leads nowhere.
+// Writes a new file, or nothing if something has the path, even a link that leads nowhere.
 fn write_new<R: Files<File = File>>(rt: &R, path: &PathBuf, text: &[u8]) -> io::Result<bool> {
     let mut file = match OpenOptions::new()
         .write(true)

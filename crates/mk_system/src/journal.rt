@@ -33,7 +33,7 @@ enum State {
     Ended,
 }
 
-/// The file of a journal as a sink. It is replaced as a whole: until all is written and stands on the disk, it is as it was.
+/// The file of a journal as a sink. It is replaced as a whole: until all is written and is on the disk, it is as it was.
 #[derive(Drop)]
 pub struct JournalFile<'a, R: Files<File = File> + AllocGlobal> {
     rt: &'a R,
@@ -48,9 +48,9 @@ pub struct JournalFile<'a, R: Files<File = File> + AllocGlobal> {
 }
 
 impl<'a, R: Files<File = File> + Clock + AllocGlobal> JournalFile<'a, R> {
-    /// Opens the journal at a path, and reads it where it is there. A link is followed. No other run can open it until this
+    /// Opens the journal at a path, and reads it if it exists. A link is followed. No other run can open it until this
     /// value is dropped. If another run has it open, this waits as long as the limit says, or without a limit as long as it
-    /// takes; then that is an error of the kind `WouldBlock`, or `TimedOut` where it waited.
+    /// takes; then that is an error of the kind `WouldBlock`, or `TimedOut` if it waited.
     pub fn open(
         rt: &'a R,
         path: &str,
@@ -117,7 +117,7 @@ impl<R: Files<File = File> + AllocGlobal> JournalFile<'_, R> {
         begun
     }
 
-    // Writes a front of the piece.
+    // Writes the start of the piece.
     fn write_some(&mut self, piece: &[u8]) -> io::Result<usize>
         ensures counted { self.new.faults ≡ self.old.faults }
         ensures unfinished { self.new.is_finished ≡ self.old.is_finished }
@@ -133,7 +133,7 @@ impl<R: Files<File = File> + AllocGlobal> JournalFile<'_, R> {
         }
     }
 
-    // Lets what was written stand.
+    // Puts the fresh file, if there is one, in the place of the journal.
     fn end(&self) -> io::Result<()> {
         if let State::Beside(new) = &self.state {
             let folder = open_folder(self.rt, &self.path)?;
@@ -147,7 +147,7 @@ impl<R: Files<File = File> + AllocGlobal> JournalFile<'_, R> {
         Ok(())
     }
 
-    // Counts a failure, and takes the fresh file away, where it has no other name yet.
+    // Counts a failure, and removes the fresh file, if it has no other name yet.
     fn fail(&mut self, error: io::Error) -> Fault
         ensures counted { self.new.faults ≡ ticked self.old.faults }
         ensures unfinished { self.new.is_finished ≡ self.old.is_finished }

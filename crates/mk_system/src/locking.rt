@@ -25,7 +25,7 @@ const FIRST_PAUSE: u64 = 1;
 
 const LONGEST_PAUSE: u64 = 50;
 
-/// How often the hidden file is opened anew at once, where another run has just removed it.
+/// How often the hidden file is opened again at once, when another run has just removed it.
 const MOST_OPENINGS: u32 = 100;
 
 /// The lock that one run at a time has for the file at a path, whether or not that file exists. It is held by flock(2) on a
@@ -35,7 +35,7 @@ pub struct Lock<'a, R: Files<File = File>> {
     rt: &'a R,
     /// The path of the hidden file.
     path: PathBuf,
-    /// The hidden file. `None` where the system doesn't give the lock.
+    /// The hidden file. `None` if the system doesn't give the lock.
     file: Option<File>,
     /// Why it doesn't.
     error: Option<Error>,
@@ -43,8 +43,8 @@ pub struct Lock<'a, R: Files<File = File>> {
 
 impl<'a, R: Files<File = File> + Clock + AllocGlobal> Lock<'a, R> {
     /// Takes the lock for the file at a path. If another run holds it, this waits as long as the limit says, or without a limit
-    /// as long as it takes; then that is an error of the kind `WouldBlock`, or `TimedOut` where it waited. Where the system
-    /// doesn't give the lock, as in a folder that may not be written, only `check` fails: the file can be read all the same.
+    /// as long as it takes; then that is an error of the kind `WouldBlock`, or `TimedOut` if it waited. If the system
+    /// doesn't give the lock, as in a folder that can't be written to, only `check` fails: the file can still be read.
     pub fn take(rt: &'a R, path: &PathBuf, limit: Option<Duration>) -> io::Result<Lock<'a, R>> {
         let alloc = rt.alloc();
         let name = path.file_name().unwrap_or(SHORT_NAME);
@@ -87,7 +87,7 @@ impl<'a, R: Files<File = File> + Clock + AllocGlobal> Lock<'a, R> {
 }
 
 impl<R: Files<File = File>> Lock<'_, R> {
-    /// Fails where the system doesn't give the lock, so that the file may not be replaced.
+    /// Fails if the system doesn't give the lock, so the file may not be replaced.
     pub fn check(&mut self) -> io::Result<()> {
         if self.file.is_some() {
             return Ok(());
@@ -120,7 +120,7 @@ fn hidden_path(alloc: Global, path: &PathBuf, name: &str) -> io::Result<PathBuf>
     Ok(path.with_file_name(alloc, hidden.as_str())?)
 }
 
-// Locks the hidden file, which is tried again and again until the limit.
+// Locks the hidden file; tries again and again until the limit.
 fn wait<R: Files<File = File> + Clock>(
     rt: &R,
     hidden: &PathBuf,
@@ -161,7 +161,7 @@ fn locked<R: Files<File = File>>(rt: &R, hidden: &PathBuf, path: &PathBuf) -> io
     Err(Error::from(ErrorKind::WouldBlock))
 }
 
-// The same. `None` where another run has removed the file before it was locked.
+// The same. `None` if another run has removed the file before it was locked.
 fn locked_once<R: Files<File = File>>(
     rt: &R,
     hidden: &PathBuf,
@@ -183,7 +183,7 @@ fn locked_once<R: Files<File = File>>(
     }
 }
 
-// Opens the hidden file, and makes it where it isn't there. `None` where another run has removed it meanwhile.
+// Opens the hidden file, and makes it if it doesn't exist. `None` if another run has removed it meanwhile.
 fn opened<R: Files<File = File>>(
     rt: &R,
     hidden: &PathBuf,
@@ -191,7 +191,7 @@ fn opened<R: Files<File = File>>(
 ) -> io::Result<Option<File>> {
     match File::create_new(rt, hidden.as_str()) {
         Ok(file) => {
-            // Who may read the file may also wait for its lock.
+            // Whoever may read the file may also wait for its lock.
             if let Ok(metadata) = fs::metadata(rt, path.as_str()) {
                 let _ = file.set_permissions(metadata.permissions());
             }

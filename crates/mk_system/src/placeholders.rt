@@ -14,7 +14,7 @@ const ERRORS: i32 = 2;
 /// The device that holds nothing.
 const NOTHING: &str = "/dev/null";
 
-/// What keeps the places of the standard streams that are closed. Without it the next file that is opened would get such a place,
+/// Keeps the places of the standard streams that are closed. Without it the next file that is opened would get such a place,
 /// and be read or written as that stream. A closed stream still fails when it is used: the input can't be read, and the others
 /// can't be written.
 #[derive(Drop)]
@@ -23,7 +23,7 @@ pub struct Placeholders {
 }
 
 impl Placeholders {
-    /// Keeps the places of the streams that are closed now. Where the system opens nothing, they stay free.
+    /// Keeps the places of the streams that are closed now. If the system opens nothing, they stay free.
     pub fn hold<R: Files<File = File>>(rt: &R) -> Placeholders {
         let (mut reading, mut writing) = (OpenOptions::new(), OpenOptions::new());
         reading.read(true);
@@ -37,7 +37,7 @@ impl Placeholders {
     }
 }
 
-// The device, where it gets one of the descriptors between these two, the lowest that is free.
+// The device, if it gets one of the descriptors between these two, the lowest that is free.
 fn opened<R: Files<File = File>>(rt: &R, how: &OpenOptions, least: i32, most: i32) -> Option<File> {
     let device = how.open(rt, NOTHING).ok()?;
     let place = device.as_raw_fd();

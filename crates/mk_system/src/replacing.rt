@@ -10,19 +10,19 @@ use std::path::PathBuf;
 use std::rt::Files;
 use std::{fs, io};
 
-/// The most links that a path is followed through, as the system has it.
+/// The most links that a path is followed through, which is the system's limit.
 const MOST_LINKS: u32 = 40;
 
 /// How many names are tried for a fresh file.
 const MOST_NAMES: u32 = 10_000;
 
-/// The folder of a path that names none.
+/// The folder of a path that doesn't name one.
 const HERE: &str = ".";
 
-/// The name in that of a fresh file, where the other file's own leaves no room for more.
+/// The name within that of a fresh file, if the other file's own leaves no room for more.
 pub const SHORT_NAME: &str = "mimetool";
 
-/// Where the links at a path lead, be something there or not.
+/// Where the links at a path lead, whether or not something is there.
 pub fn followed<R: Files + AllocGlobal>(rt: &R, path: &str) -> io::Result<PathBuf> {
     let mut path = PathBuf::from_str(rt.alloc(), path)?;
     for _link in 0..MOST_LINKS {
@@ -35,7 +35,7 @@ pub fn followed<R: Files + AllocGlobal>(rt: &R, path: &str) -> io::Result<PathBu
     Err(Error::from(ErrorKind::FilesystemLoop))
 }
 
-/// A new file that is to take the place of another one. Until then that one is as it was.
+/// A new file that is to take the place of another. Until then the other is as it was.
 #[derive(Drop)]
 pub struct Replacement {
     file: File,
@@ -57,12 +57,12 @@ impl Replacement {
         }
     }
 
-    /// Gives the new file the permissions of the one in whose place it will come.
+    /// Gives the new file the permissions of the one that it will replace.
     pub fn copy_permissions(&self, old: &File) -> io::Result<()> {
         self.file.set_permissions(old.metadata()?.permissions())
     }
 
-    /// Writes the first bytes of a file, as many as that. Where it has fewer, that is an error.
+    /// Writes the first bytes of a file, as many as that. If it has fewer, that is an error.
     #[inline(never)]
     pub fn copy_front(&mut self, old: &mut File, length: u64) -> io::Result<()> {
         old.seek(SeekFrom::Start(0))?;
@@ -80,7 +80,7 @@ impl Replacement {
         Ok(())
     }
 
-    /// Writes a front of the piece.
+    /// Writes the start of the piece.
     pub fn write(&mut self, piece: &[u8]) -> io::Result<usize>
         ensures { IfOk result (λ n. n ≤ length piece.now) }
     {
@@ -92,7 +92,7 @@ impl Replacement {
         self.file.write_all(piece)
     }
 
-    /// Lets what was written stand on the disk.
+    /// Makes sure that what was written is on the disk.
     pub fn sync(&self) -> io::Result<()> {
         self.file.sync_all()
     }
@@ -118,7 +118,7 @@ impl Replacement {
         }
     }
 
-    /// Takes the new file away, where it still has its own name.
+    /// Removes the new file, if it still has its own name.
     pub fn remove<R: Files>(&self, rt: &R) {
         let _ = fs::remove_file(rt, self.fresh.as_str());
     }
@@ -148,8 +148,8 @@ fn fresh_name(alloc: Global, path: &PathBuf, number: u32) -> io::Result<PathBuf>
     Ok(path.with_file_name(alloc, fresh.as_str())?)
 }
 
-/// The folder of a path, opened so that its names can be let stand on the disk. A folder that may not be read is left to the
-/// system, and is `None`.
+/// The folder of a path, opened to make sure that its names are on the disk. `None` for a folder that may not be read, which is
+/// left to the system.
 pub fn open_folder<R: Files<File = File>>(rt: &R, path: &PathBuf) -> io::Result<Option<File>> {
     let folder = match path.parent() {
         Some(folder) if !folder.as_str().is_empty() => folder.as_str(),
@@ -162,7 +162,7 @@ pub fn open_folder<R: Files<File = File>>(rt: &R, path: &PathBuf) -> io::Result<
     }
 }
 
-/// Lets the names in a folder stand on the disk.
+/// Makes sure that the names in a folder are on the disk.
 pub fn sync_folder(folder: &Option<File>) -> io::Result<()> {
     match folder {
         Some(folder) => folder.sync_all(),

@@ -6,7 +6,7 @@ use std::path::PathBuf;
 use std::rt::Files;
 use std::{fs, io};
 
-/// What tells whether the file at a path is the one that was there before, with the bytes that it had.
+/// Tells whether the file at a path is the one that was there before, with the bytes that it had.
 #[derive(Clone, Copy, Debug, PartialEq, Eq)]
 pub struct Stamp {
     device: u64,

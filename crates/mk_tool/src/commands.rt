@@ -23,10 +23,10 @@ use std::alloc::{AllocError, Global};
 use std::fs::File;
 use std::rt::{Clock, Files};
 
-/// The folder that files are written to where none is named.
+/// The folder that files are written to if no folder is named.
 const WORKING_FOLDER: &str = ".";
 
-/// The path of the message itself, whose fields are filtered where no section is named.
+/// The path of the message itself, whose fields are filtered if no section is named.
 const ROOT: &str = "1";
 
 /// Runs a subcommand, the words of which are valid.
@@ -185,7 +185,7 @@ fn report(matches: &ArgMatches<'_>) -> Report {
     }
 }
 
-// The paths that words write, where each writes one.
+// The paths that words write, if each writes one.
 fn paths(alloc: Global, words: &[&str]) -> Result<Option<Vec<Vec<u32>>>, AllocError> {
     let mut paths = Vec::new(alloc);
     for word in words {

@@ -23,7 +23,7 @@ const UNDO_SCRIPT: &[u8] = b"undo\n";
 
 const REDO_SCRIPT: &[u8] = b"redo\n";
 
-/// What is said of a journal that is the file of `--in-place`.
+/// What is said of a journal that is also the file of `--in-place`.
 const OWN_JOURNAL: &str = "the file of --in-place can't also be its journal";
 
 /// mimetool edit
@@ -38,7 +38,7 @@ pub fn edit<R: Files<File = File> + Clock + AllocGlobal, S: Source, O: Sink, E: 
     let paths = matches.get_strs(PIECE).unwrap_or(&[]);
     let as_one = matches.get_flag(ALL);
     if let Some(lines) = matches.get_strs(LINE) {
-        // Each word that is no line is a piece; the first of them stands where the script would.
+        // Each word that isn't a line is a piece; the first of them is where the script would be.
         let script = joined(alloc, lines)?;
         let mut pieces = Vec::new(alloc);
         if let Some(path) = matches.get_str(SCRIPT) {
@@ -69,7 +69,7 @@ pub fn edit<R: Files<File = File> + Clock + AllocGlobal, S: Source, O: Sink, E: 
     edit_by(rt, matches, input, out, err, script, &pieces)
 }
 
-// Says why the first invalid line of a script is invalid, if there is one, and else of which pieces it takes no text.
+// Says why the first invalid line of a script is invalid, if there is one, and otherwise which pieces aren't read as text.
 fn explain<E: Sink>(
     alloc: Global,
     err: &mut E,

@@ -32,7 +32,7 @@ impl<'a, E: Sink> Explained<'a, E> {
         }
     }
 
-    // Says what a line means, where it names a reason. What can't be written isn't: the line itself is tried next.
+    // Says what a line means, if it names a reason. A failed write is passed over: the line itself is tried next.
     fn tell(&mut self, line: &[u8])
         ensures counted { self.new.faults ≡ self.old.faults }
         ensures unfinished { self.new.is_finished ≡ self.old.is_finished }

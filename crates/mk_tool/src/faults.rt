@@ -98,7 +98,7 @@ fn usage_error(alloc: Global, name: &str, sentence: &str) -> Result<Error, Alloc
         .error(ErrorKind::ValueValidation, sentence)
 }
 
-/// Writes an error of clap. Where that fails, nothing more is tried.
+/// Writes an error of clap. If that fails, nothing more is tried.
 pub fn say_usage<E: Sink>(alloc: Global, error: &Error, err: &mut E) -> Status {
     match format!(in alloc; "{error}") {
         Ok(text) => {

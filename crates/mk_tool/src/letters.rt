@@ -57,7 +57,7 @@ pub fn placed_words<'a>(
     Ok(placed)
 }
 
-// Puts the words that an option takes after others, each with its letter and its place.
+// Adds the words that an option takes, each with its letter and its place.
 fn place<'a>(
     placed: &mut Vec<(usize, LetterWord<'a>)>,
     matches: &'a ArgMatches<'_>,
@@ -75,7 +75,7 @@ fn place<'a>(
     }
 }
 
-// Puts words of a letter after others, each with its place.
+// Adds words of a letter, each with its place.
 fn place_each<'a>(
     placed: &mut Vec<(usize, LetterWord<'a>)>,
     letter: Letter,
@@ -115,7 +115,7 @@ const A_NAME_OR_FRONT: &str =
 
 const APART: &str = "-x and -X print fields, so neither goes with another letter";
 
-/// What the options on values want beside them.
+/// What the options on values have to be given with.
 const UNFOLD_ALONE: &str = "--unfold is for the values that -x prints";
 
 const DECODE_ALONE: &str = "--decode is for the values that -x prints";
@@ -127,7 +127,7 @@ const ENCODE_ALONE: &str = "--encode is for the fields of -a, -A, -i and -I";
 
 const EOL_ALONE: &str = "--eol is for the fields of -a, -A, -i and -I";
 
-/// Why letters are refused, if they are: the first whose word it doesn't take, or that they don't stand together.
+/// Why letters are refused, if they are: the first whose word it doesn't take, or that they can't be used together.
 pub fn why_refused(
     alloc: Global,
     words: &[(usize, LetterWord<'_>)],
@@ -173,7 +173,7 @@ pub fn why_no_values(
     }
 }
 
-// Why a field isn't written in encoded words, if one isn't: it would need one where none may stand, as in an address.
+// Why a field isn't written in encoded words, if one isn't: it would need one where none may be, as in an address.
 fn why_no_words(
     alloc: Global,
     words: &[(usize, LetterWord<'_>)],

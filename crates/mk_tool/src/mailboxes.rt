@@ -33,7 +33,7 @@ pub fn messages<S: Source, O: Sink>(
     Ok(Status::Well)
 }
 
-/// Reads the message of `-n`, where the command line has one.
+/// Reads the message of `-n`, if the command line has one.
 pub fn pick_message<S: Source, E: Sink>(
     alloc: Global,
     matches: &ArgMatches<'_>,
@@ -56,7 +56,7 @@ pub fn pick_message<S: Source, E: Sink>(
     }
 }
 
-// A message as it was before it went into the mailbox; its lines lose their marks where that is asked for.
+// A message as it was before it went into the mailbox; its lines lose their marks if that is asked for.
 fn alone(alloc: Global, matches: &ArgMatches<'_>, message: Vec<u8>) -> Result<Vec<u8>, AllocError> {
     let message = without_separator(message);
     if matches.get_flag(UNQUOTE) {
@@ -88,7 +88,7 @@ pub fn from_lines(matches: &ArgMatches<'_>) -> FromLines {
     }
 }
 
-// A run that stopped, by this cause where a device failed.
+// A run that stopped, by this cause if a device failed.
 fn stopped(stop: Stop, fault: Cause) -> Problem {
     match stop {
         Stop::Fault => Problem::Stopped(fault),

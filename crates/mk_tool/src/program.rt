@@ -19,7 +19,7 @@ use std::fs::File;
 use std::rt::{Clock, Env, Files};
 use std::{env, io};
 
-/// Does what the command line says, and answers how the program ends. A command line that isn't text as a whole is a usage fault.
+/// Does what the command line says, and answers how the program ends. A command line that isn't all text is a usage fault.
 pub fn run<R: Env + Files<File = File> + Clock + AllocGlobal, S: Source, O: MaybePipe, E: Sink>(
     rt: &R,
     input: &mut S,
@@ -35,7 +35,7 @@ pub fn run<R: Env + Files<File = File> + Clock + AllocGlobal, S: Source, O: Mayb
     }
 }
 
-// The words of the command line, the program's name first. Those that are not text as a whole are an error.
+// The words of the command line, the program's name first. It is an error if they aren't all text.
 fn words<R: Env + AllocGlobal>(rt: &R) -> io::Result<Vec<String>> {
     let words = env::args(rt)?.collect(rt.alloc())?;
     Ok(words)
@@ -69,7 +69,7 @@ pub fn obey<R: Files<File = File> + Clock + AllocGlobal, S: Source, O: MaybePipe
     }
 }
 
-// Runs a subcommand, with its reasons in words where that is asked for.
+// Runs a subcommand, with its reasons in words if that is asked for.
 fn start_told<R: Files<File = File> + Clock + AllocGlobal, S: Source, O: Sink, E: Sink>(
     rt: &R,
     name: &str,
@@ -126,7 +126,7 @@ fn show<O: MaybePipe, E: Sink>(
     }
 }
 
-// Writes why clap refuses the command line, and where it is known what to write in place of a word, that too.
+// Writes why clap refuses the command line, and what to write in place of a word, if that is known.
 fn refuse<E: Sink>(
     alloc: Global,
     words: &[String],
@@ -165,7 +165,7 @@ fn start<R: Files<File = File> + Clock + AllocGlobal, S: Source, O: Sink, E: Sin
     }
 }
 
-// Runs a subcommand on the message in a file, and puts what becomes of it in the place of the file.
+// Runs a subcommand on the message in a file, and puts the result in the place of the file.
 fn run_in_place<R: Files<File = File> + Clock + AllocGlobal, E: Sink>(
     rt: &R,
     name: &str,

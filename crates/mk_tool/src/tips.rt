@@ -7,8 +7,8 @@ use mk_run::{Cause, Script, write_all};
 use mk_script::{NumberedWord, ScriptError, Step, Word, steps, steps_as_one};
 use std::alloc::Global;
 
-/// Says of each piece that `append` reads as fields alone, since it has no empty line, that it is no text. A script that isn't
-/// one is passed over: why it isn't is said elsewhere.
+/// Says of each piece that `append` reads as fields alone, since it has no empty line, that it isn't read as text. An invalid
+/// script is passed over: why it is invalid is said elsewhere.
 pub fn tell_of_fields<E: Sink>(
     alloc: Global,
     err: &mut E,

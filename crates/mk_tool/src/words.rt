@@ -19,12 +19,12 @@ const NO_SCRIPT: &str = "give a SCRIPT, or its lines, each with -e";
 /// What is said of a plain listing with names in UTF-8.
 const NO_JSON: &str = "--utf8 goes only with --json: the plain listing has no names";
 
-/// What is said of From-lines with a date where no mailbox is read.
+/// What is said of From-lines with a date if no mailbox is read.
 const NO_NUMBER: &str = "--rfc4155 goes only with -n: it says how a mailbox is cut";
 
 const NO_MAILBOX: &str = "--rfc4155 goes only with -s: it says how a mailbox is cut";
 
-/// What is said of marks where no message of a mailbox is read.
+/// What is said of marks if no message of a mailbox is read.
 const NO_MARKS: &str =
     "--unquote goes only with -n: it removes the > that a mailbox puts before lines";
 
@@ -33,7 +33,7 @@ const SECTION: &str = "-s <PATH>";
 
 const SECTION_OF_FIELDS: &str = "-p <PATH>";
 
-/// Refuses the words of a subcommand where one is invalid. No file has to be opened for that, so such a fault comes before
+/// Refuses the words of a subcommand if one is invalid. No file has to be opened for that, so such a fault comes before
 /// those of files.
 pub fn check_words(alloc: Global, name: &str, matches: &ArgMatches<'_>) -> Result<(), Problem> {
     if let Some(sentence) = why_no_message(alloc, name, matches)? {
@@ -63,7 +63,7 @@ pub fn check_words(alloc: Global, name: &str, matches: &ArgMatches<'_>) -> Resul
     }
 }
 
-// Why the word of `-n` is no number of a message, or no mailbox is read beside `--rfc4155`.
+// Why the word of `-n` isn't the number of a message, or no mailbox is read with `--rfc4155`.
 fn why_no_message(
     alloc: Global,
     name: &str,
@@ -96,7 +96,7 @@ fn why_no_message(
     Ok(Some(String::from_str(alloc, NO_NUMBER)?))
 }
 
-// Why the letters of `field`, or the options beside them, are refused, if they are.
+// Why the letters of `field`, or the options with them, are refused, if they are.
 fn why_no_field(alloc: Global, matches: &ArgMatches<'_>) -> Result<Option<String>, AllocError> {
     if let Some(word) = matches.get_str(PATH) {
         if let Some(sentence) = why_no_path(alloc, word, SECTION_OF_FIELDS)? {
@@ -121,7 +121,7 @@ fn why_no_script(alloc: Global, matches: &ArgMatches<'_>) -> Result<Option<Strin
     Ok(Some(String::from_str(alloc, NO_SCRIPT)?))
 }
 
-// Why a word of `-e` is no line, where there is one that isn't.
+// Why a word of `-e` isn't a line, if there is one that isn't.
 fn why_no_lines(alloc: Global, lines: &[&str]) -> Result<Option<String>, AllocError> {
     for line in lines {
         if line.contains('\n') {
@@ -143,7 +143,7 @@ fn why_no_names(alloc: Global, matches: &ArgMatches<'_>) -> Result<Option<String
     Ok(Some(String::from_str(alloc, NO_JSON)?))
 }
 
-// Why a word is no path, if it isn't one.
+// Why a word isn't a path, if it isn't one.
 fn why_no_path(alloc: Global, word: &str, option: &str) -> Result<Option<String>, AllocError> {
     if numbers(alloc, word.as_bytes())?.is_some() {
         return Ok(None);
@@ -154,7 +154,7 @@ fn why_no_path(alloc: Global, word: &str, option: &str) -> Result<Option<String>
     Ok(Some(sentence))
 }
 
-// Why a word of `unpack` is no path, where there is one that isn't.
+// Why a word of `unpack` isn't a path, if there is one that isn't.
 fn why_no_paths(alloc: Global, matches: &ArgMatches<'_>) -> Result<Option<String>, AllocError> {
     for word in matches.get_strs(PATH).unwrap_or(&[]) {
         if let Some(sentence) = why_no_path(alloc, *word, SECTION)? {
@@ -164,7 +164,7 @@ fn why_no_paths(alloc: Global, matches: &ArgMatches<'_>) -> Result<Option<String
     Ok(None)
 }
 
-// Why a word of `pack` is no part, where there is one that isn't.
+// Why a word of `pack` isn't a part, if there is one that isn't.
 fn why_no_parts(alloc: Global, matches: &ArgMatches<'_>) -> Result<Option<String>, AllocError> {
     if let Some(word) = matches.get_str(PART) {
         return why_no_part(alloc, word, "--part <SPEC>");
@@ -177,7 +177,7 @@ fn why_no_parts(alloc: Global, matches: &ArgMatches<'_>) -> Result<Option<String
     Ok(None)
 }
 
-// Why a word is no part, if it isn't one.
+// Why a word isn't a part, if it isn't one.
 fn why_no_part(alloc: Global, word: &str, option: &str) -> Result<Option<String>, AllocError> {
     if Spec::of(word.as_bytes()).is_some() {
         return Ok(None);

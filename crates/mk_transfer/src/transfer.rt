@@ -9,7 +9,7 @@ ghost use Rattle.mk_transfer.specs.declared.transfer.Stop.TheVariants.{Memory as
 use mk_mailbox::{CHUNK_BYTES, Fault, MOST_READS, Sink, Source};
 use std::alloc::{AllocError, AllocFailed, Global};
 
-/// Why a text was not read to its end, or bytes were not sent.
+/// Why a text wasn't read to its end, or bytes weren't sent.
 #[derive(Clone, Copy, Debug, PartialEq, Eq)]
 pub enum Stop {
     Fault,
@@ -38,7 +38,7 @@ pub fn read_all<S: Source>(alloc: Global, input: &mut S) -> Result<Vec<u8>, Stop
     ensures ended { OnOk result (IsAtEnd (S.remaining input.new)) }
     ensures well { OnOk result (S.failures input.new ≡ S.failures input.old) }
 
-    // What was read before the stop is a front of what was left.
+    // What was read before the stop is the start of what was left.
     ensures front { OnErr result ((bytes : List ℕ)
         × Consumes (S.remaining input.old) (S.remaining input.new) bytes) }
     ensures fault { IfErr result (λ stop. stop ≡ Stop.Fault
@@ -78,7 +78,7 @@ pub fn write_all<O: Sink>(out: &mut O, bytes: &[u8]) -> Result<(), Fault>
     Ok(())
 }
 
-/// Writes all the bytes, for a caller that may also want memory.
+/// Writes all the bytes, for a caller that may also run out of memory.
 pub fn send<O: Sink>(out: &mut O, bytes: &[u8]) -> Result<(), Stop>
     ensures sends { Sends result bytes.now
         (O.contents out.old) (O.contents out.new) (O.failures out.old) (O.failures out.new) }

@@ -8,7 +8,7 @@ use clap::Error;
 use clap::error::ErrorKind;
 use std::alloc::{AllocError, Global};
 
-/// What stands before and after the word where clap refuses one.
+/// What comes before and after the word when clap refuses one.
 const BEFORE: &str = "unexpected argument '";
 
 const AFTER: &str = "' found";
@@ -55,7 +55,7 @@ const LETTERS: [(&str, &str); 14] = [
     ("-q", "mimetool prints no warnings, so it isn't needed"),
 ];
 
-/// An error of clap's own form, with what to write in place of the word that clap refuses. `None` where that isn't known.
+/// An error of clap's own form, with what to write in place of the word that clap refuses. `None` if that isn't known.
 pub fn with_hint(alloc: Global, words: &[String], text: &str) -> Result<Option<Error>, AllocError>
     ensures { IfOk result (λ told. IfSome told (λ error. kind_of error ≡ ErrorKind.UnknownArgument)) }
 {
@@ -115,7 +115,7 @@ fn hint(
     Ok(Some(format!(in alloc; "to read the message from a file, write '--from {word}'")?))
 }
 
-// Whether a word stands right after another one.
+// Whether a word comes right after another one.
 fn stands_after(words: &[String], first: &str, word: &str) -> bool {
     words
         .iter()

@@ -52,10 +52,10 @@ pub const UTF8: &str = "utf8";
 /// `-j JOURNAL`: the file that keeps the steps.
 pub const JOURNAL: &str = "JOURNAL";
 
-/// The subcommand that takes back the last step of an earlier run.
+/// The subcommand that undoes the last step of an earlier run.
 pub const UNDO: &str = "undo";
 
-/// The subcommand that makes again the last step that was taken back.
+/// The subcommand that redoes the last step that was undone.
 pub const REDO: &str = "redo";
 
 /// The subcommand that lists the sections of a message.
@@ -67,13 +67,13 @@ pub const EXTRACT: &str = "extract";
 /// `-s PATH`, and `-p PATH` of `field`: the section.
 pub const PATH: &str = "PATH";
 
-/// `--raw`: the content as it stands.
+/// `--raw`: the content as it is.
 pub const RAW: &str = "raw";
 
 /// `--head`: the fields of the section.
 pub const HEAD: &str = "head";
 
-/// `--prefix`: what decodes of base64 that isn't whole.
+/// `--prefix`: what can be decoded of base64 that isn't whole.
 pub const PREFIX: &str = "prefix";
 
 /// The subcommand that stores the leaves of a message as files.
@@ -94,7 +94,7 @@ pub const PATHS: &str = "paths";
 /// `-C DIR`: the folder of the files.
 pub const DIR: &str = "DIR";
 
-/// The subcommand that builds a message of files.
+/// The subcommand that builds a message from files.
 pub const PACK: &str = "pack";
 
 /// `-b BOUNDARY`

@@ -1,8 +1,8 @@
-//! What the reasons that lines name mean.
+//! What the reasons that are named in lines mean.
 
 use crate::options::PACK;
 
-/// What stands between what a line is about and the name of the reason.
+/// What separates what a line is about from the name of the reason.
 const COLON: &[u8] = b": ";
 
 /// The names of reasons, and each in words.
@@ -79,7 +79,7 @@ const REASONS: [(&str, &str); 25] = [
     ),
 ];
 
-/// The reasons that are something else when a message is packed.
+/// The reasons that mean something else when a message is packed.
 const PACK_REASONS: [(&str, &str); 4] = [
     (
         "BadField",
@@ -96,7 +96,7 @@ const PACK_REASONS: [(&str, &str); 4] = [
     ("BadCharset", "this isn't a token, such as utf-8"),
 ];
 
-/// What a line is about, with the colon after it, and what the reason that it names means. `None` where it names none.
+/// What a line is about, with the colon after it, and what the reason that it names means. `None` if it doesn't name a reason.
 pub fn told<'a>(command: &str, line: &'a [u8]) -> Option<(&'a [u8], &'static str)> {
     let (about, name) = parts(line)?;
     Some((about, sentence(command, name)?))

@@ -1,4 +1,4 @@
-//! What help says of the lines of a script.
+//! What help says about the lines of a script.
 
 /// What follows the options in the help of `edit`.
 pub const EDIT_HELP: &str = "Lines of a script:

@@ -10,7 +10,7 @@ use clap::ArgMatches;
 use std::alloc::{AllocError, Global};
 use std::time::Duration;
 
-/// The limit that `--wait` gives: `None`, for as long as it takes, where it has no number.
+/// The limit that `--wait` gives: `None`, for as long as it takes, if it has no number.
 pub fn limit(matches: &ArgMatches<'_>) -> Option<Duration>
     ensures unasked { is_some (matched_of (found_of matches.now) WAIT.now) ≡ false → IsSomeAnd result (λ limit. as_nanos limit ≡ 0) }
 {
@@ -32,7 +32,7 @@ pub fn seconds_in(word: &str) -> Option<u32>
     }
 }
 
-/// Why the word of `--wait` is no number of seconds, if it has one that isn't.
+/// Why the word of `--wait` isn't a number of seconds, if it has one that isn't.
 pub fn why_no_seconds(alloc: Global, matches: &ArgMatches<'_>) -> Result<Option<String>, AllocError>
     ensures unasked { first_value (found_of matches.now) WAIT.now ≡ None → IfOk result (λ sentence. sentence ≡ None) }
 {
