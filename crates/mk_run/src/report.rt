@@ -63,7 +63,8 @@ fn sentence(fault: LineFault) -> &'static str
         }
         LineFault::BadNumber => "invalid number",
         LineFault::NoSuchPiece => "no such piece",
-        LineFault::BadEncoding => "invalid encoding; write quoted-printable or qp, base64, or 8bit or identity",
+        LineFault::BadEncoding =>
+            "invalid encoding; write quoted-printable or qp, base64, or 8bit or identity",
         LineFault::BadFieldName => {
             "invalid name; write the name of a field, such as Subject or Subject:"
         }
