@@ -3,6 +3,7 @@ mod builds;
 mod calls;
 mod dated;
 mod edits;
+mod fielded;
 mod letters;
 mod mailboxes;
 mod memory;

@@ -8,7 +8,7 @@ use mk_mail::{FromLines, Sink, Source};
 use mk_messages::{pick, report_missing, try_messages, unmarked, without_separator};
 use mk_run::{Cause, Status, Stop};
 use mk_script::numbers;
-use mk_words::options::{NUMBER, RFC4155, UNQUOTE};
+use mk_words::options::{MBOX, NUMBER, RFC4155, UNQUOTE};
 use std::alloc::{AllocError, Global};
 
 /// The message that a command works on.
@@ -82,9 +82,21 @@ pub fn message_number(alloc: Global, word: &str) -> Result<Option<u32>, AllocErr
 /// Which From-lines begin a message.
 pub fn from_lines(matches: &ArgMatches<'_>) -> FromLines {
     if matches.get_flag(RFC4155) {
-        FromLines::Dated
-    } else {
-        FromLines::Any
+        return FromLines::Dated;
+    }
+    match matches.get_str(MBOX) {
+        Some(word) => from_lines_of(word).unwrap_or(FromLines::Any),
+        None => FromLines::Any,
+    }
+}
+
+/// The From-lines that a word of `--mbox` means; none for another word.
+pub fn from_lines_of(word: &str) -> Option<FromLines> {
+    match word {
+        "any" => Some(FromLines::Any),
+        "date" => Some(FromLines::Dated),
+        "field" => Some(FromLines::Fielded),
+        _ => None,
     }
 }
 

@@ -2,13 +2,13 @@
 
 use crate::faults::Problem;
 use crate::letters::{placed_words, why_no_values, why_refused};
-use crate::mailboxes::message_number;
+use crate::mailboxes::{from_lines_of, message_number};
 use clap::ArgMatches;
 use mk_run::Spec;
 use mk_script::numbers;
 use mk_words::options::{
-    EACH, EDIT, EXTRACT, FIELD, JSON, LINE, MESSAGES, NUMBER, PACK, PART, PATH, RFC4155, SCRIPT,
-    SECTIONS, SPEC, UNPACK, UNQUOTE, UTF8,
+    EACH, EDIT, EXTRACT, FIELD, JSON, LINE, MBOX, MESSAGES, NUMBER, PACK, PART, PATH, RFC4155,
+    SCRIPT, SECTIONS, SPEC, UNPACK, UNQUOTE, UTF8,
 };
 use mk_words::waiting::why_no_seconds;
 use std::alloc::{AllocError, Global};
@@ -18,11 +18,6 @@ const NO_SCRIPT: &str = "give a SCRIPT, or its lines, each with -e";
 
 /// What is said of a plain listing with names in UTF-8.
 const NO_JSON: &str = "--utf8 goes only with --json: the plain listing has no names";
-
-/// What is said of From-lines with a date if no mailbox is read.
-const NO_NUMBER: &str = "--rfc4155 goes only with -n: it says how a mailbox is cut";
-
-const NO_MAILBOX: &str = "--rfc4155 goes only with -s: it says how a mailbox is cut";
 
 /// What is said of marks if no message of a mailbox is read.
 const NO_MARKS: &str =
@@ -63,13 +58,16 @@ pub fn check_words(alloc: Global, name: &str, matches: &ArgMatches<'_>) -> Resul
     }
 }
 
-// Why the word of `-n` isn't the number of a message, or no mailbox is read with `--rfc4155`.
+// Why the word of `-n` isn't the number of a message, that of `--mbox` names no From-lines, or no mailbox is read with an option
+// that says how it is cut.
 fn why_no_message(
     alloc: Global,
     name: &str,
     matches: &ArgMatches<'_>,
 ) -> Result<Option<String>, AllocError> {
-    let dated = matches.get_flag(RFC4155);
+    if let Some(sentence) = why_no_cuts(alloc, matches)? {
+        return Ok(Some(sentence));
+    }
     let unquoted = matches.get_flag(UNQUOTE);
     if let Some(word) = matches.get_str(NUMBER) {
         if message_number(alloc, word)?.is_some() {
@@ -83,17 +81,42 @@ fn why_no_message(
     if unquoted {
         return Ok(Some(String::from_str(alloc, NO_MARKS)?));
     }
-    if !dated || name == MESSAGES {
+    if name == MESSAGES || matches.get_flag(EACH) {
         return Ok(None);
     }
-    if name == FIELD {
-        return if matches.get_flag(EACH) {
-            Ok(None)
-        } else {
-            Ok(Some(String::from_str(alloc, NO_MAILBOX)?))
-        };
+    let Some(option) = cutting_option(matches) else {
+        return Ok(None);
+    };
+    let other = if name == FIELD { "-s" } else { "-n" };
+    let sentence = format!(in alloc;
+        "{option} goes only with {other}: it says how a mailbox is cut"
+    )?;
+    Ok(Some(sentence))
+}
+
+// Why the word of `--mbox` means no From-lines, if it doesn't.
+fn why_no_cuts(alloc: Global, matches: &ArgMatches<'_>) -> Result<Option<String>, AllocError> {
+    let Some(word) = matches.get_str(MBOX) else {
+        return Ok(None);
+    };
+    if from_lines_of(word).is_some() {
+        return Ok(None);
     }
-    Ok(Some(String::from_str(alloc, NO_NUMBER)?))
+    let sentence = format!(in alloc;
+        "invalid value '{word}' for '--mbox <HOW>': write any, date or field"
+    )?;
+    Ok(Some(sentence))
+}
+
+// The option that says how a mailbox is cut, where there is one.
+fn cutting_option(matches: &ArgMatches<'_>) -> Option<&'static str> {
+    if matches.get_flag(RFC4155) {
+        Some("--rfc4155")
+    } else if matches.get_str(MBOX).is_some() {
+        Some("--mbox")
+    } else {
+        None
+    }
 }
 
 // Why the letters of `field`, or the options with them, are refused, if they are.

@@ -188,6 +188,53 @@ output: \nFrom a Fri Jul  8 12:08:34 2011\nContent-Type: message/rfc822\n\nA: 1\
 status: Well
 "#;
 
+/// The same where a mailbox is cut only at From-lines that a field follows.
+const FIELDED: &str = r#"
+== a sentence of a body is no From-line
+at: 1
+add: X: y
+message: From a\nA: 1\n\nx\n\nFrom here on\nall is body\n\nFrom b\nB: 2\n
+output: From a\nA: 1\nX: y\n\nx\n\nFrom here on\nall is body\n\nFrom b\nB: 2\nX: y\n
+status: Well
+
+== a From-line keeps a field after it
+at: 1
+only: A:
+message: From a\nA: 1\n\nx\n\nFrom b\nA: 2\nB: 2\n\nFrom c\nA: 3\n
+output: From a\nA: 1\n\nx\n\nFrom b\nB: 2\n\nFrom c\nA: 3\n
+errors: message 1: Recut\nmessage 3: Recut\n
+status: Refused
+
+== a message that begins with no From-line needs none
+at: 1
+only: A:
+message: A: 1\n\nx\n\nFrom b\nB: 2\n
+output: \nx\n\nFrom b\nB: 2\n
+status: Well
+
+== a From-line after an empty line, and no field after it
+at: 1.1
+only: A:
+message: From a\nContent-Type: message/rfc822\n\nA: 1\nFrom x\n\n
+output: From a\nContent-Type: message/rfc822\n\nFrom x\n\n
+status: Well
+
+== one that a field follows
+at: 1.1
+only: A:
+message: From a\nContent-Type: message/rfc822\n\nA: 1\nFrom x\nB: 2\n\n
+output: From a\nContent-Type: message/rfc822\n\nA: 1\nFrom x\nB: 2\n\n
+errors: message 1: Recut\n
+status: Refused
+
+== empty lines before the first From-line are left as they are
+at: 1
+add: A: 9
+message: \nFrom a\nA: 1\n\n
+output: \nFrom a\nA: 1\nA: 9\n\n
+status: Well
+"#;
+
 /// What the input is.
 #[derive(Clone, Copy)]
 struct Input {
@@ -263,4 +310,13 @@ fn letters_filter_a_section_of_each_dated_message(rt: HostRuntime) -> Result<(),
         from_lines: FromLines::Dated,
     };
     check_table(&rt, rt.alloc(), DATED, given)
+}
+
+#[test]
+fn letters_filter_each_message_before_a_field(rt: HostRuntime) -> Result<(), Fail> {
+    let given = Input {
+        each: true,
+        from_lines: FromLines::Fielded,
+    };
+    check_table(&rt, rt.alloc(), FIELDED, given)
 }

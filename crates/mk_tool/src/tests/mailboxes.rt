@@ -1,4 +1,4 @@
-//! Mailboxes: the messages listed, one of them picked, and From-lines with dates.
+//! Mailboxes: the messages listed, one of them picked, and the From-lines at which they are cut.
 
 use super::{check_refused, check_rows};
 use std::test::Fail;
@@ -27,6 +27,24 @@ message: From a Fri Jul  8 12:08:34 2011\n\nx\n\nFrom here on\n
 output: 1 0 49 1\n
 status: Well
 
+== nor where a field must follow
+words: messages|--mbox=field
+message: From a\nA: 1\n\nx\n\nFrom here on\nall is body\n\nFrom b\nA: 2\n
+output: 1 0 42 1\n2 42 54 1\n
+status: Well
+
+== dates are asked for by either option
+words: messages|--mbox=date
+message: From a Fri Jul  8 12:08:34 2011\n\nx\n\nFrom here on\n
+output: 1 0 49 1\n
+status: Well
+
+== any From-line begins a message, as without the option
+words: messages|--mbox|any
+message: From a Fri Jul  8 12:08:34 2011\n\nx\n\nFrom here on\n
+output: 1 0 36 1\n2 36 49 1\n
+status: Well
+
 == the sections of the second message
 words: sections|-n|2
 message: From a\nA: 1\n\nx\n\nFrom b\nContent-Type: message/rfc822\n\nA: b\n\ny\n
@@ -48,6 +66,12 @@ status: Well
 == the same where only dates count
 words: extract|--rfc4155|-n|1|-s|1
 message: From a Fri Jul  8 12:08:34 2011\n\nx\n\nFrom here on\n
+output: x\n\nFrom here on\n
+status: Well
+
+== and where a field must follow
+words: extract|-n|1|--mbox=field|-s|1
+message: From a\nA: 1\n\nx\n\nFrom here on\n
 output: x\n\nFrom here on\n
 status: Well
 
@@ -117,6 +141,12 @@ words: field|-s|--rfc4155|-A|X: y
 message: \nFrom a Fri Jul  8 12:08:34 2011\n\nx\n\nFrom here on\n
 output: \nFrom a Fri Jul  8 12:08:34 2011\nX: y\n\nx\n\nFrom here on\n
 status: Well
+
+== letters where a field must follow
+words: field|-s|--mbox=field|-A|X: y
+message: From a\nA: 1\n\nx\n\nFrom here on\nall is body\n
+output: From a\nA: 1\nX: y\n\nx\n\nFrom here on\nall is body\n
+status: Well
 "#;
 
 #[test]
@@ -149,6 +179,13 @@ words: unpack|--rfc4155
 words: edit|--rfc4155|-e|undo
 begins: error: --rfc4155 goes only with -n: it says how a mailbox is cut\n\nUsage: mimetool\x20
 
+== --mbox without -n
+words: sections|--mbox=field
+words: extract|--mbox|any|-s|1
+words: unpack|--mbox=date
+words: edit|--mbox=field|-e|undo
+begins: error: --mbox goes only with -n: it says how a mailbox is cut\n\nUsage: mimetool\x20
+
 == --unquote without -n
 words: sections|--unquote
 words: extract|--unquote|-s|1
@@ -159,6 +196,25 @@ begins: error: --unquote goes only with -n: it removes the > that a mailbox puts
 == --rfc4155 without -s
 words: field|--rfc4155
 begins: error: --rfc4155 goes only with -s: it says how a mailbox is cut\n\nUsage: mimetool field\x20
+
+== --mbox without -s
+words: field|--mbox=any
+begins: error: --mbox goes only with -s: it says how a mailbox is cut\n\nUsage: mimetool field\x20
+
+== --mbox <HOW> takes three words
+words: messages|--mbox=rfc4155
+words: messages|--mbox|rfc4155
+begins: error: invalid value 'rfc4155' for '--mbox <HOW>': write any, date or field\n\nUsage: mimetool messages\x20
+
+== also where no mailbox is read
+words: sections|--mbox=
+begins: error: invalid value '' for '--mbox <HOW>': write any, date or field\n\nUsage: mimetool sections\x20
+
+== --mbox beside --rfc4155
+words: messages|--mbox=date|--rfc4155
+words: messages|--rfc4155|--mbox=field
+words: field|-s|--mbox=any|--rfc4155
+begins: error: the argument '--
 
 == -n beside --in-place
 words: edit|-n|1|--in-place|message|-e|undo
