@@ -3,15 +3,15 @@
 _mimetool_options() {
     local options=''
     case $1 in
-        edit) options='--from --in-place --wait --tempfail -n --rfc4155 --unquote -j --all --eol --explain -e -h --help' ;;
+        edit) options='--from --in-place --wait --tempfail -n --rfc4155 --mbox --unquote -j --all --eol --explain -e -h --help' ;;
         undo) options='--from --in-place --wait --tempfail -j --explain -h --help' ;;
         redo) options='--from --in-place --wait --tempfail -j --explain -h --help' ;;
-        sections) options='--from -n --rfc4155 --unquote --json --utf8 --explain -h --help' ;;
-        extract) options='--from -n --rfc4155 --unquote -s --raw --head --prefix --explain -h --help' ;;
-        unpack) options='--from -n --rfc4155 --unquote -f -t -s --silent --paths --utf8 -C --explain -h --help' ;;
+        sections) options='--from -n --rfc4155 --mbox --unquote --json --utf8 --explain -h --help' ;;
+        extract) options='--from -n --rfc4155 --mbox --unquote -s --raw --head --prefix --explain -h --help' ;;
+        unpack) options='--from -n --rfc4155 --mbox --unquote -f -t -s --silent --paths --utf8 -C --explain -h --help' ;;
         pack) options='-b -m --inline --charset --eol --forward --part --utf8 --explain -h --help' ;;
-        field) options='--from --in-place --wait --tempfail -p --prepend --drop --rename -a -A -i -I -u -U -x -X --unfold --decode --encode --eol --refused-ok -s --rfc4155 --explain -h --help' ;;
-        messages) options='--from --rfc4155 -h --help' ;;
+        field) options='--from --in-place --wait --tempfail -p --prepend --drop --rename -a -A -i -I -u -U -x -X --unfold --decode --encode --eol --refused-ok -s --rfc4155 --mbox --explain -h --help' ;;
+        messages) options='--from --rfc4155 --mbox -h --help' ;;
         help) options='' ;;
         '') options='-h --help -V --version' ;;
     esac
@@ -35,6 +35,9 @@ _mimetool() {
             return ;;
         unpack:-C)
             mapfile -t COMPREPLY < <(compgen -d -- "$cur")
+            return ;;
+        *:--mbox)
+            mapfile -t COMPREPLY < <(compgen -W 'any date field' -- "$cur")
             return ;;
         edit:-e | *:-n | extract:-s | unpack:-s | pack:-b | pack:-m | pack:--charset | field:--prepend | field:--drop | field:--rename | field:-[aAiIpuUxX])
             return ;;

@@ -111,6 +111,8 @@ def field(chooser):
                          (b"--eol", 0.3 if chosen else 0.02)):
         if chooser.maybe(chance):
             words.insert(chooser.choice([1, len(words)]), flag)
+    if chooser.maybe(0.4 if each else 0.02):
+        words[1:1] = [b"--mbox", chooser.choice([b"any", b"field", b"field", b"field"] if chooser.maybe(0.95) else [b"", b"fields"])]
     if len(section.path) > 1 or chooser.maybe(0.05):
         odd = scripts.ODD_PATHS + scripts.FAULTY_PATHS
         path = chooser.choice(odd) if chooser.maybe(0.05) else b".".join(b"%d" % number for number in section.path)

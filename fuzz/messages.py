@@ -229,5 +229,5 @@ def mailbox(chooser):
     found = b""
     for _ in range(chooser.randint(0, 4)):
         found += chooser.choice([b"From a\n", b"From b\r\n", b"", b"From a: b\n", b"From : x\n", b"From \n"]) + message(chooser, 1)
-        found += chooser.choice([b"\n\n", b"\n", b"", b"\r\n\r\n", b"\n \n", b"\n\r\n", b"\n\nFrom x\n\n"])
+        found += chooser.choice([b"\n\n", b"\n", b"", b"\r\n\r\n", b"\n \n", b"\n\r\n", b"\n\nFrom x\n\n", b"\n\nFrom here on\n"])
     return found

@@ -9,15 +9,27 @@ SHAPES = (b"--unfold", b"--decode")
 FORMS = (b"--encode", b"--eol")
 
 
-def messages(text):
-    """A mailbox is cut before each From-line that directly follows an empty line (own)."""
-    found, before = [], None
-    for line in lines.cut(text):
-        if not found or (lines.is_from_line(line.content) and before == b""):
+def counts(cut, at, how):
+    """With `--mbox=field` a From-line counts only where a field follows it (own)."""
+    if not lines.is_from_line(cut[at].content):
+        return False
+    return how != b"field" or (at + 1 < len(cut) and lines.is_field_start(cut[at + 1].content))
+
+
+def messages(text, how=b"any"):
+    """A mailbox is cut before each From-line that counts and directly follows an empty line (own)."""
+    found, before, cut = [], None, lines.cut(text)
+    for at, line in enumerate(cut):
+        if not found or (before == b"" and counts(cut, at, how)):
             found.append([])
         found[-1].append(line)
         before = line.content
     return [lines.printed(message) for message in found]
+
+
+def is_left_alone(message, how):
+    """With `--mbox=field` empty lines before the first From-line are left as they are (own)."""
+    return how == b"field" and not any(line.content for line in lines.cut(message))
 
 
 def is_bare(field):
@@ -119,15 +131,15 @@ def has_section(text, path):
     return tree.section_at(tree.document(text), path) is not None
 
 
-def takes_place(old, new):
+def takes_place(old, new, how):
     """A text may stand in the place of a message of a mailbox: it is one message, and begins and ends as that does (own)."""
     before, after = lines.cut(old), lines.cut(new)
-    begins = not lines.is_from_line(before[0].content) or (after and lines.is_from_line(after[0].content))
+    begins = not counts(before, 0, how) or (after and counts(after, 0, how))
     ends = before[-1].content or (after and not after[-1].content)
-    return len(messages(new)) < 2 and bool(begins) and bool(ends)
+    return len(messages(new, how)) < 2 and bool(begins) and bool(ends)
 
 
-def filtered(message, given, flags, path):
+def filtered(message, given, flags, path, how):
     """A message after its rounds, or as it came with the reason where they are refused (own): text, reason."""
     if not has_section(message, path):
         return message, "NoSuchSection"
@@ -136,7 +148,7 @@ def filtered(message, given, flags, path):
         text, reason = round_filtered(text, letters, flags, path)
         if reason:
             return message, reason
-    if b"-s" in flags and path != (1,) and not takes_place(message, text):
+    if b"-s" in flags and (path != (1,) or how == b"field") and not takes_place(message, text, how):
         return message, "Recut"
     return text, None
 
@@ -181,14 +193,17 @@ def shown(message, given, flags, path):
     return found, None
 
 
-def run(text, given, flags, path):
+def run(text, given, flags, path, how=b"any"):
     """The whole input, or each message of a mailbox, goes through the letters (own): output, errors, status."""
     output, errors, each = b"", b"", b"-s" in flags
-    for number, message in enumerate(messages(text) if each else [text], 1):
-        if any(letter in PRINTING for letter, _ in given):
+    for number, message in enumerate(messages(text, how) if each else [text], 1):
+        printing = any(letter in PRINTING for letter, _ in given)
+        if each and is_left_alone(message, how):
+            result, reason = b"" if printing else message, None
+        elif printing:
             result, reason = shown(message, given, flags, path)
         else:
-            result, reason = filtered(message, given, flags, path)
+            result, reason = filtered(message, given, flags, path, how)
         output += result
         errors += b"message %d: %s\n" % (number, reason.encode()) if reason else b""
     return output, errors, 1 if errors and b"--refused-ok" not in flags else 0

@@ -9,12 +9,13 @@ Answer = namedtuple("Answer", "status output errors files loose", defaults=(Fals
 
 OPTIONS = {
     b"sections": (b"--from",), b"extract": (b"-s", b"--from"), b"unpack": (b"-C", b"--from"),
-    b"field": (b"--drop", b"--rename", b"-a", b"-A", b"-i", b"-I", b"-u", b"-U", b"-x", b"-X", b"-p", b"--from"),
+    b"field": (b"--drop", b"--rename", b"-a", b"-A", b"-i", b"-I", b"-u", b"-U", b"-x", b"-X", b"-p", b"--mbox", b"--from"),
     b"edit": (b"-j", b"-e", b"--from"), b"undo": (b"-j", b"--from"), b"redo": (b"-j", b"--from"), b"pack": (b"-b", b"--forward"),
 }
 FLAGS = {b"unpack": (b"-f", b"-t", b"--silent", b"--utf8"), b"field": (b"-s", b"--unfold", b"--decode", b"--encode", b"--eol", b"--refused-ok"),
          b"pack": (b"--utf8",), b"edit": (b"--all", b"--eol", b"--explain")}
 AGAIN = {b"edit": (b"-e",), b"pack": (b"--forward",), b"field": (b"--drop", b"--rename", b"-a", b"-A", b"-i", b"-I", b"-u", b"-U")}
+HOW = (b"any", b"field")                                  # --mbox=date isn't in the plain program
 NEEDED = {b"extract": b"-s", b"undo": b"-j", b"redo": b"-j", b"pack": b"-b"}
 
 
@@ -66,8 +67,10 @@ def letters_given(found):
 
 
 def are_letters_valid(found):
-    """`--unfold` and `--decode` are for `-x`, `--encode` and `--eol` for letters that take a field, and `-p` takes a path (own)."""
+    """`--unfold` and `--decode` are for `-x`, `--encode` and `--eol` for letters that take a field, `-p` takes a path, and `--mbox` is for `-s` (own)."""
     if listing.path_of(found.get(b"-p", b"1")) is None:
+        return False
+    if b"--mbox" in found and (found[b"--mbox"] not in HOW or b"-s" not in found):
         return False
     given = letters_given(found)
     shapes, adds = any(flag in found for flag in letters.SHAPES), any(letter in letters.WITH_FIELDS for letter, _ in given)
@@ -138,7 +141,7 @@ def obeyed(run):
         plain = listing.extract(message, found[b"-s"])
     elif command == b"field":
         plain = letters.run(message, letters_given(found), [flag for flag in found if found[flag] is True],
-                            listing.path_of(found.get(b"-p", b"1")))
+                            listing.path_of(found.get(b"-p", b"1")), found.get(b"--mbox", b"any"))
     else:
         plain = run_pack(found, others, message, run.files)
     return *plain, run.files
