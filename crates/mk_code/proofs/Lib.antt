@@ -23,3 +23,4 @@ mod Vectors
 pub mod NoReturns
 pub mod WholeLines
 pub mod Utf8
+pub mod Spaced

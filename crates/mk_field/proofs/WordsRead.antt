@@ -1,9 +1,9 @@
 -- A value that was written in encoded words is read again.
-use Rattle.std.proofs.Common.{◌≡◌, ◌==◌, ◌||◌, ◌++◌, if◌then◌else◌, ℕ, Bool, true, false, not, List, [], ◌∷◌, Some, refl, ap, sym, ◌∙◌, map}
+use Rattle.std.proofs.Common.{◌≡◌, ◌==◌, ◌||◌, ◌++◌, ◌<◌, if◌then◌else◌, ℕ, Bool, suc, zero, true, false, not, List, [], ◌∷◌, Some, refl, ap, sym, ◌∙◌, get_or, lit<, map}
 use Rattle.std.specs.Prelude.{codes}
 use Rattle.std.specs.List.{list_all}
 use Rattle.std.specs.Str.{IsUtf8, is_utf8}
-use Rattle.std.proofs.lemmas.Str.{IsUtf8-append, IsUtf8-from_is_utf8, is_utf8-from_IsUtf8}
+use Rattle.std.proofs.lemmas.Str.{IsUtf8-append, IsUtf8-from_ascii, is_utf8-from_IsUtf8}
 use Rattle.std.proofs.lemmas.Bool.{and_parts, not-true}
 use Rattle.base64.specs.GeneralPurpose.{IsBytes}
 use Rattle.mk_line.specs.declared.cutting.Ending.{Ending}
@@ -11,10 +11,11 @@ use Rattle.mk_line.specs.Ascii.{is_blank, is_name_byte}
 use Rattle.mk_line.specs.Lines.{is_nil}
 use Rattle.mk_line.specs.Marks.{trimmed, trimmed_before}
 use Rattle.mk_head.specs.Values.{stripped}
-use Rattle.mk_code.specs.EncodedWords.{Run, Gap, Word, has_pair, is_shown, run_before, runs, shown, text_decoded, unfolded, words_decoded, words_encoded}
+use Rattle.mk_code.specs.EncodedWords.{has_pair, is_shown, text_decoded, words_decoded, words_encoded}
 use Rattle.mk_code.proofs.OutputCuts.{differs}
 use Rattle.mk_code.proofs.WordsBack.{words_back}
-use Rattle.mk_code.proofs.WordsKept.{unfold_byte, words_kept}
+use Rattle.mk_code.proofs.Spaced.{space_decoded, text_whole}
+use Rattle.mk_code.proofs.WordsKept.{words_kept}
 use Rattle.mk_script.specs.Paths.{parted}
 use Rattle.mk_script.proofs.PieceLemmas.{HoldsNo, parted-append}
 use Rattle.mk_field.specs.Filtering.{behind_colon, part_behind}
@@ -25,15 +26,6 @@ use Rattle.mk_field.specs.Wording.{decoded_value, line_byte}
 use Rattle.mk_mail.proofs.Plainness.{needed, plain_stays}
 use Rattle.mk_field.specs.WordLaws.{WordedFieldsAreRead}
 
--- a space before a value stays before what it says
-space_shown : (which : _) (rs : List Run) → shown which false (run_before 32 rs) ≡ 32 ∷ shown which false rs
-space_shown which [] = refl
-space_shown which (Gap gap ∷ rs) = refl
-space_shown which (Word word ∷ rs) = refl
-
-space_decoded : (value : List ℕ) → words_decoded (32 ∷ value) ≡ 32 ∷ words_decoded value
-space_decoded value = ap (λ bytes. shown _ false (runs bytes)) (unfold_byte 32 value refl refl) ∙ space_shown _ (runs (unfolded value))
-
 -- a text on one line stays as it is
 line_kept : (text : List ℕ) → is_one_line text ≡ true → map line_byte text ≡ text
 line_kept [] h = refl
@@ -41,15 +33,15 @@ line_kept (x ∷ xs) h =
     let both = and_parts (not (x == 13 || x == 10)) (is_one_line xs) h in
     rw (not-true (x == 13 || x == 10) both.0) (ap (λ ys. x ∷ ys) (line_kept xs both.1))
 
--- all words are decoded where that gives UTF-8
 all_decoded : (value text : List ℕ) → words_decoded value ≡ text → IsUtf8 text → text_decoded value ≡ text
-all_decoded value text d u = chosen (words_decoded value) _ (ap is_utf8 d ∙ is_utf8-from_IsUtf8 text u) ∙ d
-  where
-    chosen : (all some : List ℕ) → is_utf8 all ≡ true → (if is_utf8 all then all else some) ≡ all
-    chosen all some h = rw h refl
+all_decoded value text d u = text_whole value (ap is_utf8 d ∙ is_utf8-from_IsUtf8 text u) ∙ d
+
+space_ascii : (i : ℕ) → get_or (32 ∷ []) i 0 < 128
+space_ascii zero = lit< tt
+space_ascii (suc i) = lit< tt
 
 space_is_text : (text : List ℕ) → IsUtf8 text → IsUtf8 (32 ∷ text)
-space_is_text text u = IsUtf8-append (32 ∷ []) text (IsUtf8-from_is_utf8 (32 ∷ []) refl) u
+space_is_text text u = IsUtf8-append (32 ∷ []) text (IsUtf8-from_ascii (32 ∷ []) space_ascii) u
 
 spaced_value : (value text : List ℕ) → words_decoded value ≡ text → IsUtf8 text → is_one_line text ≡ true → stripped text ≡ text → decoded_value (32 ∷ value) ≡ text
 spaced_value value text d u l s =
