@@ -106,11 +106,14 @@ const LINES: &str = r"
 step: encode 1 qp
 step: encode 1.2 base64
 step: encode 1.2.3 8bit
+step: encode 1 quoted-printable
+step: encode 1 identity
 
 == no such encoding
 fault: encode 1 7bit
 fault: encode 1 QP
-fault: encode 1 quoted-printable
+fault: encode 1 Quoted-Printable
+fault: encode 1 other
 fault: encode 1\x20
 fault: encode 1
 

@@ -107,10 +107,10 @@ message: A: =?koi8-r?B?8A==?= =?utf-8?Q?b?=\n
 output: =?koi8-r?B?8A==?= b\n
 status: Well
 
-== bytes that aren't UTF-8 stand as they are
+== bytes that aren't UTF-8 stand as they are, and a word that stands for one stays
 take: A:
-message: A: caf\xe9 =?utf-8?Q?=E9?=\n
-output: caf\xe9 \xe9\n
+message: A: caf\xe9 =?utf-8?Q?=E9?= =?utf-8?Q?b?=\n
+output: caf\xe9 =?utf-8?Q?=E9?= b\n
 status: Well
 
 == a line break in an encoded word is no line break
