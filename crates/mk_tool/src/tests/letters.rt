@@ -4,7 +4,7 @@ use super::{check_refused, check_rows, obeyed};
 use std::test::Fail;
 
 /// What is asked of a message, and what comes out where all is well.
-const WELL: &str = r"
+const WELL: &str = r#"
 == no letter at all
 words: field
 message: A: 1\nB: 2\nA: 3\n\nx\n
@@ -179,7 +179,7 @@ output: B: 2\nFrom: =?utf-8?B?SsO2cmc=?= <j@x.org>\n\nx\n
 status: Well
 
 == a parameter with a charset
-words: field|--encode|-I|Content-Disposition: attachment; filename=\x22Ü 1.txt\x22
+words: field|--encode|-I|Content-Disposition: attachment; filename="Ü 1.txt"
 message: B: 2\n\nx\n
 output: B: 2\nContent-Disposition: attachment; filename*=utf-8''%C3%9C%201.txt\n\nx\n
 status: Well
@@ -189,7 +189,7 @@ words: field|-I|A: ä
 message: A: 1\nB: 2\nA: 3\n\nx\n
 output: B: 2\nA: \xc3\xa4\n\nx\n
 status: Well
-";
+"#;
 
 #[test]
 fn each_letter_does_its_own(rt: HostRuntime) -> Result<(), Fail> {
@@ -197,7 +197,7 @@ fn each_letter_does_its_own(rt: HostRuntime) -> Result<(), Fail> {
 }
 
 /// Words that the command line doesn't have.
-const REFUSED: &str = r"
+const REFUSED: &str = r#"
 == no field after a letter
 words: field|-a
 
@@ -219,8 +219,8 @@ words: field|--encode|-A|Content-Type: text/ä
 begins: error: invalid value 'Content-Type: text/ä' for '-A <FIELD>': in such a field --encode only encodes names, comments and parameters
 
 == bytes after a quoted string
-words: field|--encode|-I|Content-Disposition: attachment; filename=\x22ä\x22 b
-begins: error: invalid value 'Content-Disposition: attachment; filename=\x22ä\x22 b' for '-I <FIELD>': in such a field --encode only encodes names, comments and parameters
+words: field|--encode|-I|Content-Disposition: attachment; filename="ä" b
+begins: error: invalid value 'Content-Disposition: attachment; filename="ä" b' for '-I <FIELD>': in such a field --encode only encodes names, comments and parameters
 
 == a name alone
 words: field|--encode|-A|A: ä|-A|Resent-To: Jörg
@@ -237,7 +237,7 @@ words: field|-s|-s
 
 == a field without a letter
 words: field|A: 1
-";
+"#;
 
 #[test]
 fn other_words_are_refused(rt: HostRuntime) -> Result<(), Fail> {
