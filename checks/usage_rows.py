@@ -119,7 +119,7 @@ SAID = [
     ("a file for redo", ["redo", "-j", "j", "f"], ["unexpected argument 'f' found", "'--from f'", "'--in-place f'", "Usage: mimetool redo"]),
     *[(f"{words[0]} of formail", ["field", *words], [f"unexpected argument '{words[0]}' found", tip, "Usage: mimetool field"]) for words, tip in (
         (["-R", "A", "B"], "write '--rename OLD:NEW'"), (["-c", "-x", "A:"], "write '--unfold' with -x"), (["-z"], "'--unfold' with -x"),
-        (["-k"], "the body is always kept"), (["-r"], "no replies are written"), (["-D", "99", "f"], "no Message-IDs are kept"))],
+        (["-k"], "the body is always kept"), (["-r"], "mimetool writes no replies"), (["-D", "99", "f"], "no Message-IDs are kept"))],
     ("a letter in capitals", ["field", "--Rename", "A:B"], ["unexpected argument '--Rename' found", "Usage: mimetool field"]),
 ]
 
