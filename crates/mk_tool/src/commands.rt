@@ -6,7 +6,7 @@ use crate::letters::letter_words;
 use crate::mailboxes::{Picked, from_lines, messages, pick_message};
 use crate::packing::pack;
 use clap::ArgMatches;
-use mk_mail::{NameForm, Sink, Source};
+use mk_mail::{FromLines, NameForm, Sink, Source};
 use mk_messages::InMemory;
 use mk_run::{
     Cause, FieldFilter, FieldForm, Manner, Portion, Report, Status, Stop, UnpackOptions, ValueForm,
@@ -227,7 +227,7 @@ fn field<R: AllocGlobal, S: Source, O: Sink, E: Sink>(
     let filter = FieldFilter {
         rounds: &rounds,
         form: value_form(matches),
-        from_lines: from_lines(matches),
+        from_lines: from_lines(matches).unwrap_or(FromLines::Any),
         path: &path,
     };
     if !filter.ok() {

@@ -29,7 +29,12 @@ pub fn messages<S: Source, O: Sink>(
     input: &mut S,
     out: &mut O,
 ) -> Result<Status, Problem> {
-    try_messages(alloc, input, out, from_lines(matches))?;
+    try_messages(
+        alloc,
+        input,
+        out,
+        from_lines(matches).unwrap_or(FromLines::Any),
+    )?;
     Ok(Status::Well)
 }
 
@@ -46,7 +51,12 @@ pub fn pick_message<S: Source, E: Sink>(
     let Some(number) = message_number(alloc, word)? else {
         return Ok(Picked::Missing);
     };
-    match pick(alloc, input, from_lines(matches), number) {
+    match pick(
+        alloc,
+        input,
+        from_lines(matches).unwrap_or(FromLines::Any),
+        number,
+    ) {
         Ok(Some(message)) => Ok(Picked::Message(alone(alloc, matches, message)?)),
         Ok(None) => match report_missing(alloc, err, number) {
             Ok(()) => Ok(Picked::Missing),
@@ -79,24 +89,16 @@ pub fn message_number(alloc: Global, word: &str) -> Result<Option<u32>, AllocErr
     }
 }
 
-/// Which From-lines begin a message.
-pub fn from_lines(matches: &ArgMatches<'_>) -> FromLines {
+/// Which From-lines begin a message. `None` where the word of `--mbox` names none.
+pub fn from_lines(matches: &ArgMatches<'_>) -> Option<FromLines> {
     if matches.get_flag(RFC4155) {
-        return FromLines::Dated;
+        return Some(FromLines::Dated);
     }
     match matches.get_str(MBOX) {
-        Some(word) => from_lines_of(word).unwrap_or(FromLines::Any),
-        None => FromLines::Any,
-    }
-}
-
-/// The From-lines that a word of `--mbox` means; none for another word.
-pub fn from_lines_of(word: &str) -> Option<FromLines> {
-    match word {
-        "any" => Some(FromLines::Any),
-        "date" => Some(FromLines::Dated),
-        "field" => Some(FromLines::Fielded),
-        _ => None,
+        None | Some("any") => Some(FromLines::Any),
+        Some("date") => Some(FromLines::Dated),
+        Some("field") => Some(FromLines::Fielded),
+        Some(_) => None,
     }
 }
 

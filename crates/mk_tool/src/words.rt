@@ -2,7 +2,7 @@
 
 use crate::faults::Problem;
 use crate::letters::{placed_words, why_no_values, why_refused};
-use crate::mailboxes::{from_lines_of, message_number};
+use crate::mailboxes::{from_lines, message_number};
 use clap::ArgMatches;
 use mk_run::Spec;
 use mk_script::numbers;
@@ -84,7 +84,11 @@ fn why_no_message(
     if name == MESSAGES || matches.get_flag(EACH) {
         return Ok(None);
     }
-    let Some(option) = cutting_option(matches) else {
+    let option = if matches.get_flag(RFC4155) {
+        "--rfc4155"
+    } else if matches.get_str(MBOX).is_some() {
+        "--mbox"
+    } else {
         return Ok(None);
     };
     let other = if name == FIELD { "-s" } else { "-n" };
@@ -94,29 +98,18 @@ fn why_no_message(
     Ok(Some(sentence))
 }
 
-// Why the word of `--mbox` means no From-lines, if it doesn't.
+// Why the word of `--mbox` names no From-lines, if it doesn't.
 fn why_no_cuts(alloc: Global, matches: &ArgMatches<'_>) -> Result<Option<String>, AllocError> {
     let Some(word) = matches.get_str(MBOX) else {
         return Ok(None);
     };
-    if from_lines_of(word).is_some() {
+    if from_lines(matches).is_some() {
         return Ok(None);
     }
     let sentence = format!(in alloc;
         "invalid value '{word}' for '--mbox <HOW>': write any, date or field"
     )?;
     Ok(Some(sentence))
-}
-
-// The option that says how a mailbox is cut, where there is one.
-fn cutting_option(matches: &ArgMatches<'_>) -> Option<&'static str> {
-    if matches.get_flag(RFC4155) {
-        Some("--rfc4155")
-    } else if matches.get_str(MBOX).is_some() {
-        Some("--mbox")
-    } else {
-        None
-    }
 }
 
 // Why the letters of `field`, or the options with them, are refused, if they are.
