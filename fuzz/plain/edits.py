@@ -29,7 +29,7 @@ def with_fields(entity, head):
 
 
 def field_added(edit, entity):
-    """`add` puts a field behind the others, `top` before them (own)."""
+    """`add` puts a field after the others, `top` before them (own)."""
     field = (tuple(lines.cut(edit.text)),)
     return with_fields(entity, field + entity.fields if edit.word == "top" else entity.fields + field)
 
@@ -86,7 +86,7 @@ def is_about_content(field):
 
 
 def wrapped_body(document, section, ending):
-    """A leaf that no line follows gets an ending behind its body, so that its content stays (own)."""
+    """A leaf that no line follows gets an ending after its body, so that its content stays (own)."""
     body = section.entity.body
     if not isinstance(body, tree.Leaf) or tree.is_followed(document, section):
         return body

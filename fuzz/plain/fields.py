@@ -38,7 +38,7 @@ def place(fields, wanted, number):
 
 
 def value(field):
-    """The value is the contents of the lines, joined, from behind the first colon (RFC 5322, 2.2.3)."""
+    """The value is the contents of the lines, joined, from after the first colon (RFC 5322, 2.2.3)."""
     return b"".join(line.content for line in field).partition(b":")[2]
 
 

@@ -32,13 +32,13 @@ class Reader:
         for byte in expected:
             self.one_of(bytes([byte]))
 
-    def number(self, behind):
+    def number(self, ending):
         """A number is 0, or a digit 1 to 9 and at most 19 digits, and one byte ends it (own)."""
         digits = self.one_of(b"0123456789")
         if digits != b"0":
             while len(digits) < 20 and self.text[self.at:self.at + 1].isdigit():
                 digits += self.one_of(b"0123456789")
-        self.word(behind)
+        self.word(ending)
         return int(digits)
 
     def bytes(self, size):

@@ -33,7 +33,7 @@ def is_left_alone(message, how):
 
 
 def is_bare(field):
-    """A field is bare where only blanks stand behind its colon (own)."""
+    """A field is bare where only blanks stand after its colon (own)."""
     return field.partition(b":")[2].strip(b" \t") == b""
 
 
@@ -174,14 +174,14 @@ def round_filtered(message, letters, flags, path):
 
 
 def shaped(value, flags):
-    """What stands behind a colon, or that on a line, or what it says on a line (own)."""
+    """What stands after a colon, or that on a line, or what it says on a line (own)."""
     if b"--decode" in flags:
         return wording.said(value) + b"\n"
     return wording.unfolded(value) + b"\n" if b"--unfold" in flags else value
 
 
 def shown(message, given, flags, path):
-    """`-X` prints fields of a name whole, `-x` what stands behind their colons (own): text, reason."""
+    """`-X` prints fields of a name whole, `-x` what stands after their colons (own): text, reason."""
     if not has_section(message, path):
         return b"", "NoSuchSection"
     found = b""

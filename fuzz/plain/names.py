@@ -36,7 +36,7 @@ def cleaned(name):
 
 
 def given_name(wanted, earlier):
-    """A name that an earlier leaf has gets the least free number behind it (own)."""
+    """A name that an earlier leaf has gets the least free number after it (own)."""
     if wanted not in earlier:
         return wanted
     return next(name for name in (b"%s.%d" % (wanted, number) for number in range(1, len(earlier) + 2))

@@ -84,7 +84,7 @@ def forwarded(text, ending):
 
 
 def built(given, parts, boundary, ending, messages=()):
-    """The fields, those of a multipart, each part and message behind a delimiter, and the close line (RFC 2046, 5.1)."""
+    """The fields, those of a multipart, each part and message after a delimiter, and the close line (RFC 2046, 5.1)."""
     message = b"".join(field if field.endswith(b"\n") else field + ending for field in given)
     message += b"MIME-Version: 1.0" + ending
     message += b'Content-Type: multipart/mixed; boundary="%s"' % boundary + ending + eight_bit(b"".join(messages), ending) + ending
@@ -96,7 +96,7 @@ def built(given, parts, boundary, ending, messages=()):
 
 
 def run(text, boundary, parts, utf8=False, messages=()):
-    """The input gives the fields and the ending; all but one empty line behind them is refused (own): output, errors, status."""
+    """The input gives the fields and the ending; all but one empty line after them is refused (own): output, errors, status."""
     head, _, body = fields.split(lines.cut(text))
     given = [lines.printed(field) for field in head] + ([b""] if body else [])
     parts = [(media, names_of(name, utf8), content) for media, name, content in parts]

@@ -82,7 +82,7 @@ def child_default(given, default):
 
 
 def cut_by(boundary, body):
-    """A body is a preamble, parts behind delimiters, and the close line with all behind it (RFC 2046, 5.1.1)."""
+    """A body is a preamble, parts after delimiters, and the close line with all after it (RFC 2046, 5.1.1)."""
     ends = [at for at, line in enumerate(body) if lines.is_close_mark(line.content, boundary)]
     end = ends[0] if ends else len(body)
     starts = [at for at in range(end) if lines.is_part_mark(body[at].content, boundary)]
@@ -145,13 +145,13 @@ def printed(given):
 
 
 def body_start(section):
-    """A body begins behind the fields and the separator (RFC 5322, 2.1)."""
+    """A body begins after the fields and the separator (RFC 5322, 2.1)."""
     entity = section.entity
     return section.start + len(fields.printed(entity.fields)) + len(lines.printed(entity.separator))
 
 
 def section_end(section):
-    """A section ends behind its last line (own)."""
+    """A section ends after its last line (own)."""
     return section.start + len(lines.printed(entity_lines(section.entity)))
 
 
@@ -171,7 +171,7 @@ def children(section):
 
 
 def root(given):
-    """The root is section 1, and begins behind the envelope (own)."""
+    """The root is section 1, and begins after the envelope (own)."""
     return Section((1,), given.root, TEXT, len(lines.printed(given.envelope)))
 
 

@@ -21,7 +21,7 @@ def is_boundary(word):
 
 
 def quoted_end(value, start):
-    """A quoted string ends behind its quote, a backslash takes the next byte with it, or it runs to the end (RFC 2045, 5.1; own)."""
+    """A quoted string ends after its quote, a backslash takes the next byte with it, or it runs to the end (RFC 2045, 5.1; own)."""
     at = start + 1
     while at < len(value):
         if value[at:at + 1] == b'"':

@@ -60,7 +60,7 @@ def word_text(word):
 
 
 def runs(text):
-    """Words, and the blanks before, between and behind them."""
+    """Words, and the blanks before, between and after them."""
     found = []
     for byte in text:
         blank = byte in BLANKS

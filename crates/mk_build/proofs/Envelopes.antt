@@ -7,7 +7,7 @@ use Rattle.mk_head.specs.Boundaries.{is_boundary}
 use Rattle.mk_build.specs.declared.building.BuildError.{BuildError}
 use Rattle.mk_build.specs.declared.building.BuildError.TheVariants as build
 use Rattle.mk_build.specs.Building.{Attached, first_failing, is_free_field, is_media, is_name_or_none}
-use Rattle.mk_build.specs.Forwards.{Forwarded, behind_envelope, is_clear, or_held, refusal_with, without_envelope}
+use Rattle.mk_build.specs.Forwards.{Forwarded, after_envelope, is_clear, or_held, refusal_with, without_envelope}
 use Rattle.mk_build.specs.ForwardViews.{IsRefusedWith}
 use Rattle.mk_build.specs.MultipartViews.{IsRefusedAs}
 use Rattle.mk_build.specs.Multiparts.{Multipart, multipart_refusal, refusal_as}
@@ -17,9 +17,9 @@ pub envelope_gone : (text : List ℕ) (l : TextLine) (rest : List ℕ) → cut t
 envelope_gone text l rest e t = rw (e, t) (sym (text_cut rest))
 
 pub envelope_none : (text : List ℕ) (l : TextLine) (rest : List ℕ) → cut text ≡ l ∷ cut rest → is_from_line l.content ≡ false → text ≡ without_envelope text
-envelope_none text l rest e f = sym (text_cut text) ∙ ap text_of (e ∙ sym (ap behind_envelope e ∙ stays l (cut rest) f))
+envelope_none text l rest e f = sym (text_cut text) ∙ ap text_of (e ∙ sym (ap after_envelope e ∙ stays l (cut rest) f))
   where
-    stays : (l : TextLine) (ls : List TextLine) → is_from_line l.content ≡ false → behind_envelope (l ∷ ls) ≡ l ∷ ls
+    stays : (l : TextLine) (ls : List TextLine) → is_from_line l.content ≡ false → after_envelope (l ∷ ls) ≡ l ∷ ls
     stays l ls f = rw f refl
 
 -- where no message is forwarded, none holds the boundary

@@ -5,12 +5,12 @@ use Rattle.std.specs.Option.{option_map}
 use Rattle.mk_build.specs.Building.{first_failing}
 
 -- a place after so many others
-abbrev pub behind : ℕ → Option ℕ → Option ℕ
-behind n o = option_map (λ k. n + k) o
+abbrev pub following : ℕ → Option ℕ → Option ℕ
+following n o = option_map (λ k. n + k) o
 
-behind_one : (n : ℕ) (o : Option ℕ) → behind n (option_map suc o) ≡ behind (n + 1) o
-behind_one n None = refl
-behind_one n (Some k) = ap (λ m. Some m) (omega arith)
+after_one : (n : ℕ) (o : Option ℕ) → following n (option_map suc o) ≡ following (n + 1) o
+after_one n None = refl
+after_one n (Some k) = ap (λ m. Some m) (omega arith)
 
 -- the first that fails is not among those that were looked at
 abbrev first_by : {X : Type 0} → (X → Bool) → Bool → List X → Option ℕ
@@ -21,14 +21,14 @@ first_is : {X : Type 0} (test : X → Bool) (x : X) (xs : List X) (t : Bool) →
 first_is test x xs true h = rw h refl
 first_is test x xs false h = rw h refl
 
-pub passes : {X : Type 0} (test : X → Bool) (n : ℕ) (xs rest : List X) (x : X) (o : Option ℕ) → xs ≡ x ∷ rest → test x ≡ true → behind n (first_failing test xs) ≡ o → behind (n + 1) (first_failing test rest) ≡ o
-passes test n xs rest x o e t h = sym (behind_one n (first_failing test rest)) ∙ (ap (behind n) (sym (ap (first_failing test) e ∙ first_is test x rest true t)) ∙ h)
+pub passes : {X : Type 0} (test : X → Bool) (n : ℕ) (xs rest : List X) (x : X) (o : Option ℕ) → xs ≡ x ∷ rest → test x ≡ true → following n (first_failing test xs) ≡ o → following (n + 1) (first_failing test rest) ≡ o
+passes test n xs rest x o e t h = sym (after_one n (first_failing test rest)) ∙ (ap (following n) (sym (ap (first_failing test) e ∙ first_is test x rest true t)) ∙ h)
 
-some_at : (n : ℕ) → ◌≡◌ {A = Option ℕ} (Some n) (behind n (Some 0))
+some_at : (n : ℕ) → ◌≡◌ {A = Option ℕ} (Some n) (following n (Some 0))
 some_at n = let e : n ≡ n + 0 = omega arith in ap (λ m. Some m) e
 
-pub fails : {X : Type 0} (test : X → Bool) (n : ℕ) (xs rest : List X) (x : X) (o : Option ℕ) → xs ≡ x ∷ rest → test x ≡ false → behind n (first_failing test xs) ≡ o → Some n ≡ o
-fails test n xs rest x o e t h = some_at n ∙ (ap (behind n) (sym (ap (first_failing test) e ∙ first_is test x rest false t)) ∙ h)
+pub fails : {X : Type 0} (test : X → Bool) (n : ℕ) (xs rest : List X) (x : X) (o : Option ℕ) → xs ≡ x ∷ rest → test x ≡ false → following n (first_failing test xs) ≡ o → Some n ≡ o
+fails test n xs rest x o e t h = some_at n ∙ (ap (following n) (sym (ap (first_failing test) e ∙ first_is test x rest false t)) ∙ h)
 
 -- the list from an index on
 pub from_index : {X Y : Type 0} (f : X → Y) (i : ℕ) (xs : List X) (x : X) → i < length xs → x ≡ get_or xs i x → drop i (map f xs) ≡ f x ∷ drop (i + 1) (map f xs)

@@ -10,7 +10,7 @@ use Rattle.mk_head.specs.Boundaries.{is_boundary}
 use Rattle.mk_head.specs.Fields.{is_one_field, name_of}
 use Rattle.mk_head.specs.Values.{is_token, lowered}
 use Rattle.mk_line.specs.Ascii.{backslash, quote, slash, underscore}
-use Rattle.mk_line.specs.Parting.{before, behind}
+use Rattle.mk_line.specs.Parting.{before, following}
 use Rattle.mk_line.specs.Lines.{ends_open}
 use Rattle.mk_code.specs.Base64Text.{base64_encoded}
 use Rattle.mk_code.specs.EncodedWords.{is_shown}
@@ -45,7 +45,7 @@ is_subtype (Some sub) = is_token sub
 
 -- a media type that may be attached: token, slash, token (RFC 2045, 5.1)
 abbrev pub is_media : List ℕ → Bool
-is_media media = nat_le (length media) longest && (is_token (before slash media) && (is_subtype (behind slash media) && is_single (before slash media)))
+is_media media = nat_le (length media) longest && (is_token (before slash media) && (is_subtype (following slash media) && is_single (before slash media)))
 
 -- a byte of a name: 32 to 126, no quote and no backslash (own)
 abbrev pub is_name_byte : ℕ → Bool

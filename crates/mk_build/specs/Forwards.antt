@@ -18,13 +18,13 @@ pub record Forwarded : Type 0 where
   pub inline : Bool
 
 -- lines without the line that a mailbox puts before a message, where it is there (own)
-abbrev pub behind_envelope : List TextLine → List TextLine
-behind_envelope [] = []
-behind_envelope (l ∷ ls) = if is_from_line l.content then ls else l ∷ ls
+abbrev pub after_envelope : List TextLine → List TextLine
+after_envelope [] = []
+after_envelope (l ∷ ls) = if is_from_line l.content then ls else l ∷ ls
 
 -- a text without that line
 abbrev pub without_envelope : List ℕ → List ℕ
-without_envelope text = text_of (behind_envelope (cut text))
+without_envelope text = text_of (after_envelope (cut text))
 
 -- some byte is 128 or more (RFC 2045, 2.8)
 abbrev pub is_8bit : List ℕ → Bool

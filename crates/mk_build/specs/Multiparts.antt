@@ -6,7 +6,7 @@ use Rattle.std.specs.Str.{bytes_eq}
 use Rattle.mk_line.specs.declared.cutting.Ending.{Ending}
 use Rattle.mk_line.specs.Ascii.{slash}
 use Rattle.mk_line.specs.Lines.{ending_bytes}
-use Rattle.mk_line.specs.Parting.{before, behind}
+use Rattle.mk_line.specs.Parting.{before, following}
 use Rattle.mk_head.specs.Boundaries.{is_boundary}
 use Rattle.mk_head.specs.Values.{is_token, lowered}
 use Rattle.mk_build.specs.declared.building.BuildError.{BuildError}
@@ -30,7 +30,7 @@ mixed boundary = record { subtype = codes "mixed"; charset = None; boundary = bo
 
 -- a media type of texts, in any case: `text` before a slash (RFC 2046, 4.1)
 abbrev pub is_text : List ℕ → Bool
-is_text media = is_some (behind slash media) && bytes_eq (lowered (before slash media)) (codes "text")
+is_text media = is_some (following slash media) && bytes_eq (lowered (before slash media)) (codes "text")
 
 -- the charset of a media type: none but for texts (RFC 2046, 4.1.2)
 abbrev pub charset_for : Option (List ℕ) → List ℕ → Option (List ℕ)

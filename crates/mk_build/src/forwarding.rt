@@ -4,7 +4,7 @@ ghost use Rattle.std.specs.List.{flat_map, starts_with};
 ghost use Rattle.mk_line.specs.Lines.{ends_in_return as ends_in_cr};
 ghost use Rattle.mk_line.specs.Marks.{dashed};
 ghost use Rattle.mk_build.specs.Building.{first_failing};
-ghost use Rattle.mk_build.specs.Forwards.{are_8bit as have_8bit, attachment_line, eight_bit_line, ending_after as ending_behind, forwarded_part, is_8bit as has_8bit, is_clear as is_clear_text, without_envelope as message_of};
+ghost use Rattle.mk_build.specs.Forwards.{are_8bit as have_8bit, attachment_line, eight_bit_line, ending_after as ending_following, forwarded_part, is_8bit as has_8bit, is_clear as is_clear_text, without_envelope as message_of};
 ghost use Rattle.mk_build.specs.ForwardViews.{forwarded_of};
 
 use mk_line::{Ending, cut, first_line, is_from_line, push_delimiter};
@@ -171,7 +171,7 @@ pub(crate) fn push_8bit(text: &mut Vec<u8>, wide: bool, eol: Ending) -> Result<(
 
 // The ending between a message and the next delimiter.
 fn ending_after(message: &[u8], eol: Ending) -> Ending
-    ensures { result ≡ ending_behind eol message.now }
+    ensures { result ≡ ending_following eol message.now }
 {
     if ends_in_return(message) {
         Ending::Crlf

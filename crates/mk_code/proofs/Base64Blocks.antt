@@ -43,13 +43,13 @@ same_cuts (x ∷ a) (y ∷ p) b q l e =
     (λ i. first i ∷ rest.0 i, rest.1)
 
 -- the bytes of letters, cut after whole groups of them
-record IsSplit (bytes front behind : List ℕ) : Type 0 where
+record IsSplit (bytes front following : List ℕ) : Type 0 where
   early : List ℕ
   late : List ℕ
   early_bytes : IsBytes early
   late_bytes : IsBytes late
   front_is : encoded early ≡ front
-  behind_is : encoded late ≡ behind
+  following_is : encoded late ≡ following
 
 split_encoded : (x p q : List ℕ) → IsBytes x → encoded x ≡ p ++ q → length p % 4 ≡ 0 → IsSplit x p q
 split_encoded x p q h e g =
@@ -68,7 +68,7 @@ split_encoded x p q h e g =
       early_bytes = front_bytes (take n x) (drop n x) whole;
       late_bytes = back_bytes (take n x) (drop n x) whole;
       front_is = cuts.0;
-      behind_is = cuts.1;
+      following_is = cuts.1;
     }
 
 -- what was decoded of a text, and the letters that wait, before the rest
@@ -78,15 +78,15 @@ pub record IsUnderWay (text out found rest : List ℕ) : Type 0 where
   pub parts : letters text ≡ encoded out ++ (found ++ filter is_letter rest)
 
 -- letters of a block are gathered
-pub block_gathered : (text out found found1 rest front behind : List ℕ) → IsUnderWay text out found rest → rest ≡ front ++ behind → found1 ≡ found ++ filter is_letter front → IsUnderWay text out found1 behind
-block_gathered text out found found1 rest front behind h e f = record {
+pub block_gathered : (text out found found1 rest front following : List ℕ) → IsUnderWay text out found rest → rest ≡ front ++ following → found1 ≡ found ++ filter is_letter front → IsUnderWay text out found1 following
+block_gathered text out found found1 rest front following h e f = record {
   are_bytes = h.are_bytes;
   thirds = h.thirds;
   parts =
       h.parts
       ∙ ap (λ xs. encoded out ++ xs) (ap (λ xs. found ++ filter is_letter xs) e
-      ∙ (ap (λ xs. found ++ xs) (filter-append is_letter front behind)
-      ∙ (sym (append_assoc found (filter is_letter front) (filter is_letter behind)) ∙ ap (λ xs. xs ++ filter is_letter behind) (sym f))));
+      ∙ (ap (λ xs. found ++ xs) (filter-append is_letter front following)
+      ∙ (sym (append_assoc found (filter is_letter front) (filter is_letter following)) ∙ ap (λ xs. xs ++ filter is_letter following) (sym f))));
 }
 
 -- whole groups of them are decoded
@@ -113,22 +113,22 @@ all_decoded text out out1 found rest h n d = (
 )
 
 -- letters that are the encoding of no bytes
-behind_decoded : (text out found rest x : List ℕ) → IsUnderWay text out found rest → IsBase64Of text x → IsSplit x (encoded out) (found ++ filter is_letter rest)
-behind_decoded text out found rest x h b =
+after_decoded : (text out found rest x : List ℕ) → IsUnderWay text out found rest → IsBase64Of text x → IsSplit x (encoded out) (found ++ filter is_letter rest)
+after_decoded text out found rest x h b =
     split_encoded x (encoded out) (found ++ filter is_letter rest) b.0 (sym b.1 ∙ h.parts) (omega (arith, length_encoded out, h.thirds))
 
 bad_groups : (text out found rest : List ℕ) → IsUnderWay text out found rest → HasBadGroups found → (x : List ℕ) → ¬ IsBase64Of text x
 bad_groups text out found rest h bad x b =
-    let later = behind_decoded text out found rest x h b in
-    let parts : encoded later.late ≡ bad.front ++ (bad.behind ++ filter is_letter rest) =
-    later.behind_is ∙ (ap (λ xs. xs ++ filter is_letter rest) bad.parts ∙ append_assoc bad.front bad.behind (filter is_letter rest)) in
-    let there = split_encoded later.late bad.front (bad.behind ++ filter is_letter rest) later.late_bytes parts bad.grouped in
+    let later = after_decoded text out found rest x h b in
+    let parts : encoded later.late ≡ bad.front ++ (bad.following ++ filter is_letter rest) =
+    later.following_is ∙ (ap (λ xs. xs ++ filter is_letter rest) bad.parts ∙ append_assoc bad.front bad.following (filter is_letter rest)) in
+    let there = split_encoded later.late bad.front (bad.following ++ filter is_letter rest) later.late_bytes parts bad.grouped in
     bad.none there.early there.early_bytes (sym there.front_is)
 
 bad_end : (text out found rest : List ℕ) → IsUnderWay text out found rest → rest ≡ [] → EncodesNothing found → (x : List ℕ) → ¬ IsBase64Of text x
 bad_end text out found rest h n none x b =
-    let later = behind_decoded text out found rest x h b in
-    none later.late later.late_bytes (sym (later.behind_is ∙ (ap (λ xs. found ++ filter is_letter xs) n ∙ append-nil found)))
+    let later = after_decoded text out found rest x h b in
+    none later.late later.late_bytes (sym (later.following_is ∙ (ap (λ xs. found ++ filter is_letter xs) n ∙ append-nil found)))
 
 pub groups_thirds : (out found front out1 : List ℕ) (whole : ℕ) → length out % 3 ≡ 0 → whole ≡ length found / 4 * 4 → front ≡ take whole found → HasDecoded out front out1 [] → length out1 % 3 ≡ 0
 groups_thirds out found front out1 whole t w f d =
@@ -140,7 +140,7 @@ groups_thirds out found front out1 whole t w f d =
 groups_bad : (found front : List ℕ) (whole : ℕ) → whole ≡ length found / 4 * 4 → front ≡ take whole found → EncodesNothing front → HasBadGroups found
 groups_bad found front whole w f none = record {
   front = front;
-  behind = drop whole found;
+  following = drop whole found;
   parts = sym (take-append-drop whole found) ∙ ap (λ xs. xs ++ drop whole found) (sym f);
   grouped = omega (arith, w, ap length f, length-take-le whole found (omega (arith, w)));
   none = none;
@@ -172,8 +172,8 @@ not_begun text out found rest o f l = record {
 }
 
 -- a text cut in two
-pub cut_in_two : (text front behind : List ℕ) (n : ℕ) → front ≡ take n text → behind ≡ drop n text → text ≡ front ++ behind
-cut_in_two text front behind n e f = sym (take-append-drop n text) ∙ (λ i. sym e i ++ sym f i)
+pub cut_in_two : (text front following : List ℕ) (n : ℕ) → front ≡ take n text → following ≡ drop n text → text ≡ front ++ following
+cut_in_two text front following n e f = sym (take-append-drop n text) ∙ (λ i. sym e i ++ sym f i)
 
 pub emptied : (text : List ℕ) (t : Bool) → t ≡ (length text == 0) → t ≡ true → text ≡ []
 emptied text t e h = nil_from_length text (eqb-true (length text) 0 (sym e ∙ h))

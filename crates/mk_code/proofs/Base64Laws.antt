@@ -48,16 +48,16 @@ letters_letter byte bytes h =
 letters_other : (byte : ℕ) (bytes : List ℕ) → is_letter byte ≡ false → (byte == 61) ≡ false → letters (byte ∷ bytes) ≡ letters bytes
 letters_other byte bytes h e = rw (take_while-cons (λ b. not (b == equals_sign)) byte bytes, e, h) refl
 
-letters_behind : (eol : Ending) (bytes : List ℕ) → letters (ending_bytes eol ++ bytes) ≡ letters bytes
-letters_behind Crlf bytes = letters_other 13 (10 ∷ bytes) refl refl ∙ letters_other 10 bytes refl refl
-letters_behind Lf bytes = letters_other 10 bytes refl refl
-letters_behind Missing bytes = refl
+letters_after : (eol : Ending) (bytes : List ℕ) → letters (ending_bytes eol ++ bytes) ≡ letters bytes
+letters_after Crlf bytes = letters_other 13 (10 ∷ bytes) refl refl ∙ letters_other 10 bytes refl refl
+letters_after Lf bytes = letters_other 10 bytes refl refl
+letters_after Missing bytes = refl
 
 -- the letters of lines are the letters
 padding_lined : (eol : Ending) (left n : ℕ) → letters (lined (ending_bytes eol) left (replicate n 61)) ≡ []
 unfolding lined
 padding_lined eol left zero = refl
-padding_lined eol zero (suc n) = letters_behind eol (61 ∷ lined (ending_bytes eol) 75 (replicate n 61)) ∙ letters_equals (lined (ending_bytes eol) 75 (replicate n 61))
+padding_lined eol zero (suc n) = letters_after eol (61 ∷ lined (ending_bytes eol) 75 (replicate n 61)) ∙ letters_equals (lined (ending_bytes eol) 75 (replicate n 61))
 padding_lined eol (suc left) (suc n) = letters_equals (lined (ending_bytes eol) left (replicate n 61))
 
 letters_lined : (eol : Ending) (xs : List ℕ) (left n : ℕ) → list_all is_letter xs ≡ true → letters (lined (ending_bytes eol) left (xs ++ replicate n 61)) ≡ xs
@@ -65,7 +65,7 @@ unfolding lined
 letters_lined eol [] left n h = padding_lined eol left n
 letters_lined eol (x ∷ xs) zero n h =
     let both = and_parts (is_letter x) (list_all is_letter xs) h in
-    letters_behind eol (x ∷ lined (ending_bytes eol) 75 (xs ++ replicate n 61))
+    letters_after eol (x ∷ lined (ending_bytes eol) 75 (xs ++ replicate n 61))
     ∙ (letters_letter x (lined (ending_bytes eol) 75 (xs ++ replicate n 61)) both.0 ∙ ap (λ ys. x ∷ ys) (letters_lined eol xs 75 n both.1))
 letters_lined eol (x ∷ xs) (suc left) n h =
     let both = and_parts (is_letter x) (list_all is_letter xs) h in

@@ -11,11 +11,11 @@ use Rattle.mk_code.specs.inner.Strays.{is_stray}
 use Rattle.mk_line.specs.Ascii.{equals_sign}
 
 -- what comes before the first `=`
-pub before_found : (front behind : List ℕ) → has_byte 61 front ≡ false → front ≡ take_while (λ byte. not (byte == equals_sign)) (front ++ 61 ∷ behind)
-before_found [] behind h = sym (take_while-cons (λ byte. not (byte == equals_sign)) 61 behind)
-before_found (x ∷ xs) behind h =
+pub before_found : (front following : List ℕ) → has_byte 61 front ≡ false → front ≡ take_while (λ byte. not (byte == equals_sign)) (front ++ 61 ∷ following)
+before_found [] following h = sym (take_while-cons (λ byte. not (byte == equals_sign)) 61 following)
+before_found (x ∷ xs) following h =
     let parts = or_parts (x == 61) (has_byte 61 xs) h in
-    rw (take_while-cons (λ byte. not (byte == equals_sign)) x (xs ++ 61 ∷ behind), parts.0) (ap (λ ys. x ∷ ys) (before_found xs behind parts.1))
+    rw (take_while-cons (λ byte. not (byte == equals_sign)) x (xs ++ 61 ∷ following), parts.0) (ap (λ ys. x ∷ ys) (before_found xs following parts.1))
 
 pub before_unfound : (text : List ℕ) → has_byte 61 text ≡ false → text ≡ take_while (λ byte. not (byte == equals_sign)) text
 before_unfound [] h = refl
@@ -53,5 +53,5 @@ strays_passed (x ∷ xs) =
     ]
 
 -- what follows the stray bytes at the start has all the letters
-pub letters_behind : (text : List ℕ) (n : ℕ) → n ≡ prefix_len is_stray text → filter is_letter (take (length text - n) (drop n text)) ≡ filter is_letter text
-letters_behind text n e = ap (filter is_letter) (take_rest text n ∙ ap (λ k. drop k text) e) ∙ strays_passed text
+pub letters_after : (text : List ℕ) (n : ℕ) → n ≡ prefix_len is_stray text → filter is_letter (take (length text - n) (drop n text)) ≡ filter is_letter text
+letters_after text n e = ap (filter is_letter) (take_rest text n ∙ ap (λ k. drop k text) e) ∙ strays_passed text

@@ -91,17 +91,17 @@ pub block_pushed : (eol : Ending) (ending rest out out1 out2 letters block more 
     → letters ≡ encode_of standard block → out1 ≡ out ++ lined ending 76 letters → out2 ≡ out1 ++ ending → out2 ++ base64_encoded eol more ≡ out ++ base64_encoded eol rest
 block_pushed eol ending rest out out1 out2 letters block more g l e f r p q =
     let here = encode_of standard block in
-    let behind = encode_of standard more in
+    let following = encode_of standard more in
     let size : length block ≡ 1824 = ap length e ∙ length-take-le 1824 rest (omega (arith, l)) in
     let size_more : length more ≡ length rest - 1824 = ap length f ∙ length-drop 1824 rest in
     let full : length here ≡ 76 + 76 * 31 = omega (arith, size, length_encoded block) in
-    let some : 0 < length behind = omega (arith, l, size_more, length_encoded more) in
-    let whole : encode_of standard rest ≡ here ++ behind =
+    let some : 0 < length following = omega (arith, l, size_more, length_encoded more) in
+    let whole : encode_of standard rest ≡ here ++ following =
     ap (encode_of standard) (sym (take-append-drop 1824 rest) ∙ (λ i. sym e i ++ sym f i)) ∙ encode_of-append standard block more (omega (arith, size)) in
     ap (λ xs. xs ++ base64_encoded eol more) (q ∙ (ap (λ xs. xs ++ ending) p ∙ (λ i. (out ++ lined (g i) 76 (r i)) ++ g i)))
     ∙ (append_assoc (out ++ lined (ending_bytes eol) 76 here) (ending_bytes eol) (base64_encoded eol more)
     ∙ (append_assoc out (lined (ending_bytes eol) 76 here) (ending_bytes eol ++ base64_encoded eol more)
-    ∙ ap (λ xs. out ++ xs) (sym (lines_before (ending_bytes eol) here behind 31 full some) ∙ ap (lined (ending_bytes eol) 76) (sym whole))))
+    ∙ ap (λ xs. out ++ xs) (sym (lines_before (ending_bytes eol) here following 31 full some) ∙ ap (lined (ending_bytes eol) 76) (sym whole))))
 
 pub block_ended : (eol : Ending) (ending letters rest out out1 : List ℕ) → ending ≡ ending_bytes eol → letters ≡ encode_of standard rest → out1 ≡ out ++ lined ending 76 letters → out1 ≡ out ++ base64_encoded eol rest
 block_ended eol ending letters rest out out1 g r p = p ∙ (λ i. out ++ lined (g i) 76 (r i))

@@ -41,14 +41,14 @@ feed_before (line ∷ lines) h = refl
 before_feed_none : (byte : ℕ) (line : List ℕ) (lines : List (List ℕ)) → (byte == 10) ≡ false → before_lines Lf byte (line ∷ lines) ≡ (byte ∷ line) ∷ lines
 before_feed_none byte line lines h = rw h refl
 
-lf_apart : (front behind : List ℕ) → has_byte 10 front ≡ false → logical_lines Lf (front ++ 10 ∷ behind) ≡ front ∷ logical_lines Lf behind
-lf_apart [] behind h = feed_before (logical_lines Lf behind) (logical_some Lf behind)
-lf_apart (x ∷ xs) behind h =
+lf_apart : (front following : List ℕ) → has_byte 10 front ≡ false → logical_lines Lf (front ++ 10 ∷ following) ≡ front ∷ logical_lines Lf following
+lf_apart [] following h = feed_before (logical_lines Lf following) (logical_some Lf following)
+lf_apart (x ∷ xs) following h =
     let both = or_parts (x == 10) (has_byte 10 xs) h in
-    ap (before_lines Lf x) (lf_apart xs behind both.1) ∙ before_feed_none x xs (logical_lines Lf behind) both.0
+    ap (before_lines Lf x) (lf_apart xs following both.1) ∙ before_feed_none x xs (logical_lines Lf following) both.0
 
-pub lf_parted : (bytes front behind : List ℕ) → bytes ≡ front ++ 10 ∷ behind → has_byte 10 front ≡ false → logical_lines Lf bytes ≡ front ∷ logical_lines Lf behind
-lf_parted bytes front behind e h = ap (logical_lines Lf) e ∙ lf_apart front behind h
+pub lf_parted : (bytes front following : List ℕ) → bytes ≡ front ++ 10 ∷ following → has_byte 10 front ≡ false → logical_lines Lf bytes ≡ front ∷ logical_lines Lf following
+lf_parted bytes front following e h = ap (logical_lines Lf) e ∙ lf_apart front following h
 
 pub lf_whole : (bytes : List ℕ) → has_byte 10 bytes ≡ false → logical_lines Lf bytes ≡ bytes ∷ []
 lf_whole [] h = refl
@@ -74,12 +74,12 @@ crlf_before (line ∷ lines) h = ap (before_lines Crlf 13) (feed_onto line lines
 before_crlf_none : (x y : ℕ) (line : List ℕ) (lines : List (List ℕ)) → (x == 13 && y == 10) ≡ false → before_lines Crlf x ((y ∷ line) ∷ lines) ≡ (x ∷ y ∷ line) ∷ lines
 before_crlf_none x y line lines h = rw h refl
 
-crlf_apart : (front behind : List ℕ) → has_pair 13 10 front ≡ false → logical_lines Crlf (front ++ 13 ∷ 10 ∷ behind) ≡ front ∷ logical_lines Crlf behind
-crlf_apart [] behind h = crlf_before (logical_lines Crlf behind) (logical_some Crlf behind)
-crlf_apart (x ∷ []) behind h = ap (before_lines Crlf x) (crlf_apart [] behind refl)
-crlf_apart (x ∷ y ∷ ys) behind h =
+crlf_apart : (front following : List ℕ) → has_pair 13 10 front ≡ false → logical_lines Crlf (front ++ 13 ∷ 10 ∷ following) ≡ front ∷ logical_lines Crlf following
+crlf_apart [] following h = crlf_before (logical_lines Crlf following) (logical_some Crlf following)
+crlf_apart (x ∷ []) following h = ap (before_lines Crlf x) (crlf_apart [] following refl)
+crlf_apart (x ∷ y ∷ ys) following h =
     let both = or_parts (x == 13 && y == 10) (has_pair 13 10 (y ∷ ys)) h in
-    ap (before_lines Crlf x) (crlf_apart (y ∷ ys) behind both.1) ∙ before_crlf_none x y ys (logical_lines Crlf behind) both.0
+    ap (before_lines Crlf x) (crlf_apart (y ∷ ys) following both.1) ∙ before_crlf_none x y ys (logical_lines Crlf following) both.0
 
 crlf_whole : (bytes : List ℕ) → has_pair 13 10 bytes ≡ false → logical_lines Crlf bytes ≡ bytes ∷ []
 crlf_whole [] h = refl
@@ -88,8 +88,8 @@ crlf_whole (x ∷ y ∷ ys) h =
     let both = or_parts (x == 13 && y == 10) (has_pair 13 10 (y ∷ ys)) h in
     ap (before_lines Crlf x) (crlf_whole (y ∷ ys) both.1) ∙ before_crlf_none x y ys [] both.0
 
-behind_two : (text : List ℕ) (n : ℕ) → drop (suc (suc n)) text ≡ take (length text - (n + 2)) (drop (n + 2) text)
-behind_two text n =
+after_two : (text : List ℕ) (n : ℕ) → drop (suc (suc n)) text ≡ take (length text - (n + 2)) (drop (n + 2) text)
+after_two text n =
     let two : n + 2 ≡ suc (suc n) = omega arith in
     ap (λ k. drop k text) (sym two) ∙ sym (take_rest text (n + 2))
 
@@ -98,7 +98,7 @@ pub crlf_found : (text : List ℕ) (n : ℕ) → FindsNeedle text (13 ∷ 10 ∷
 crlf_found text n h =
     ap (logical_lines Crlf) (pair_parted 13 10 n text (to_pair 13 10 text n h.1))
     ∙ (crlf_apart (take n text) (drop (suc (suc n)) text) (lacks_pair 13 10 n text (λ k l p. h.0.before k (omega arith) l (from_pair 13 10 text k p)))
-    ∙ ap (λ xs. take n text ∷ logical_lines Crlf xs) (behind_two text n))
+    ∙ ap (λ xs. take n text ∷ logical_lines Crlf xs) (after_two text n))
 
 pub crlf_unfound : (text : List ℕ) → FindsNeedle text (13 ∷ 10 ∷ []) 0 None → logical_lines Crlf text ≡ text ∷ []
 crlf_unfound text h = crlf_whole text (pair_unfound 13 10 text h)

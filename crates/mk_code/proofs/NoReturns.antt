@@ -74,17 +74,17 @@ others_packed eol column (byte ∷ more) e =
           (others_joined (form 0 byte more) (packed eol (length (form 0 byte more)) more) (others_form 0 byte more) (others_packed eol (length (form 0 byte more)) more e)))
     ]
 
-others_behind : (eol : List ℕ) (lines : List (List ℕ)) → list_all is_other eol ≡ true → list_all is_other (flat_map (λ line. eol ++ packed eol 0 line) lines) ≡ true
-others_behind eol [] e = refl
-others_behind eol (line ∷ lines) e =
+others_after : (eol : List ℕ) (lines : List (List ℕ)) → list_all is_other eol ≡ true → list_all is_other (flat_map (λ line. eol ++ packed eol 0 line) lines) ≡ true
+others_after eol [] e = refl
+others_after eol (line ∷ lines) e =
     others_joined (eol ++ packed eol 0 line) (flat_map (λ other. eol ++ packed eol 0 other) lines)
     (others_joined eol (packed eol 0 line) e (others_packed eol 0 line e))
-    (others_behind eol lines e)
+    (others_after eol lines e)
 
 others_lines : (eol : List ℕ) (lines : List (List ℕ)) → list_all is_other eol ≡ true → list_all is_other (join_by (packed eol 0) eol lines) ≡ true
 others_lines eol [] e = refl
 others_lines eol (line ∷ lines) e =
-    others_joined (packed eol 0 line) (flat_map (λ other. eol ++ packed eol 0 other) lines) (others_packed eol 0 line e) (others_behind eol lines e)
+    others_joined (packed eol 0 line) (flat_map (λ other. eol ++ packed eol 0 other) lines) (others_packed eol 0 line e) (others_after eol lines e)
 
 pub qp_others : (bytes : List ℕ) → list_all is_other (qp_encoded Lf bytes) ≡ true
 qp_others bytes = others_lines (10 ∷ []) (logical_lines Lf bytes) refl

@@ -25,8 +25,8 @@ nil_append (x ∷ xs) ys h = refl
 -- a quiet byte after the first column that isn't the last of its line stands for itself
 quiet_form : (column byte : ℕ) (more : List ℕ) → is_quiet byte ≡ true → 0 < column → is_nil more ≡ false → form column byte more ≡ byte ∷ []
 quiet_form column byte more q o n =
-    let behind : (column == 0) ≡ false = ne_eqb column 0 (λ e. omega arith) in
-    rw (q, behind, n) refl
+    let following : (column == 0) ≡ false = ne_eqb column 0 (λ e. omega arith) in
+    rw (q, following, n) refl
 
 packed_one : (eol : List ℕ) (column byte : ℕ) (more : List ℕ) → is_quiet byte ≡ true → 0 < column → column + 1 ≤ 75 → is_nil more ≡ false → packed eol column (byte ∷ more) ≡ byte ∷ packed eol (column + 1) more
 packed_one eol column byte more q o l n =
@@ -78,13 +78,13 @@ copied out out1 rest column n room o e l r p eol =
     ]))
 
 -- a step of the loop over the logical lines
-pub line_packed : (eol : Ending) (rest line behind ending out out1 out2 : List ℕ) → logical_lines eol rest ≡ line ∷ logical_lines eol behind → ending ≡ ending_bytes eol → out1 ≡ out ++ packed ending 0 line → out2 ≡ out1 ++ ending
-    → out2 ++ qp_encoded eol behind ≡ out ++ qp_encoded eol rest
-line_packed eol rest line behind ending out out1 out2 e f p q =
+pub line_packed : (eol : Ending) (rest line following ending out out1 out2 : List ℕ) → logical_lines eol rest ≡ line ∷ logical_lines eol following → ending ≡ ending_bytes eol → out1 ≡ out ++ packed ending 0 line → out2 ≡ out1 ++ ending
+    → out2 ++ qp_encoded eol following ≡ out ++ qp_encoded eol rest
+line_packed eol rest line following ending out out1 out2 e f p q =
     let first = packed (ending_bytes eol) 0 line in
-    ap (λ xs. xs ++ qp_encoded eol behind) (q ∙ (ap (λ xs. out1 ++ xs) f ∙ ap (λ xs. xs ++ ending_bytes eol) (p ∙ ap (λ xs. out ++ packed xs 0 line) f)))
-    ∙ (append_assoc (out ++ first) (ending_bytes eol) (qp_encoded eol behind)
-    ∙ (append_assoc out first (ending_bytes eol ++ qp_encoded eol behind)
+    ap (λ xs. xs ++ qp_encoded eol following) (q ∙ (ap (λ xs. out1 ++ xs) f ∙ ap (λ xs. xs ++ ending_bytes eol) (p ∙ ap (λ xs. out ++ packed xs 0 line) f)))
+    ∙ (append_assoc (out ++ first) (ending_bytes eol) (qp_encoded eol following)
+    ∙ (append_assoc out first (ending_bytes eol ++ qp_encoded eol following)
     ∙ ap (λ xs. out ++ xs) (
-    ap (λ xs. first ++ xs) (sym (joined_next (packed (ending_bytes eol) 0) (ending_bytes eol) (logical_lines eol behind) (logical_some eol behind)))
+    ap (λ xs. first ++ xs) (sym (joined_next (packed (ending_bytes eol) 0) (ending_bytes eol) (logical_lines eol following) (logical_some eol following)))
     ∙ ap (join_by (packed (ending_bytes eol) 0) (ending_bytes eol)) (sym e))))

@@ -121,12 +121,12 @@ piece_last text size l told =
     ∙ (ap (λ xs. xs ∷ []) (append-nil (take size text)) ∙ ap (λ xs. xs ∷ []) (take_all size text l)))
 
 -- a step of the loop over the pieces
-pub word_pushed : (sep fold rest piece behind out out1 out2 : List ℕ) → fold ≡ sep → pieces (characters rest) 0 ≡ piece ∷ pieces (characters behind) 0 → out1 ≡ out ++ encoded_word piece → out2 ≡ out1 ++ fold
-    → out2 ++ join_by encoded_word sep (pieces (characters behind) 0) ≡ out ++ join_by encoded_word sep (pieces (characters rest) 0)
-word_pushed sep fold rest piece behind out out1 out2 f e p q =
-    ap (λ xs. xs ++ join_by encoded_word sep (pieces (characters behind) 0)) (q ∙ (ap (λ xs. out1 ++ xs) f ∙ ap (λ xs. xs ++ sep) p))
-    ∙ (append_assoc (out ++ encoded_word piece) sep (join_by encoded_word sep (pieces (characters behind) 0))
-    ∙ (append_assoc out (encoded_word piece) (sep ++ join_by encoded_word sep (pieces (characters behind) 0))
+pub word_pushed : (sep fold rest piece following out out1 out2 : List ℕ) → fold ≡ sep → pieces (characters rest) 0 ≡ piece ∷ pieces (characters following) 0 → out1 ≡ out ++ encoded_word piece → out2 ≡ out1 ++ fold
+    → out2 ++ join_by encoded_word sep (pieces (characters following) 0) ≡ out ++ join_by encoded_word sep (pieces (characters rest) 0)
+word_pushed sep fold rest piece following out out1 out2 f e p q =
+    ap (λ xs. xs ++ join_by encoded_word sep (pieces (characters following) 0)) (q ∙ (ap (λ xs. out1 ++ xs) f ∙ ap (λ xs. xs ++ sep) p))
+    ∙ (append_assoc (out ++ encoded_word piece) sep (join_by encoded_word sep (pieces (characters following) 0))
+    ∙ (append_assoc out (encoded_word piece) (sep ++ join_by encoded_word sep (pieces (characters following) 0))
     ∙ ap (λ xs. out ++ xs) (
-    ap (λ xs. encoded_word piece ++ xs) (sym (joined_next encoded_word sep (pieces (characters behind) 0) (pieces_some (characters behind) 0)))
+    ap (λ xs. encoded_word piece ++ xs) (sym (joined_next encoded_word sep (pieces (characters following) 0) (pieces_some (characters following) 0)))
     ∙ ap (join_by encoded_word sep) (sym e))))

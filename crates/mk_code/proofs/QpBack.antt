@@ -203,9 +203,9 @@ bytes_cons byte bytes h small (suc i) = small i
 bytes_nil : IsBytes []
 bytes_nil i = omega arith
 
-bytes_if : (t : Bool) (byte : ℕ) (line behind : List ℕ) (lines : List (List ℕ)) → byte < 256 → IsBytes line → IsBytes behind → AreBytes lines → AreBytes (if t then [] ∷ behind ∷ lines else (byte ∷ line) ∷ lines)
-bytes_if true byte line behind lines h l b ls = (bytes_nil, (b, ls))
-bytes_if false byte line behind lines h l b ls = (bytes_cons byte line h l, ls)
+bytes_if : (t : Bool) (byte : ℕ) (line following : List ℕ) (lines : List (List ℕ)) → byte < 256 → IsBytes line → IsBytes following → AreBytes lines → AreBytes (if t then [] ∷ following ∷ lines else (byte ∷ line) ∷ lines)
+bytes_if true byte line following lines h l b ls = (bytes_nil, (b, ls))
+bytes_if false byte line following lines h l b ls = (bytes_cons byte line h l, ls)
 
 bytes_before : (eol : Ending) (byte : ℕ) (lines : List (List ℕ)) → byte < 256 → AreBytes lines → AreBytes (before_lines eol byte lines)
 bytes_before eol byte [] h ls = (bytes_cons byte [] h bytes_nil, tt)
@@ -222,10 +222,10 @@ bytes_logical eol (byte ∷ bytes) small = bytes_before eol byte (logical_lines 
 ends_back : (eol : Ending) (lines : List (List ℕ)) → eol ≢ Missing → AreBytes lines → qp_decoded (flat_map (λ line. ending_bytes eol ++ packed (ending_bytes eol) 0 line) lines) ≡ flat_map (λ line. ending_bytes eol ++ line) lines
 ends_back eol [] is ls = refl
 ends_back eol (line ∷ lines) is ls =
-    let behind : List ℕ = flat_map (λ line. ending_bytes eol ++ packed (ending_bytes eol) 0 line) lines in
-    ap qp_decoded (append_assoc (ending_bytes eol) (packed (ending_bytes eol) 0 line) behind)
-    ∙ (hard eol (packed (ending_bytes eol) 0 line ++ behind) is
-    ∙ (ap (λ xs. ending_bytes eol ++ xs) (packed_back eol line 0 behind is ls.0 ∙ ap (λ xs. line ++ xs) (ends_back eol lines is ls.1))
+    let following : List ℕ = flat_map (λ line. ending_bytes eol ++ packed (ending_bytes eol) 0 line) lines in
+    ap qp_decoded (append_assoc (ending_bytes eol) (packed (ending_bytes eol) 0 line) following)
+    ∙ (hard eol (packed (ending_bytes eol) 0 line ++ following) is
+    ∙ (ap (λ xs. ending_bytes eol ++ xs) (packed_back eol line 0 following is ls.0 ∙ ap (λ xs. line ++ xs) (ends_back eol lines is ls.1))
     ∙ sym (append_assoc (ending_bytes eol) line (flat_map (λ line. ending_bytes eol ++ line) lines))))
 
 lines_back : (eol : Ending) (lines : List (List ℕ)) → eol ≢ Missing → AreBytes lines → qp_decoded (join_by (packed (ending_bytes eol) 0) (ending_bytes eol) lines) ≡ joined (ending_bytes eol) lines

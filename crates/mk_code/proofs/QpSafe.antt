@@ -35,10 +35,10 @@ lined_byte next column byte text e f r w h = rw (cut_other byte text f) (lined_o
 abbrev Ended : List ℕ → Type 0
 Ended text = (column : ℕ) → column ≤ widest → Lined column (cut text)
 
-ended_behind : (eol : Ending) (text : List ℕ) → eol ≢ Missing → Lined 0 (cut text) → Ended (ending_bytes eol ++ text)
-ended_behind Crlf text is h column l = (omega arith, (λ _. refl), lined_safe (cut text) h)
-ended_behind Lf text is h column l = (omega arith, (λ _. refl), lined_safe (cut text) h)
-ended_behind Missing text is h column l = absurd (is refl)
+ended_after : (eol : Ending) (text : List ℕ) → eol ≢ Missing → Lined 0 (cut text) → Ended (ending_bytes eol ++ text)
+ended_after Crlf text is h column l = (omega arith, (λ _. refl), lined_safe (cut text) h)
+ended_after Lf text is h column l = (omega arith, (λ _. refl), lined_safe (cut text) h)
+ended_after Missing text is h column l = absurd (is refl)
 
 -- the digits of a byte are digits
 abbrev has_digits : ℕ → Bool
@@ -103,23 +103,23 @@ packed_lined eol (byte ∷ rest) column text is small l r ended =
           (packed_lined eol rest (column + length (form column byte rest)) text is (λ i. small (suc i)) (omega (arith, low, most.0)) (λ n. omega (arith, low, most.2 n)) ended))
       | inr tight ↦
           let short = form_short 0 byte rest in
-          let behind : List ℕ = packed (ending_bytes eol) (length (form 0 byte rest)) rest in
-          let begun : Lined 0 (cut (form 0 byte rest ++ (behind ++ text))) =
-          lined_form 0 (length (form 0 byte rest)) byte rest (behind ++ text) (small 0) (sym (zero-add (length (form 0 byte rest))))
+          let following : List ℕ = packed (ending_bytes eol) (length (form 0 byte rest)) rest in
+          let begun : Lined 0 (cut (form 0 byte rest ++ (following ++ text))) =
+          lined_form 0 (length (form 0 byte rest)) byte rest (following ++ text) (small 0) (sym (zero-add (length (form 0 byte rest))))
           (packed_lined eol rest (length (form 0 byte rest)) text is (λ i. small (suc i)) (omega (arith, short)) (λ _. omega (arith, short)) ended) in
-          rw tight (rw (append_assoc (ending_bytes eol) (form 0 byte rest ++ behind) text, append_assoc (form 0 byte rest) behind text)
-          (lined_byte (column + 1) column 61 (ending_bytes eol ++ (form 0 byte rest ++ (behind ++ text))) refl refl refl (λ _. refl)
-          (ended_behind eol (form 0 byte rest ++ (behind ++ text)) is begun (column + 1) (omega (arith, r refl)))))
+          rw tight (rw (append_assoc (ending_bytes eol) (form 0 byte rest ++ following) text, append_assoc (form 0 byte rest) following text)
+          (lined_byte (column + 1) column 61 (ending_bytes eol ++ (form 0 byte rest ++ (following ++ text))) refl refl refl (λ _. refl)
+          (ended_after eol (form 0 byte rest ++ (following ++ text)) is begun (column + 1) (omega (arith, r refl)))))
     ]
 
 -- the lines after the first, each after an ending
 ends_lined : (eol : Ending) (lines : List (List ℕ)) → eol ≢ Missing → AreBytes lines → Ended (flat_map (λ line. ending_bytes eol ++ packed (ending_bytes eol) 0 line) lines)
 ends_lined eol [] is ls column l = l
 ends_lined eol (line ∷ lines) is ls column l =
-    let behind : List ℕ = flat_map (λ line. ending_bytes eol ++ packed (ending_bytes eol) 0 line) lines in
-    rw (append_assoc (ending_bytes eol) (packed (ending_bytes eol) 0 line) behind)
-    (ended_behind eol (packed (ending_bytes eol) 0 line ++ behind) is
-    (packed_lined eol line 0 behind is ls.0 (omega arith) (λ _. omega arith) (ends_lined eol lines is ls.1)) column l)
+    let following : List ℕ = flat_map (λ line. ending_bytes eol ++ packed (ending_bytes eol) 0 line) lines in
+    rw (append_assoc (ending_bytes eol) (packed (ending_bytes eol) 0 line) following)
+    (ended_after eol (packed (ending_bytes eol) 0 line ++ following) is
+    (packed_lined eol line 0 following is ls.0 (omega arith) (λ _. omega arith) (ends_lined eol lines is ls.1)) column l)
 
 lines_lined : (eol : Ending) (lines : List (List ℕ)) → eol ≢ Missing → AreBytes lines → Lined 0 (cut (join_by (packed (ending_bytes eol) 0) (ending_bytes eol) lines))
 lines_lined eol [] is ls = omega arith

@@ -84,8 +84,8 @@ past_gap (x ∷ xs) = elim (cases_Bool (is_blank x)) [
 
 -- what is shown of a gap and a word, after a decoded word or not
 abbrev pair_shown : Readable → Bool → List ℕ → List ℕ → List ℕ → List ℕ
-pair_shown which after gap word behind =
-    (if after && is_some (word_read which word) then [] else gap) ++ (unwrap_or (word_read which word) word ++ shown which (is_some (word_read which word)) (runs behind))
+pair_shown which after gap word following =
+    (if after && is_some (word_read which word) then [] else gap) ++ (unwrap_or (word_read which word) word ++ shown which (is_some (word_read which word)) (runs following))
 
 same_if : (t : Bool) (xs : List ℕ) → (if t then xs else xs) ≡ xs
 same_if true xs = refl
@@ -118,9 +118,9 @@ front_shown which (x ∷ xs) o after =
     ]
 
 -- the same by the lengths that were counted
-pub front_split : (text gap rest word behind : List ℕ) (n m : ℕ) → 0 < length text → n ≡ prefix_len is_blank text → gap ≡ take n text → rest ≡ drop n text → m ≡ prefix_len is_dark rest → word ≡ take m rest → behind ≡ drop m rest
-    → (which : Readable) (after : Bool) → shown which after (runs text) ≡ pair_shown which after gap word behind
-front_split text gap rest word behind n m o en eg er em ew eb which after =
+pub front_split : (text gap rest word following : List ℕ) (n m : ℕ) → 0 < length text → n ≡ prefix_len is_blank text → gap ≡ take n text → rest ≡ drop n text → m ≡ prefix_len is_dark rest → word ≡ take m rest → following ≡ drop m rest
+    → (which : Readable) (after : Bool) → shown which after (runs text) ≡ pair_shown which after gap word following
+front_split text gap rest word following n m o en eg er em ew eb which after =
     let whole : rest ≡ drop (prefix_len is_blank text) text = er ∙ ap (λ k. drop k text) en in
     front_shown which text o after
     ∙ (ap (λ xs. pair_shown which after (take (prefix_len is_blank text) text) (take (prefix_len is_dark xs) xs) (drop (prefix_len is_dark xs) xs)) (sym whole)
@@ -138,8 +138,8 @@ front_some (x ∷ xs) o =
       | inr d ↦ rw (d, d) (omega arith)
     ]
 
-pub front_less : (text rest behind : List ℕ) (n m : ℕ) → 0 < length text → n ≡ prefix_len is_blank text → n ≤ length text → rest ≡ drop n text → m ≡ prefix_len is_dark rest → m ≤ length rest → behind ≡ drop m rest → length behind < length text
-front_less text rest behind n m o en ln er em lm eb =
+pub front_less : (text rest following : List ℕ) (n m : ℕ) → 0 < length text → n ≡ prefix_len is_blank text → n ≤ length text → rest ≡ drop n text → m ≡ prefix_len is_dark rest → m ≤ length rest → following ≡ drop m rest → length following < length text
+front_less text rest following n m o en ln er em lm eb =
     let whole : rest ≡ drop (prefix_len is_blank text) text = er ∙ ap (λ k. drop k text) en in
     let some : 0 < prefix_len is_blank text + prefix_len is_dark rest = rw whole (front_some text o) in
     omega (arith, ap length eb, ap length er, length-drop m rest, length-drop n text, some, en, em)

@@ -30,7 +30,7 @@ no_pair_of : (b : Bool) (x : ℕ) → (if b then Some x else None) ≡ None → 
 no_pair_of true x h = absurd (cc h)
 no_pair_of false x h = refl
 
-unquoted_pair : (ending behind : List ℕ) (byte : ℕ) → Some byte ≡ pair_at behind → unquoted ending (61 ∷ behind) ≡ byte ∷ unquoted ending (drop 2 behind)
+unquoted_pair : (ending following : List ℕ) (byte : ℕ) → Some byte ≡ pair_at following → unquoted ending (61 ∷ following) ≡ byte ∷ unquoted ending (drop 2 following)
 unquoted_pair ending [] byte h = absurd (cc h)
 unquoted_pair ending (high ∷ []) byte h = absurd (cc h)
 unquoted_pair ending (high ∷ low ∷ bytes) byte h =
@@ -38,35 +38,35 @@ unquoted_pair ending (high ∷ low ∷ bytes) byte h =
     rw (found.0, found.1) refl
 
 -- `=` alone
-unquoted_lone : (ending behind : List ℕ) → 0 < length behind → None ≡ pair_at behind → unquoted ending (61 ∷ behind) ≡ 61 ∷ unquoted ending behind
+unquoted_lone : (ending following : List ℕ) → 0 < length following → None ≡ pair_at following → unquoted ending (61 ∷ following) ≡ 61 ∷ unquoted ending following
 unquoted_lone ending [] o h = absurd (omega (arith, o))
 unquoted_lone ending (next ∷ []) o h = refl
 unquoted_lone ending (high ∷ low ∷ bytes) o h = rw (no_pair_of (is_hex_digit high && is_hex_digit low) (pair_value high low) (sym h)) refl
 
 -- the steps of the loop over a line
-front_first : (ending rest out out1 front behind : List ℕ) → rest ≡ front ++ 61 ∷ behind → has_byte 61 front ≡ false → out1 ≡ out ++ front → out1 ++ unquoted ending (61 ∷ behind) ≡ out ++ unquoted ending rest
-front_first ending rest out out1 front behind e h p =
-    rw (e, p) (append_assoc out front (unquoted ending (61 ∷ behind)) ∙ ap (λ xs. out ++ xs) (sym (unquoted_run ending front (61 ∷ behind) h)))
+front_first : (ending rest out out1 front following : List ℕ) → rest ≡ front ++ 61 ∷ following → has_byte 61 front ≡ false → out1 ≡ out ++ front → out1 ++ unquoted ending (61 ∷ following) ≡ out ++ unquoted ending rest
+front_first ending rest out out1 front following e h p =
+    rw (e, p) (append_assoc out front (unquoted ending (61 ∷ following)) ∙ ap (λ xs. out ++ xs) (sym (unquoted_run ending front (61 ∷ following) h)))
 
-pub step_soft : (ending rest out out1 front behind : List ℕ) → rest ≡ front ++ 61 ∷ behind → has_byte 61 front ≡ false → out1 ≡ out ++ front → length behind ≡ 0 → out1 ≡ out ++ unquoted ending rest
-step_soft ending rest out out1 front behind e h p none =
-    let empty = nil_from_length behind none in
-    sym (append-nil out1) ∙ (ap (λ xs. out1 ++ unquoted ending (61 ∷ xs)) (sym empty) ∙ front_first ending rest out out1 front behind e h p)
+pub step_soft : (ending rest out out1 front following : List ℕ) → rest ≡ front ++ 61 ∷ following → has_byte 61 front ≡ false → out1 ≡ out ++ front → length following ≡ 0 → out1 ≡ out ++ unquoted ending rest
+step_soft ending rest out out1 front following e h p none =
+    let empty = nil_from_length following none in
+    sym (append-nil out1) ∙ (ap (λ xs. out1 ++ unquoted ending (61 ∷ xs)) (sym empty) ∙ front_first ending rest out out1 front following e h p)
 
-pub step_pair : (ending rest out out1 out2 front behind : List ℕ) (byte : ℕ) → rest ≡ front ++ 61 ∷ behind → has_byte 61 front ≡ false → out1 ≡ out ++ front → Some byte ≡ pair_at behind → out2 ≡ out1 ++ byte ∷ [] → out2 ++ unquoted ending (take (length behind - 2) (drop 2 behind)) ≡ out ++ unquoted ending rest
-step_pair ending rest out out1 out2 front behind byte e h p f q =
-    ap (λ xs. out2 ++ unquoted ending xs) (take_rest behind 2)
-    ∙ (ap (λ xs. xs ++ unquoted ending (drop 2 behind)) q
-    ∙ (append_assoc out1 (byte ∷ []) (unquoted ending (drop 2 behind))
-    ∙ (ap (λ xs. out1 ++ xs) (sym (unquoted_pair ending behind byte f))
-    ∙ front_first ending rest out out1 front behind e h p)))
+pub step_pair : (ending rest out out1 out2 front following : List ℕ) (byte : ℕ) → rest ≡ front ++ 61 ∷ following → has_byte 61 front ≡ false → out1 ≡ out ++ front → Some byte ≡ pair_at following → out2 ≡ out1 ++ byte ∷ [] → out2 ++ unquoted ending (take (length following - 2) (drop 2 following)) ≡ out ++ unquoted ending rest
+step_pair ending rest out out1 out2 front following byte e h p f q =
+    ap (λ xs. out2 ++ unquoted ending xs) (take_rest following 2)
+    ∙ (ap (λ xs. xs ++ unquoted ending (drop 2 following)) q
+    ∙ (append_assoc out1 (byte ∷ []) (unquoted ending (drop 2 following))
+    ∙ (ap (λ xs. out1 ++ xs) (sym (unquoted_pair ending following byte f))
+    ∙ front_first ending rest out out1 front following e h p)))
 
-pub step_lone : (ending rest out out1 out2 front behind : List ℕ) → rest ≡ front ++ 61 ∷ behind → has_byte 61 front ≡ false → out1 ≡ out ++ front → 0 < length behind → None ≡ pair_at behind → out2 ≡ out1 ++ 61 ∷ [] → out2 ++ unquoted ending behind ≡ out ++ unquoted ending rest
-step_lone ending rest out out1 out2 front behind e h p o f q =
-    ap (λ xs. xs ++ unquoted ending behind) q
-    ∙ (append_assoc out1 (61 ∷ []) (unquoted ending behind)
-    ∙ (ap (λ xs. out1 ++ xs) (sym (unquoted_lone ending behind o f))
-    ∙ front_first ending rest out out1 front behind e h p))
+pub step_lone : (ending rest out out1 out2 front following : List ℕ) → rest ≡ front ++ 61 ∷ following → has_byte 61 front ≡ false → out1 ≡ out ++ front → 0 < length following → None ≡ pair_at following → out2 ≡ out1 ++ 61 ∷ [] → out2 ++ unquoted ending following ≡ out ++ unquoted ending rest
+step_lone ending rest out out1 out2 front following e h p o f q =
+    ap (λ xs. xs ++ unquoted ending following) q
+    ∙ (append_assoc out1 (61 ∷ []) (unquoted ending following)
+    ∙ (ap (λ xs. out1 ++ xs) (sym (unquoted_lone ending following o f))
+    ∙ front_first ending rest out out1 front following e h p))
 
 pub step_last : (ending rest out out1 out2 : List ℕ) → has_byte 61 rest ≡ false → out1 ≡ out ++ rest → out2 ≡ out1 ++ ending → out2 ≡ out ++ unquoted ending rest
 step_last ending rest out out1 out2 h p q =

@@ -38,9 +38,9 @@ first_plain eol x more q g n = rw (q, g, n) refl
 
 last_plain : (eol : List ℕ) (column z : ℕ) → is_quiet z ≡ true → is_blank z ≡ false → 0 < column → column + 1 ≤ 76 → packed eol column (z ∷ []) ≡ z ∷ []
 last_plain eol column z q b o l =
-    let behind : (column == 0) ≡ false = ne_eqb column 0 (λ e. omega arith) in
+    let following : (column == 0) ≡ false = ne_eqb column 0 (λ e. omega arith) in
     let fits : nat_le (column + 1) 76 ≡ true = le-leb (column + 1) 76 l in
-    rw (q, behind, b) (rw fits refl)
+    rw (q, following, b) (rw fits refl)
 
 nil_last : (run : List ℕ) (z : ℕ) → is_nil (run ++ z ∷ []) ≡ false
 nil_last [] z = refl

@@ -16,14 +16,14 @@ use Rattle.mk_code.specs.Base64Text.{is_letter}
 use Rattle.mk_code.specs.EncodedWords.{parts, parts_decoded, word_decoded, text_bytes, in_utf8, is_padding, b_text, q_text, put_before}
 
 -- what stands before a question mark is a part
-pub parts_run : (front behind : List ℕ) → has_byte 63 front ≡ false → parts (front ++ 63 ∷ behind) ≡ front ∷ parts behind
-parts_run [] behind h = refl
-parts_run (x ∷ xs) behind h =
+pub parts_run : (front following : List ℕ) → has_byte 63 front ≡ false → parts (front ++ 63 ∷ following) ≡ front ∷ parts following
+parts_run [] following h = refl
+parts_run (x ∷ xs) following h =
     let both = or_parts (x == 63) (has_byte 63 xs) h in
-    rw both.0 (ap (onto_first x) (parts_run xs behind both.1))
+    rw both.0 (ap (onto_first x) (parts_run xs following both.1))
 
-pub parts_cut : (text front behind : List ℕ) → text ≡ front ++ 63 ∷ behind → has_byte 63 front ≡ false → parts text ≡ front ∷ parts behind
-parts_cut text front behind e h = ap parts e ∙ parts_run front behind h
+pub parts_cut : (text front following : List ℕ) → text ≡ front ++ 63 ∷ following → has_byte 63 front ≡ false → parts text ≡ front ∷ parts following
+parts_cut text front following e h = ap parts e ∙ parts_run front following h
 
 pub parts_whole : (text : List ℕ) → has_byte 63 text ≡ false → parts text ≡ text ∷ []
 parts_whole [] h = refl
@@ -120,9 +120,9 @@ pub b_refused : (text front tail : List ℕ) (n : ℕ) (error : DecodeError) →
 b_refused text front tail n error e l f g p d = sym (b_front text front tail n e l f g p ∙ decoded_err front error d)
 
 -- a step of the loop over a text in Q
-behind_out : (out out1 : List ℕ) (byte : ℕ) (rest : Option (List ℕ)) → out1 ≡ out ++ byte ∷ [] → option_map (λ bytes. out1 ++ bytes) rest ≡ option_map (λ bytes. out ++ bytes) (put_before byte rest)
-behind_out out out1 byte None p = refl
-behind_out out out1 byte (Some bytes) p = ap Some (ap (λ xs. xs ++ bytes) p ∙ append_assoc out (byte ∷ []) bytes)
+after_out : (out out1 : List ℕ) (byte : ℕ) (rest : Option (List ℕ)) → out1 ≡ out ++ byte ∷ [] → option_map (λ bytes. out1 ++ bytes) rest ≡ option_map (λ bytes. out ++ bytes) (put_before byte rest)
+after_out out out1 byte None p = refl
+after_out out out1 byte (Some bytes) p = ap Some (ap (λ xs. xs ++ bytes) p ∙ append_assoc out (byte ∷ []) bytes)
 
-pub q_step : (text rest behind out out1 : List ℕ) (byte : ℕ) → q_text rest ≡ put_before byte (q_text behind) → out1 ≡ out ++ byte ∷ [] → option_map (λ bytes. out ++ bytes) (q_text rest) ≡ q_text text → option_map (λ bytes. out1 ++ bytes) (q_text behind) ≡ q_text text
-q_step text rest behind out out1 byte e p h = behind_out out out1 byte (q_text behind) p ∙ (ap (option_map (λ bytes. out ++ bytes)) (sym e) ∙ h)
+pub q_step : (text rest following out out1 : List ℕ) (byte : ℕ) → q_text rest ≡ put_before byte (q_text following) → out1 ≡ out ++ byte ∷ [] → option_map (λ bytes. out ++ bytes) (q_text rest) ≡ q_text text → option_map (λ bytes. out1 ++ bytes) (q_text following) ≡ q_text text
+q_step text rest following out out1 byte e p h = after_out out out1 byte (q_text following) p ∙ (ap (option_map (λ bytes. out ++ bytes)) (sym e) ∙ h)

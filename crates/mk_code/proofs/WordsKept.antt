@@ -92,11 +92,11 @@ unmarked_gap byte gap rs d h = rw d (refl, h)
 unmarked_next : (byte next : ℕ) (rs : List Run) → is_blank byte ≡ false → is_blank next ≡ false → (byte == 61 && next == 63) ≡ false → Unmarked (run_before next rs) → Unmarked (run_before byte (run_before next rs))
 unmarked_next byte next [] d e f h = rw (e, d, f) (refl, tt)
 unmarked_next byte next (Gap gap ∷ rs) d e f h =
-    let behind : (has_pair 61 63 (next ∷ []) ≡ false) × Unmarked rs = (rw e at h) in
-    rw (e, d, f) (refl, behind.1)
+    let following : (has_pair 61 63 (next ∷ []) ≡ false) × Unmarked rs = (rw e at h) in
+    rw (e, d, f) (refl, following.1)
 unmarked_next byte next (Word word ∷ rs) d e f h =
-    let behind : (has_pair 61 63 (next ∷ word) ≡ false) × Unmarked rs = (rw e at h) in
-    rw (e, d, f) (behind.0, behind.1)
+    let following : (has_pair 61 63 (next ∷ word) ≡ false) × Unmarked rs = (rw e at h) in
+    rw (e, d, f) (following.0, following.1)
 
 unmarked_before : (byte next : ℕ) (rs : List Run) → (byte == 61 && next == 63) ≡ false → Unmarked (run_before next rs) → Unmarked (run_before byte (run_before next rs))
 unmarked_before byte next rs f h =
@@ -106,8 +106,8 @@ unmarked_before byte next rs f h =
           elim (cases_Bool (is_blank next)) [
             | inl b ↦
                 let gap = gap_before next rs b in
-                let behind : Unmarked gap.others = subst Unmarked gap.are h in
-                subst (λ ws. Unmarked (run_before byte ws)) (sym gap.are) (unmarked_gap byte gap.gap gap.others d behind)
+                let following : Unmarked gap.others = subst Unmarked gap.are h in
+                subst (λ ws. Unmarked (run_before byte ws)) (sym gap.are) (unmarked_gap byte gap.gap gap.others d following)
             | inr e ↦ unmarked_next byte next rs d e f h
           ]
     ]

@@ -117,10 +117,10 @@ pub(crate) fn decode(out: &mut Vec<u8>, text: &[u8]) -> Result<(), CodeError>
     make_room(out, rest.len() / GROUP * GROUP_BYTES + 2 * GROUP_BYTES)?;
     let mut found = Vec::with_capacity(alloc, GROUP + BLOCK.min(rest.len()))?;
     'each: while !rest.is_empty() {
-        let (front, behind) = rest.split_at(BLOCK.min(rest.len()));
+        let (front, following) = rest.split_at(BLOCK.min(rest.len()));
         gather(&mut found, front)?;
         match decode_groups(out, &mut found) {
-            Ok(()) => rest = behind,
+            Ok(()) => rest = following,
             Err(error) => return Err(error),
         }
     }
@@ -188,9 +188,9 @@ fn gather(out: &mut Vec<u8>, text: &[u8]) -> Result<(), AllocError>
 {
     let mut rest = text;
     while !rest.is_empty() {
-        let (run, behind) = split_letters(rest);
+        let (run, following) = split_letters(rest);
         out.extend_from_slice(run)?;
-        rest = behind;
+        rest = following;
     }
     Ok(())
 }
@@ -212,7 +212,7 @@ fn split_letters(text: &[u8]) -> (&[u8], &[u8])
 {
     let (run, rest) = text.split_at(letter_front(text));
     match rest {
-        [_, behind @ ..] => (run, after_strays(behind)),
+        [_, following @ ..] => (run, after_strays(following)),
         [] => (run, rest),
     }
 }

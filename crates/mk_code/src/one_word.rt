@@ -164,11 +164,11 @@ fn q_text(alloc: Global, text: &[u8]) -> Result<Option<Vec<u8>>, AllocError>
     let mut out = Vec::with_capacity(alloc, text.len())?;
     let mut rest = text;
     while !rest.is_empty() {
-        let Some((byte, behind)) = first_byte(rest) else {
+        let Some((byte, following)) = first_byte(rest) else {
             return Ok(None);
         };
         out.push(byte)?;
-        rest = behind;
+        rest = following;
     }
     Ok(Some(out))
 }
@@ -181,9 +181,9 @@ fn first_byte(text: &[u8]) -> Option<(u8, &[u8])>
     ensures less { IfSome result (λ p. length p.1.now < length text.now) }
 {
     match text {
-        [EQUALS, behind @ ..] => Some((pair(behind)?, &behind[DIGITS..])),
-        [UNDERSCORE, behind @ ..] => Some((b' ', behind)),
-        [byte @ b'!'..=b'~', behind @ ..] => Some((*byte, behind)),
+        [EQUALS, following @ ..] => Some((pair(following)?, &following[DIGITS..])),
+        [UNDERSCORE, following @ ..] => Some((b' ', following)),
+        [byte @ b'!'..=b'~', following @ ..] => Some((*byte, following)),
         _ => None,
     }
 }

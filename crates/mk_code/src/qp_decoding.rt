@@ -28,19 +28,19 @@ fn push_line(out: &mut Vec<u8>, content: &[u8], ending: &[u8]) -> Result<(), All
     ensures { OnOk result (out.new.items ≡ out.old.items ++ unquoted ending.now (trimmed content.now)) }
 {
     let mut rest = trimmed(content);
-    while let Some((front, behind)) = split_at_first(rest, EQUALS) {
+    while let Some((front, following)) = split_at_first(rest, EQUALS) {
         out.extend_from_slice(front)?;
-        if behind.is_empty() {
+        if following.is_empty() {
             return Ok(());
         }
-        match pair(behind) {
+        match pair(following) {
             Some(byte) => {
                 out.push(byte)?;
-                rest = &behind[DIGITS..];
+                rest = &following[DIGITS..];
             }
             None => {
                 out.push(EQUALS)?;
-                rest = behind;
+                rest = following;
             }
         }
     }

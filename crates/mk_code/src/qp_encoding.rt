@@ -44,10 +44,10 @@ pub fn push_qp(text: &mut Vec<u8>, bytes: &[u8], eol: Ending) -> Result<(), Allo
     text.reserve(bytes.len())?;
     let ending = eol.bytes();
     let mut rest = bytes;
-    while let Some((line, behind)) = split_line(rest, eol) {
+    while let Some((line, following)) = split_line(rest, eol) {
         push_packed(text, line, ending)?;
         text.extend_from_slice(ending)?;
-        rest = behind;
+        rest = following;
     }
     push_packed(text, rest, ending)
 }

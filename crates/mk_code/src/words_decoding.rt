@@ -41,9 +41,9 @@ fn decode_with(alloc: Global, value: &[u8], which: Readable) -> Result<Vec<u8>, 
     let mut rest = line.as_slice();
     let mut after = false;
     while !rest.is_empty() {
-        let (gap, word, behind) = split_front(rest);
+        let (gap, word, following) = split_front(rest);
         after = push_word(alloc, &mut out, which, after, gap, word)?;
-        rest = behind;
+        rest = following;
     }
     Ok(out)
 }
@@ -57,8 +57,8 @@ fn split_front(text: &[u8]) -> (&[u8], &[u8], &[u8])
     ensures less { length result.2.now < length text.now }
 {
     let (gap, rest) = text.split_at(leading_blanks(text));
-    let (word, behind) = rest.split_at(word_front(rest));
-    (gap, word, behind)
+    let (word, following) = rest.split_at(word_front(rest));
+    (gap, word, following)
 }
 
 // How many other bytes stand at the start.

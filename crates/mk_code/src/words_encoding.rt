@@ -37,10 +37,10 @@ pub fn words_encode(alloc: Global, text: &str, eol: Ending) -> Result<Vec<u8>, A
     let mut out = String::with_capacity(alloc, bytes.len().saturating_mul(2))?;
     let fold = folding(eol);
     let mut rest = bytes;
-    while let Some((piece, behind)) = split_piece(rest) {
+    while let Some((piece, following)) = split_piece(rest) {
         push_encoded_word(&mut out, piece)?;
         out.push_str(fold)?;
-        rest = behind;
+        rest = following;
     }
     push_encoded_word(&mut out, rest)?;
     Ok(out.into_bytes())

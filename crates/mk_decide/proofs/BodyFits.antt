@@ -23,12 +23,12 @@ use Rattle.mk_decide.specs.Outcomes.{hit, edited}
 use Rattle.mk_decide.specs.Local.{IsLocal}
 use Rattle.mk_decide.specs.Around.{hit_below, glued_below}
 use Rattle.mk_decide.specs.Looks.{has_separator}
-use Rattle.mk_decide.specs.LocalAnswers.{behind_first, opens_at}
+use Rattle.mk_decide.specs.LocalAnswers.{after_first, opens_at}
 use Rattle.mk_decide.specs.SectionAnswers.{separator_bytes, body_bytes, body_place, leaf_answer, body_answer, body_answer_of}
 use Rattle.mk_decide.proofs.EveryEdit.{locality_lem, eol_closed}
 use Rattle.mk_decide.proofs.Decisions.{AnswersAs, planned_answers, fits_is, unplanned}
 use Rattle.mk_decide.proofs.AroundFrames.{frames_glued}
-use Rattle.mk_decide.proofs.FieldFits.{before_each, behind_are, glued_told}
+use Rattle.mk_decide.proofs.FieldFits.{before_each, after_are, glued_told}
 use Rattle.mk_decide.proofs.HeadFits.{root_told, plain_some}
 use Rattle.mk_decide.proofs.LocalLooks.{separator_there, fits_unglued, glued_head}
 use Rattle.mk_decide.proofs.Openings.{Each, each_line, each_front}
@@ -83,30 +83,30 @@ body_unglued text path p s eol h given f =
       | inr g ↦ g
     ]
 
-leaf_answers : (text path given : List ℕ) (p : Placed) (s : IsSite text path p) (h : Head) (ls : List TextLine) → p.entity ≡ leaf h ls → AnswersAs (SetBody path given) text (leaf_answer text (behind_first path) given p) (edited (SetBody path given) (tree text))
+leaf_answers : (text path given : List ℕ) (p : Placed) (s : IsSite text path p) (h : Head) (ls : List TextLine) → p.entity ≡ leaf h ls → AnswersAs (SetBody path given) text (leaf_answer text (after_first path) given p) (edited (SetBody path given) (tree text))
 leaf_answers text path given p s h ls x =
     let e = SetBody path given in
     let eol = eol_of (cut text) in
     let closed : is_open eol ≡ false = eol_closed (cut text) in
     let plan = body_plan eol s.around h (cut given) in
     let envelope = (tree text).envelope in
-    let numbers : behind_first path ≡ s.numbers = ap behind_first s.path_is in
+    let numbers : after_first path ≡ s.numbers = ap after_first s.path_is in
     let root = root_of (tree text) in
     let planned_so : plan_of e (tree text) ≡ Ok plan = plan_here e text path p s refl ∙ ap (λ y. set_body eol s.around y (cut given)) x in
     let law = locality_lem e (tree text) s.around p.entity plan (read_stable text) (place_found text path p s) planned_so in
-    let glued : glued_below false (behind_first path) root ≡ frames_glued false s.around = ap (λ ks. glued_below false ks root) numbers ∙ glued_told text path p s in
+    let glued : glued_below false (after_first path) root ≡ frames_glued false s.around = ap (λ ks. glued_below false ks root) numbers ∙ glued_told text path p s in
     let made = made_separator eol h.separator in
     let own : separator_bytes text p ≡ text_of (made_separator eol (entity_head p.entity).separator) =
-    separator_text eol (entity_head p.entity).separator (each_front (option_line (entity_head p.entity).separator) (body_lines p.entity) (each_line (option_line (entity_head p.entity).separator ++ body_lines p.entity) (behind_are text path p s))) in
+    separator_text eol (entity_head p.entity).separator (each_front (option_line (entity_head p.entity).separator) (body_lines p.entity) (each_line (option_line (entity_head p.entity).separator ++ body_lines p.entity) (after_are text path p s))) in
     let bytes : body_bytes text p given ≡ text_of (made ++ cut given) = ap (λ t. t ++ given) (own ∙ ap (λ y. text_of (made_separator eol (entity_head y).separator)) x) ∙ (ap (λ t. text_of made ++ t) (sym (text_cut given)) ∙ sym (text_append made (cut given))) in
     let spliced_so = splices_here e text path p s refl ∙ ap (λ t. one_splice (body_place p) (body_text p) (t ++ given)) (sym own) in
-    planned_answers e text plan (opens_at text (body_place p) (length (body_text p)) (body_bytes text p given)) (hit_below (cut given) 1 (behind_first path) root) (not (glued_below false (behind_first path) root))
+    planned_answers e text plan (opens_at text (body_place p) (length (body_text p)) (body_bytes text p given)) (hit_below (cut given) 1 (after_first path) root) (not (glued_below false (after_first path) root))
     (record { place = body_place p; count = length (body_text p); new = body_bytes text p given }) (body_text p) planned_so spliced_so refl
     (opens_here text path p s plan.new (head_lines h) ls (made ++ cut given) [] (body_place p) (length (body_text p)) (body_bytes text p given) (ap print x ∙ ap (λ xs. head_lines h ++ xs) (sym (lines_end ls))) (body_lines_are eol h (cut given))
     (body_are eol h.separator given closed) (ap (λ y. p.start + size (head_lines (entity_head y))) x) (ap (λ y. size (body_lines y)) x) bytes)
     (ap (λ ks. hit_below (cut given) 1 ks root) numbers ∙ (hit_here text path p s (cut given) ∙ none_own (hit 1 s.around (cut given)) (suc (length s.around))))
-    (λ c u. fits_is (not (glued_below false (behind_first path) root)) (planned envelope plan) (IsLocal envelope plan (Unit {0})) law
-    (λ k. let f = body_stays text path p s eol h ls (cut given) x (sym glued ∙ not_glued (glued_below false (behind_first path) root) k) in record { closed = c; unmarked = u; own = tt; outer = f.0; first = f.1 })
+    (λ c u. fits_is (not (glued_below false (after_first path) root)) (planned envelope plan) (IsLocal envelope plan (Unit {0})) law
+    (λ k. let f = body_stays text path p s eol h ls (cut given) x (sym glued ∙ not_glued (glued_below false (after_first path) root) k) in record { closed = c; unmarked = u; own = tt; outer = f.0; first = f.1 })
     (λ l. ap not (glued ∙ body_unglued text path p s eol h (cut given) l.outer)))
     (λ k. record {
       numbers = s.numbers;
@@ -123,10 +123,10 @@ leaf_answers text path given p s h ls x =
       stable = k;
     })
 
-body_by : (text path given : List ℕ) (p : Placed) (s : IsSite text path p) (x : Entity) → p.entity ≡ x → AnswersAs (SetBody path given) text (body_answer_of text (behind_first path) given p x) (edited (SetBody path given) (tree text))
+body_by : (text path given : List ℕ) (p : Placed) (s : IsSite text path p) (x : Entity) → p.entity ≡ x → AnswersAs (SetBody path given) text (body_answer_of text (after_first path) given p x) (edited (SetBody path given) (tree text))
 body_by text path given p s (leaf h ls) x = leaf_answers text path given p s h ls x
 body_by text path given p s (message h e) x = unplanned (SetBody path given) text NotLeaf (plan_here (SetBody path given) text path p s refl ∙ ap (λ y. set_body (eol_of (cut text)) s.around y (cut given)) x)
 body_by text path given p s (multi h b pre ps t) x = unplanned (SetBody path given) text NotLeaf (plan_here (SetBody path given) text path p s refl ∙ ap (λ y. set_body (eol_of (cut text)) s.around y (cut given)) x)
 
-pub body_answers : (text path given : List ℕ) (p : Placed) → section_at path (tree text) ≡ Some p → AnswersAs (SetBody path given) text (body_answer text (behind_first path) given p) (edited (SetBody path given) (tree text))
+pub body_answers : (text path given : List ℕ) (p : Placed) → section_at path (tree text) ≡ Some p → AnswersAs (SetBody path given) text (body_answer text (after_first path) given p) (edited (SetBody path given) (tree text))
 body_answers text path given p h = body_by text path given p (site text path p h) p.entity refl

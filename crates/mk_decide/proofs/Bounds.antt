@@ -15,7 +15,7 @@ use Rattle.mk_head.specs.declared.encodings.Encoding.{Encoding}
 use Rattle.mk_head.specs.Split.{is_start, is_more}
 use Rattle.mk_head.specs.Fields.{continuations, field_text, is_named}
 use Rattle.mk_head.specs.Unfolding.{contents, or_nothing, value_in}
-use Rattle.mk_line.specs.Parting.{behind}
+use Rattle.mk_line.specs.Parting.{following}
 use Rattle.mk_head.specs.Values.{param_of, content_type_of}
 use Rattle.mk_head.specs.Types.{field_value, type_by, header_encoding, trimmed_boundary, boundary_of}
 use Rattle.mk_head.proofs.Bytes.{parameters_bytes, boundaries_trimmed}
@@ -45,13 +45,13 @@ join_pass : (f : ℕ → Bool) (xs ys : List ℕ) → list_all f xs ≡ true →
 join_pass f [] ys h k = k
 join_pass f (x ∷ xs) ys h k = let p = both (f x) (list_all f xs) h in and_true (f x) (list_all f (xs ++ ys)) p.0 (join_pass f xs ys p.1 k)
 
-behind_pass : (f : ℕ → Bool) (byte : ℕ) (xs : List ℕ) → list_all f xs ≡ true → list_all f (or_nothing (behind byte xs)) ≡ true
-behind_pass f byte [] h = refl
-behind_pass f byte (x ∷ xs) h =
+after_pass : (f : ℕ → Bool) (byte : ℕ) (xs : List ℕ) → list_all f xs ≡ true → list_all f (or_nothing (following byte xs)) ≡ true
+after_pass f byte [] h = refl
+after_pass f byte (x ∷ xs) h =
     let p = both (f x) (list_all f xs) h in
     elim (cases_Bool (x == byte)) [
       | inl k ↦ rw k p.1
-      | inr k ↦ rw k (behind_pass f byte xs p.1)
+      | inr k ↦ rw k (after_pass f byte xs p.1)
     ]
 
 before_pass : (f : ℕ → Bool) (x : ℕ) (ys : List ℕ) → f x ≡ true → list_all f ys ≡ true → list_all f (trimmed_before x ys) ≡ true
@@ -88,7 +88,7 @@ value_pass : (name : List ℕ) (ls : List TextLine) → Each ls → ValuePasses 
 value_pass name [] e = tt
 value_pass name (l ∷ ls) e =
     value_by no_feed_byte (is_start l && is_named name (field_text l [])) (value_in (l ∷ continuations ls)) (field_value name ls)
-    (behind_pass no_feed_byte 58 (l.content ++ contents (continuations ls)) (join_pass no_feed_byte l.content (contents (continuations ls)) (feed_pass l.content e.0.no_feed) (more_pass ls e.1)))
+    (after_pass no_feed_byte 58 (l.content ++ contents (continuations ls)) (join_pass no_feed_byte l.content (contents (continuations ls)) (feed_pass l.content e.0.no_feed) (more_pass ls e.1)))
     (value_pass name ls e.1)
 
 param_pass : (f : ℕ → Bool) (value name : List ℕ) (o : Option (List ℕ)) → list_all f value ≡ true → param_of name (content_type_of value).params ≡ o → list_all f (trimmed_boundary o) ≡ true

@@ -8,7 +8,7 @@ use Rattle.mk_line.specs.Lines.{TextLine, is_nil}
 use Rattle.mk_line.specs.Kinds.{is_past_blanks_colon}
 use Rattle.mk_head.specs.Split.{is_start}
 use Rattle.mk_head.specs.Fields.{FieldText, field_text, fields_of, is_named, counted}
-use Rattle.mk_decide.specs.FieldEdits.{starts_named, Found, found_behind, find, field_at, behind_name}
+use Rattle.mk_decide.specs.FieldEdits.{starts_named, Found, found_after, find, field_at, after_name}
 use Rattle.mk_decide.specs.EditLaws.{IsApart, FieldsAreCounted, FieldsAreApart, NamesAreReplaced}
 use Rattle.mk_decide.proofs.Runs.{FoundIn, field_is}
 use Rattle.mk_decide.proofs.Renaming.{both, start_past, past_name}
@@ -16,9 +16,9 @@ use Rattle.mk_decide.proofs.Renaming.{both, start_past, past_name}
 abbrev text_found : Option Found → Option FieldText
 text_found o = option_map (λ (f : Found). field_text f.start f.more) o
 
-behind_same : (l : TextLine) (o : Option Found) → text_found (found_behind l o) ≡ text_found o
-behind_same l None = refl
-behind_same l (Some f) = refl
+after_same : (l : TextLine) (o : Option Found) → text_found (found_after l o) ≡ text_found o
+after_same l None = refl
+after_same l (Some f) = refl
 
 find_counted : (name : List ℕ) (k : ℕ) (ls : List TextLine) → text_found (find (starts_named name) k ls) ≡ counted (suc k) (filter (is_named name) (fields_of ls))
 find_counted name k [] = refl
@@ -27,12 +27,12 @@ find_counted name zero (l ∷ ls) =
       | inl s ↦
           elim (cases_Bool (is_named name (field_text l []))) [
             | inl n ↦ rw (s, n) refl
-            | inr n ↦ rw (s, n) (behind_same l (find (starts_named name) zero ls) ∙ find_counted name zero ls)
+            | inr n ↦ rw (s, n) (after_same l (find (starts_named name) zero ls) ∙ find_counted name zero ls)
           ]
-      | inr s ↦ rw s (behind_same l (find (starts_named name) zero ls) ∙ find_counted name zero ls)
+      | inr s ↦ rw s (after_same l (find (starts_named name) zero ls) ∙ find_counted name zero ls)
     ]
 find_counted name (suc k) (l ∷ ls) =
-    behind_same l (find (starts_named name) (if starts_named name l then k else suc k) ls)
+    after_same l (find (starts_named name) (if starts_named name l then k else suc k) ls)
     ∙ (elim (cases_Bool (is_start l)) [
       | inl s ↦
           elim (cases_Bool (is_named name (field_text l []))) [
@@ -61,7 +61,7 @@ apart_lem name k fields = apart_by fields (field_at name k fields) (field_is nam
 one_more : (n : ℕ) → 1 + n ≡ suc n
 one_more n = omega arith
 
-pub name_before : (cs : List ℕ) → take (prefix_len is_name_byte cs) cs ++ behind_name cs ≡ cs
+pub name_before : (cs : List ℕ) → take (prefix_len is_name_byte cs) cs ++ after_name cs ≡ cs
 name_before [] = refl
 name_before (c ∷ cs) =
     elim (cases_Bool (is_name_byte c)) [
@@ -76,7 +76,7 @@ name_taken (c ∷ to) rest n h =
     let p = both (is_name_byte c) (list_all is_name_byte to) n in
     rw (p.0, one_more (prefix_len is_name_byte (to ++ rest))) (ap (λ xs. c ∷ xs) (name_taken to rest p.1 h))
 
-name_left : (to rest : List ℕ) → list_all is_name_byte to ≡ true → is_past_blanks_colon rest ≡ true → behind_name (to ++ rest) ≡ rest
+name_left : (to rest : List ℕ) → list_all is_name_byte to ≡ true → is_past_blanks_colon rest ≡ true → after_name (to ++ rest) ≡ rest
 name_left [] [] n h = refl
 name_left [] (c ∷ cs) n h = rw (past_name c cs h) refl
 name_left (c ∷ to) rest n h = let p = both (is_name_byte c) (list_all is_name_byte to) n in rw p.0 (name_left to rest p.1 h)
@@ -85,4 +85,4 @@ pub names_lem : NamesAreReplaced
 names_lem to l n s =
     let bytes = (both (not (is_nil to)) (list_all is_name_byte to) n).1 in
     let past = start_past l.content s in
-    (name_taken to (behind_name l.content) bytes past, name_left to (behind_name l.content) bytes past, name_before l.content)
+    (name_taken to (after_name l.content) bytes past, name_left to (after_name l.content) bytes past, name_before l.content)

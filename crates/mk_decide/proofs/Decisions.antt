@@ -75,12 +75,12 @@ led_given e text new_text t r old p l s n c =
     let same = sym s ∙ l.splices in
     let place : r.place ≡ length l.front = ap splice_place same in
     let old_is : old ≡ l.old = ap splice_old same in
-    let within : r.place + r.count ≤ length text = omega (arith, place, n, ap length old_is, ap length l.before, length-append l.front (l.old ++ l.behind), length-append l.old l.behind) in
+    let within : r.place + r.count ≤ length text = omega (arith, place, n, ap length old_is, ap length l.before, length-append l.front (l.old ++ l.following), length-append l.old l.following) in
     let there : take r.count (drop r.place text) ≡ old =
     ap (λ k. take r.count (drop k text)) place
     ∙ (ap (λ x. take r.count (drop (length l.front) x)) l.before
-    ∙ (ap (take r.count) (drop-append_seam l.front (l.old ++ l.behind))
-    ∙ (ap (λ k. take k (l.old ++ l.behind)) (sym n ∙ ap length old_is) ∙ (take-append_seam l.old l.behind ∙ sym old_is)))) in
+    ∙ (ap (take r.count) (drop-append_seam l.front (l.old ++ l.following))
+    ∙ (ap (λ k. take k (l.old ++ l.following)) (sym n ∙ ap length old_is) ∙ (take-append_seam l.old l.following ∙ sym old_is)))) in
     record {
       document = t;
       given = refl;

@@ -26,7 +26,7 @@ use Rattle.mk_decide.specs.Local.{AreFieldsFor, IsLocal}
 use Rattle.mk_decide.specs.FieldPuts.{LinePut, puts, plain_of}
 use Rattle.mk_decide.specs.Answers.{refusal_of, IsRefusedBy}
 use Rattle.mk_decide.specs.Around.{hit_below}
-use Rattle.mk_decide.specs.LocalAnswers.{PlainSplice, opens_at, fits_at, unless_recut, unless_held, answer_put, answer_puts, answer_at, answer_found, behind_first, answer, plain_splice}
+use Rattle.mk_decide.specs.LocalAnswers.{PlainSplice, opens_at, fits_at, unless_recut, unless_held, answer_put, answer_puts, answer_at, answer_found, after_first, answer, plain_splice}
 use Rattle.mk_decide.specs.Decided.{ChangesBy, IsDecided}
 use Rattle.mk_decide.proofs.EveryEdit.{locality_lem}
 use Rattle.mk_decide.proofs.PutPlans.{put_plan, plan_of_put}
@@ -133,7 +133,7 @@ found_answers text path edit None e = no_section text path edit e
 found_answers text path edit (Some p) e =
     let s = site text path p e in
     let r = puts edit (cut (head_text p)) in
-    subst (λ ks. AnswersAs (plain_of path edit) text (answer_puts text ks p r) (edited (plain_of path edit) (tree text))) (ap behind_first (sym s.path_is))
+    subst (λ ks. AnswersAs (plain_of path edit) text (answer_puts text ks p r) (edited (plain_of path edit) (tree text))) (ap after_first (sym s.path_is))
     (subst (AnswersAs (plain_of path edit) text (answer_puts text s.numbers p r)) (sym (edited_is text path edit p s)) (puts_answers text path edit p s r refl))
 
 answers_as : (text path : List ℕ) (edit : FieldEdit) → AnswersAs (plain_of path edit) text (answer text path edit) (edited (plain_of path edit) (tree text))
@@ -150,19 +150,19 @@ answered_err text path edit o h = decided_err (plain_of path edit) text (answer 
 one_less : (n : ℕ) → suc n - 1 ≡ n
 one_less n = omega arith
 
-pub behind_is : (path : List ℕ) → behind_first path ≡ take (length path - 1) (drop 1 path)
-behind_is [] = refl
-behind_is (k ∷ ks) = sym (ap (λ n. take n ks) (one_less (length ks)) ∙ take-length ks)
+pub following_is : (path : List ℕ) → after_first path ≡ take (length path - 1) (drop 1 path)
+following_is [] = refl
+following_is (k ∷ ks) = sym (ap (λ n. take n ks) (one_less (length ks)) ∙ take-length ks)
 
-answer_there : (text path numbers : List ℕ) (edit : FieldEdit) (p : Placed) → section_at path (tree text) ≡ Some p → behind_first path ≡ numbers → answer text path edit ≡ answer_at text numbers edit p
+answer_there : (text path numbers : List ℕ) (edit : FieldEdit) (p : Placed) → section_at path (tree text) ≡ Some p → after_first path ≡ numbers → answer text path edit ≡ answer_at text numbers edit p
 answer_there text path numbers edit p e n = ap (answer_found text path edit) e ∙ ap (λ ks. answer_at text ks edit p) n
 
-pub found_ok : (text path numbers : List ℕ) (edit : FieldEdit) (p : Placed) (o : Option Placed) (r : Result Replacement EditError) → o ≡ section_at path (tree text) → o ≡ Some p → behind_first path ≡ numbers
+pub found_ok : (text path numbers : List ℕ) (edit : FieldEdit) (p : Placed) (o : Option Placed) (r : Result Replacement EditError) → o ≡ section_at path (tree text) → o ≡ Some p → after_first path ≡ numbers
     → IfOk r (λ x. answer_at text numbers edit p ≡ Ok (plain_splice x)) → IfOk r (λ x. IsDecided (plain_of path edit) text (plain_splice x))
 found_ok text path numbers edit p o (Ok x) s e n h = answered_ok text path edit (plain_splice x) (answer_there text path numbers edit p (sym s ∙ e) n ∙ h)
 found_ok text path numbers edit p o (Err x) s e n h = tt
 
-pub found_err : (text path numbers : List ℕ) (edit : FieldEdit) (p : Placed) (o : Option Placed) (r : Result Replacement EditError) → o ≡ section_at path (tree text) → o ≡ Some p → behind_first path ≡ numbers
+pub found_err : (text path numbers : List ℕ) (edit : FieldEdit) (p : Placed) (o : Option Placed) (r : Result Replacement EditError) → o ≡ section_at path (tree text) → o ≡ Some p → after_first path ≡ numbers
     → IfErr r (λ x. IsRefusedBy (refusal_of x) (answer_at text numbers edit p)) → IfErr r (λ x. IsRefusedBy (refusal_of x) (edited (plain_of path edit) (tree text)))
 found_err text path numbers edit p o (Ok x) s e n h = tt
 found_err text path numbers edit p o (Err x) s e n h = answered_err text path edit (refusal_of x) (subst (IsRefusedBy (refusal_of x)) (sym (answer_there text path numbers edit p (sym s ∙ e) n)) h)

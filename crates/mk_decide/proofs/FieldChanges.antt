@@ -19,7 +19,7 @@ use Rattle.mk_decide.proofs.Openings.{Each, each_line, each_join, each_front, ea
 use Rattle.mk_decide.proofs.Late.{IsFair}
 use Rattle.mk_decide.proofs.Locals.{IsEdit}
 use Rattle.mk_decide.proofs.NewFields.{fields_read, read_fields}
-use Rattle.mk_decide.proofs.Runs.{run_join, one_run, added_run, IsFound, FoundIn, run_before, run_behind, run_after, run_start}
+use Rattle.mk_decide.proofs.Runs.{run_join, one_run, added_run, IsFound, FoundIn, run_before, run_following, run_after, run_start}
 use Rattle.mk_decide.proofs.Renaming.{renamed_start, renamed_line}
 
 -- the lines of an entity's fields, and the others
@@ -106,20 +106,20 @@ add_new s top text h = record {
 before_each : (ls : List TextLine) (f : Found) → IsFound ls f → Each ls → Each f.before
 before_each ls f h e = each_front f.before (f.start ∷ (f.more ++ f.after)) (subst Each (sym h.whole) e)
 
-pub behind_each : (ls : List TextLine) (f : Found) → IsFound ls f → Each ls → Each (f.start ∷ (f.more ++ f.after))
-behind_each ls f h e = each_back f.before (f.start ∷ (f.more ++ f.after)) (subst Each (sym h.whole) e)
+pub following_each : (ls : List TextLine) (f : Found) → IsFound ls f → Each ls → Each (f.start ∷ (f.more ++ f.after))
+following_each ls f h e = each_back f.before (f.start ∷ (f.more ++ f.after)) (subst Each (sym h.whole) e)
 
 after_each : (ls : List TextLine) (f : Found) → IsFound ls f → Each ls → Each f.after
-after_each ls f h e = each_back f.more f.after (behind_each ls f h e).1
+after_each ls f h e = each_back f.more f.after (following_each ls f h e).1
 
 before_marks : (b : List ℕ) (ls : List TextLine) (f : Found) → IsFound ls f → Unmarked b ls → Unmarked b f.before
 before_marks b ls f h u = unmarked_left b f.before (f.start ∷ (f.more ++ f.after)) (subst (Unmarked b) (sym h.whole) u)
 
-behind_marks : (b : List ℕ) (ls : List TextLine) (f : Found) → IsFound ls f → Unmarked b ls → Unmarked b (f.start ∷ (f.more ++ f.after))
-behind_marks b ls f h u = unmarked_right b f.before (f.start ∷ (f.more ++ f.after)) (subst (Unmarked b) (sym h.whole) u)
+following_marks : (b : List ℕ) (ls : List TextLine) (f : Found) → IsFound ls f → Unmarked b ls → Unmarked b (f.start ∷ (f.more ++ f.after))
+following_marks b ls f h u = unmarked_right b f.before (f.start ∷ (f.more ++ f.after)) (subst (Unmarked b) (sym h.whole) u)
 
 after_marks : (b : List ℕ) (ls : List TextLine) (f : Found) → IsFound ls f → Unmarked b ls → Unmarked b f.after
-after_marks b ls f h u = unmarked_right b f.more f.after (behind_marks b ls f h u).1
+after_marks b ls f h u = unmarked_right b f.more f.after (following_marks b ls f h u).1
 
 -- without a field
 pub drop_new : (s : Entity) (f : Found) → IsFound (field_lines s) f → AreNew s (f.before ++ f.after) []
@@ -140,9 +140,9 @@ change_new s f text o h = record {
 -- with a field of another name
 pub rename_new : (s : Entity) (f : Found) (to : List ℕ) → is_name to ≡ true → IsFound (field_lines s) f → AreNew s (f.before ++ (renamed to f.start ∷ (f.more ++ f.after))) (renamed to f.start ∷ [])
 rename_new s f to o h = record {
-  run = λ r. run_join false f.before (renamed to f.start ∷ (f.more ++ f.after)) (run_before (field_lines s) f h r) (run_start (renamed to f.start) (f.more ++ f.after) (renamed_start to f.start o h.start) (run_behind (field_lines s) f h r));
-  lines = λ e. each_join f.before (renamed to f.start ∷ (f.more ++ f.after)) (before_each (field_lines s) f h e) (renamed_line to f.start o h.start (behind_each (field_lines s) f h e).0, (behind_each (field_lines s) f h e).1);
-  marks = λ b u v. unmarked_join b f.before (renamed to f.start ∷ (f.more ++ f.after)) (before_marks b (field_lines s) f h u) (v.0, (behind_marks b (field_lines s) f h u).1);
+  run = λ r. run_join false f.before (renamed to f.start ∷ (f.more ++ f.after)) (run_before (field_lines s) f h r) (run_start (renamed to f.start) (f.more ++ f.after) (renamed_start to f.start o h.start) (run_following (field_lines s) f h r));
+  lines = λ e. each_join f.before (renamed to f.start ∷ (f.more ++ f.after)) (before_each (field_lines s) f h e) (renamed_line to f.start o h.start (following_each (field_lines s) f h e).0, (following_each (field_lines s) f h e).1);
+  marks = λ b u v. unmarked_join b f.before (renamed to f.start ∷ (f.more ++ f.after)) (before_marks b (field_lines s) f h u) (v.0, (following_marks b (field_lines s) f h u).1);
 }
 
 -- the answers

@@ -2,7 +2,7 @@
 use Rattle.std.proofs.Common.{◌≡◌, ◌↔◌, ◌&&◌, ◌||◌, ◌+◌, ◌<◌, ◌++◌, if◌then◌else◌, ℕ, Bool, true, false, not, None, Ok, List, [], ◌∷◌, refl, ap, sym, ◌∙◌, subst, length, arith, inl, inr}
 use Rattle.std.proofs.lemmas.Bool.{cases_Bool, or_parts}
 use Rattle.mk_line.specs.Lines.{TextLine, cut, text_of, is_nil, AreLines}
-use Rattle.mk_line.proofs.Cuts.{cut_text, lines_cut, lines_behind}
+use Rattle.mk_line.proofs.Cuts.{cut_text, lines_cut, lines_following}
 use Rattle.mk_head.specs.Split.{option_line}
 use Rattle.mk_head.specs.Splits.{IsRun, has_line, IsSplit}
 use Rattle.mk_tree.specs.Kinds.{kind_at, is_digest}
@@ -14,7 +14,7 @@ use Rattle.mk_splice.specs.Splices.{spliced}
 use Rattle.mk_tree.specs.Sections.{Placed, root_of, head_text, body_text, body_lines}
 use Rattle.mk_tree.specs.Locality.{BeginsPlain, FitsIn, RootFits}
 use Rattle.mk_tree.specs.Places.{below, left_at, default_at, lines_before, lines_after}
-use Rattle.mk_tree.proofs.HeadChanged.{behind_fields, entity_lines, changed_lines, apart}
+use Rattle.mk_tree.proofs.HeadChanged.{after_fields, entity_lines, changed_lines, apart}
 use Rattle.mk_tree.proofs.Kept.{lines_kept}
 use Rattle.mk_tree.proofs.Plugs.{print_plug, fits_in_of}
 use Rattle.mk_tree.proofs.Stability.{read_stable}
@@ -65,20 +65,20 @@ all_lines text path p s =
 pub entity_are : (text path : List ℕ) (p : Placed) (s : IsSite text path p) → AreLines (print p.entity)
 entity_are text path p s =
     lines_front (print p.entity) (lines_after s.around)
-    (lines_behind (lines_before s.around) (print p.entity ++ lines_after s.around) (lines_behind (option_line (tree text).envelope) (lines_before s.around ++ (print p.entity ++ lines_after s.around)) (all_lines text path p s)))
+    (lines_following (lines_before s.around) (print p.entity ++ lines_after s.around) (lines_following (option_line (tree text).envelope) (lines_before s.around ++ (print p.entity ++ lines_after s.around)) (all_lines text path p s)))
 
 pub before_each : (text path : List ℕ) (p : Placed) (s : IsSite text path p) → Each (option_line (tree text).envelope) × Each (lines_before s.around)
 before_each text path p s =
     let front = option_line (tree text).envelope in
-    let behind = lines_before s.around ++ (print p.entity ++ lines_after s.around) in
-    let each = each_line (front ++ behind) (all_lines text path p s) in
-    (each_front front behind each, each_front (lines_before s.around) (print p.entity ++ lines_after s.around) (each_back front behind each))
+    let following = lines_before s.around ++ (print p.entity ++ lines_after s.around) in
+    let each = each_line (front ++ following) (all_lines text path p s) in
+    (each_front front following each, each_front (lines_before s.around) (print p.entity ++ lines_after s.around) (each_back front following each))
 
-pub behind_are : (text path : List ℕ) (p : Placed) (s : IsSite text path p) → AreLines (option_line (entity_head p.entity).separator ++ body_lines p.entity)
-behind_are text path p s = lines_behind (field_lines p.entity) (behind_fields p.entity) (subst AreLines (entity_lines p.entity) (entity_are text path p s))
+pub after_are : (text path : List ℕ) (p : Placed) (s : IsSite text path p) → AreLines (option_line (entity_head p.entity).separator ++ body_lines p.entity)
+after_are text path p s = lines_following (field_lines p.entity) (after_fields p.entity) (subst AreLines (entity_lines p.entity) (entity_are text path p s))
 
 pub body_cut : (text path : List ℕ) (p : Placed) (s : IsSite text path p) → cut (body_text p) ≡ body_lines p.entity
-body_cut text path p s = cut_text (body_lines p.entity) (lines_behind (option_line (entity_head p.entity).separator) (body_lines p.entity) (behind_are text path p s))
+body_cut text path p s = cut_text (body_lines p.entity) (lines_following (option_line (entity_head p.entity).separator) (body_lines p.entity) (after_are text path p s))
 
 -- where no line opens early, the new fields are lines
 pub early_middle : (xs ys zs : List TextLine) → is_open_early (xs ++ (ys ++ zs)) ≡ false → is_open_early ys ≡ false
@@ -95,8 +95,8 @@ put_are text path edit p s q h c =
     let fields = lines_put q in
     let t = tree text in
     are_lines fields ((new_put text path edit p s q h).lines (fields_each p.entity (each_line (print p.entity) (entity_are text path p s))))
-    (early_middle (option_line t.envelope ++ lines_before s.around) fields (behind_fields p.entity ++ lines_after s.around)
-    (ap is_open_early (sym (apart t.envelope s.around (with_fields fields p.entity) fields (behind_fields p.entity) (changed_lines fields p.entity))) ∙ c))
+    (early_middle (option_line t.envelope ++ lines_before s.around) fields (after_fields p.entity ++ lines_after s.around)
+    (ap is_open_early (sym (apart t.envelope s.around (with_fields fields p.entity) fields (after_fields p.entity) (changed_lines fields p.entity))) ∙ c))
 
 put_run : (text path : List ℕ) (edit : FieldEdit) (p : Placed) (s : IsSite text path p) (q : LinePut) → IsPutAt edit p q → IsRun false (lines_put q)
 put_run text path edit p s q h = (new_put text path edit p s q h).run (run_read (left_at levels s.around) (default_at false s.around) p.entity s.well)
@@ -171,7 +171,7 @@ ends_stay text path edit p s q h c =
     let separator = (entity_head e).separator in
     let told =
     head_told fields separator (body_lines e) (begins_root envelope s.around) (has_line (field_lines e)) (put_run text path edit p s q h) (split_of (left_at levels s.around) (default_at false s.around) e s.well).next
-    (each_front (option_line separator) (body_lines e) (each_line (option_line separator ++ body_lines e) (behind_are text path p s))) in
+    (each_front (option_line separator) (body_lines e) (each_line (option_line separator ++ body_lines e) (after_are text path p s))) in
     let root = root_told envelope s.around (with_fields fields e) in
     let same = look_is text path edit p s q h c in (
       (λ k. let r = told.0 (sym same ∙ k) in (r.0, root.0 (λ x. subst BeginsPlain (sym (changed_lines fields e)) (r.1 x)))),

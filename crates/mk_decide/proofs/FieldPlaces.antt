@@ -3,7 +3,7 @@ use Rattle.std.proofs.Common.{◌≡◌, ◌==◌, ◌||◌, ◌+◌, ◌-◌, �
 use Rattle.std.proofs.lemmas.Bool.{cases_Bool, eqb-true}
 use Rattle.std.specs.Option.{option_map}
 use Rattle.mk_line.specs.Lines.{TextLine, cut, text_of, printed_line, AreLines}
-use Rattle.mk_line.proofs.Cuts.{text_cut, cut_text, lines_cut, lines_behind}
+use Rattle.mk_line.proofs.Cuts.{text_cut, cut_text, lines_cut, lines_following}
 use Rattle.mk_head.specs.Split.{is_start, is_more, belongs, fields_from}
 use Rattle.mk_head.specs.Splits.{IsRun}
 use Rattle.mk_head.specs.declared.fields.Field.{Field}
@@ -11,7 +11,7 @@ use Rattle.mk_head.specs.Views.{field_view}
 use Rattle.mk_head.specs.Fields.{FieldText, continuations, field_text, fields_of, is_named}
 use Rattle.mk_head.proofs.FieldRuns.{more_start}
 use Rattle.mk_tree.specs.Spans.{size}
-use Rattle.mk_decide.specs.FieldEdits.{starts_named, Found, found_behind, find, field_at}
+use Rattle.mk_decide.specs.FieldEdits.{starts_named, Found, found_after, find, field_at}
 use Rattle.mk_decide.specs.FieldPuts.{placed_field, raw_size, IsFieldAt}
 use Rattle.mk_decide.proofs.Runs.{belongs_start, IsFound, FoundIn, field_is}
 use Rattle.mk_decide.proofs.Openings.{lines_front}
@@ -29,12 +29,12 @@ begins : (l : TextLine) → is_more l ≡ false → belongs true l ≡ true → 
 begins l m h = sym (or_none (is_start l)) ∙ (ap (λ t. is_start l || t) (sym m) ∙ h)
 
 -- the sizes of fields
-behind_size : (ls : List TextLine) → IsRun true ls → size (continuations ls) + raw_size (fields_of ls) ≡ size ls
-behind_size [] r = refl
-behind_size (l ∷ ls) r =
+after_size : (ls : List TextLine) → IsRun true ls → size (continuations ls) + raw_size (fields_of ls) ≡ size ls
+after_size [] r = refl
+after_size (l ∷ ls) r =
     elim (cases_Bool (is_more l)) [
-      | inl m ↦ rw (m, more_start l m) (omega (arith, line_first l (continuations ls), line_first l ls, behind_size ls r.1))
-      | inr m ↦ rw (m, begins l m r.0) (omega (arith, line_first l (continuations ls), line_first l ls, behind_size ls r.1))
+      | inl m ↦ rw (m, more_start l m) (omega (arith, line_first l (continuations ls), line_first l ls, after_size ls r.1))
+      | inr m ↦ rw (m, begins l m r.0) (omega (arith, line_first l (continuations ls), line_first l ls, after_size ls r.1))
     ]
 
 none_first : (ls : List TextLine) → IsRun false ls → continuations ls ≡ []
@@ -46,7 +46,7 @@ run_true [] r = tt
 run_true (l ∷ ls) r = (rw (belongs_start l r.0) refl, r.1)
 
 pub fields_size : (ls : List TextLine) → IsRun false ls → raw_size (fields_of ls) ≡ size ls
-fields_size ls r = omega (arith, ap size (none_first ls r), behind_size ls (run_true ls r))
+fields_size ls r = omega (arith, ap size (none_first ls r), after_size ls (run_true ls r))
 
 -- the fields at the start of a text
 run_from : (inside : Bool) (ls : List TextLine) → IsRun inside (fields_from inside ls)
@@ -79,7 +79,7 @@ found_at place o = option_map (λ (f : Found). (place + size f.before, field_tex
 further : (place a b c : ℕ) → c ≡ a + b → place + c ≡ place + a + b
 further place a b c e = omega (arith, e)
 
-found_further : (place : ℕ) (l : TextLine) (o : Option Found) → found_at place (found_behind l o) ≡ found_at (place + length (printed_line l)) o
+found_further : (place : ℕ) (l : TextLine) (o : Option Found) → found_at place (found_after l o) ≡ found_at (place + length (printed_line l)) o
 found_further place l None = refl
 found_further place l (Some f) = ap (λ n. Some (n, field_text f.start f.more)) (further place (length (printed_line l)) (size f.before) (size (l ∷ f.before)) (line_first l f.before))
 
@@ -96,8 +96,8 @@ not_one k =
 one_less : (k : ℕ) → suc (suc k) - 1 ≡ suc k
 one_less k = omega arith
 
-behind_one : (place a b : ℕ) (n : ℕ) → n ≡ a + b → place + n ≡ place + a + b
-behind_one place a b n e = omega (arith, e)
+after_one : (place a b : ℕ) (n : ℕ) → n ≡ a + b → place + n ≡ place + a + b
+after_one place a b n e = omega (arith, e)
 
 no_more : (place : ℕ) → place + 0 ≡ place
 no_more place = add-zero place
@@ -138,15 +138,15 @@ started name (suc k) place l ls s h =
     ]
 
 -- the field at a place is the one found among the lines
-behind_found : (name : List ℕ) (k place : ℕ) (ls : List TextLine) → IsRun true ls → placed_field name (suc k) (place + size (continuations ls)) (fields_of ls) ≡ found_at place (find (starts_named name) k ls)
-behind_found name k place [] r = refl
-behind_found name k place (l ∷ ls) r =
+after_found : (name : List ℕ) (k place : ℕ) (ls : List TextLine) → IsRun true ls → placed_field name (suc k) (place + size (continuations ls)) (fields_of ls) ≡ found_at place (find (starts_named name) k ls)
+after_found name k place [] r = refl
+after_found name k place (l ∷ ls) r =
     elim (cases_Bool (is_more l)) [
       | inl m ↦
           rw (m, more_start l m)
-          (ap (λ n. placed_field name (suc k) n (fields_of ls)) (behind_one place (length (printed_line l)) (size (continuations ls)) (size (l ∷ continuations ls)) (line_first l (continuations ls)))
-          ∙ (behind_found name k (place + length (printed_line l)) ls r.1 ∙ passed name k place l ls (rw (more_start l m) refl)))
-      | inr m ↦ rw m (started name k place l ls (begins l m r.0) (λ j p. behind_found name j p ls r.1))
+          (ap (λ n. placed_field name (suc k) n (fields_of ls)) (after_one place (length (printed_line l)) (size (continuations ls)) (size (l ∷ continuations ls)) (line_first l (continuations ls)))
+          ∙ (after_found name k (place + length (printed_line l)) ls r.1 ∙ passed name k place l ls (rw (more_start l m) refl)))
+      | inr m ↦ rw m (started name k place l ls (begins l m r.0) (λ j p. after_found name j p ls r.1))
     ]
 
 none_size : (ls : List TextLine) → IsRun false ls → 0 ≡ 0 + size (continuations ls)
@@ -156,7 +156,7 @@ pub found_there : (name : List ℕ) (k : ℕ) (ls : List TextLine) → IsRun fal
 found_there name zero ls r = no_field name 0 (fields_of (fields_from false ls))
 found_there name (suc k) ls r =
     ap (λ xs. placed_field name (suc k) 0 (fields_of xs)) (run_all false ls r)
-    ∙ (ap (λ n. placed_field name (suc k) n (fields_of ls)) (none_size ls r) ∙ behind_found name k 0 ls (run_true ls r))
+    ∙ (ap (λ n. placed_field name (suc k) n (fields_of ls)) (none_size ls r) ∙ after_found name k 0 ls (run_true ls r))
 
 -- a field that is there
 abbrev FoundThere : List ℕ → ℕ → List TextLine → Option (ℕ × FieldText) → Option Found → Type 0
@@ -175,12 +175,12 @@ is_there text name k place field r e =
     let t : FoundThere name k (cut text) (Some (place, field)) (field_at name k (cut text)) = subst (λ q. FoundThere name k (cut text) q (field_at name k (cut text))) (sym (e ∙ found_there name k (cut text) r)) (there name k (cut text) (field_at name k (cut text))) in
     let f = t.0 in
     let g : IsFound (cut text) f = subst (FoundIn (cut text)) t.1 (field_is name k (cut text)) in
-    let behind : AreLines (f.start ∷ (f.more ++ f.after)) = lines_behind f.before (f.start ∷ (f.more ++ f.after)) (subst AreLines (sym g.whole) (lines_cut text)) in
-    let own : AreLines (f.start ∷ f.more) = lines_front (f.start ∷ f.more) f.after behind in
+    let following : AreLines (f.start ∷ (f.more ++ f.after)) = lines_following f.before (f.start ∷ (f.more ++ f.after)) (subst AreLines (sym g.whole) (lines_cut text)) in
+    let own : AreLines (f.start ∷ f.more) = lines_front (f.start ∷ f.more) f.after following in
     record {
       found = f;
       is = t.1;
-      behind = t.2;
+      following = t.2;
       name = ap (λ (x : FieldText). x.name) t.3;
       raw = ap (λ (x : FieldText). x.raw) t.3;
       lines = ap (λ (x : FieldText). cut x.raw) t.3 ∙ cut_text (f.start ∷ f.more) own;

@@ -12,7 +12,7 @@ use Rattle.mk_decide.specs.declared.field_edits.FieldEdit.TheVariants.{Add, Remo
 use Rattle.mk_decide.specs.declared.field_edits.Put.{Put}
 use Rattle.mk_decide.specs.Edits.{Refusal, BadField, BadName}
 use Rattle.mk_line.specs.Kinds.{is_name}
-use Rattle.mk_decide.specs.FieldEdits.{Found, field_at, behind_name, renamed}
+use Rattle.mk_decide.specs.FieldEdits.{Found, field_at, after_name, renamed}
 use Rattle.mk_decide.specs.FieldPuts.{LinePut, add_put, set_put, name_put, put_unless, put_found, puts, PutsLines, IsPut}
 use Rattle.mk_decide.proofs.Runs.{IsFound, FoundIn, field_is}
 use Rattle.mk_decide.proofs.Counting.{name_before}
@@ -54,8 +54,8 @@ name_is fields to f h = record {
   gone = name_of f.start;
   new = to;
   whole = h.whole;
-  old_is = append_nil (printed_line f.start) ∙ (ap (λ xs. xs ++ ending_bytes f.start.ending) (sym (name_before f.start.content)) ∙ append_assoc (name_of f.start) (behind_name f.start.content) (ending_bytes f.start.ending));
-  given_is = append_nil (printed_line (renamed to f.start)) ∙ append_assoc to (behind_name f.start.content) (ending_bytes f.start.ending);
+  old_is = append_nil (printed_line f.start) ∙ (ap (λ xs. xs ++ ending_bytes f.start.ending) (sym (name_before f.start.content)) ∙ append_assoc (name_of f.start) (after_name f.start.content) (ending_bytes f.start.ending));
+  given_is = append_nil (printed_line (renamed to f.start)) ∙ append_assoc to (after_name f.start.content) (ending_bytes f.start.ending);
 }
 
 pub puts_is : (edit : FieldEdit) (fields : List TextLine) → Puts fields (puts edit fields)

@@ -7,8 +7,8 @@ use Rattle.mk_head.specs.Fields.{FieldText, name_of}
 use Rattle.mk_tree.specs.Spans.{size}
 use Rattle.mk_decide.specs.declared.field_edits.Put.{Put}
 use Rattle.mk_decide.specs.Edits.{Refusal, NoSuchField}
-use Rattle.mk_decide.specs.FieldEdits.{Found, behind_name, renamed}
-use Rattle.mk_decide.specs.FieldPuts.{LinePut, add_put, set_put, name_put, put_unless, put_found, PutsLines, IsPut, IsFieldAt, first_line_size, behind_field_name}
+use Rattle.mk_decide.specs.FieldEdits.{Found, after_name, renamed}
+use Rattle.mk_decide.specs.FieldPuts.{LinePut, add_put, set_put, name_put, put_unless, put_found, PutsLines, IsPut, IsFieldAt, first_line_size, after_field_name}
 use Rattle.mk_decide.proofs.Counting.{name_before}
 
 pub put_by : (r : Put) (x y : Result LinePut Refusal) → y ≡ x → IsPut r x → IsPut r y
@@ -34,36 +34,36 @@ pub put_set : (r : Put) (given : List TextLine) (f : Found) → r.from ≡ size 
 put_set r given f p q l k = record { from = p; count = q; lines = l; kept = k }
 
 -- the name of a field start, and what follows it
-start_apart : (l : TextLine) → name_of l ++ (behind_name l.content ++ ending_bytes l.ending) ≡ printed_line l
-start_apart l = sym (append_assoc (name_of l) (behind_name l.content) (ending_bytes l.ending)) ∙ ap (λ xs. xs ++ ending_bytes l.ending) (name_before l.content)
+start_apart : (l : TextLine) → name_of l ++ (after_name l.content ++ ending_bytes l.ending) ≡ printed_line l
+start_apart l = sym (append_assoc (name_of l) (after_name l.content) (ending_bytes l.ending)) ∙ ap (λ xs. xs ++ ending_bytes l.ending) (name_before l.content)
 
 first_is_start : (name : List ℕ) (k : ℕ) (ls : List TextLine) (place : ℕ) (field : FieldText) (a : IsFieldAt name k ls place field) → first_line_size (cut field.raw) ≡ length (printed_line a.found.start)
 first_is_start name k ls place field a = ap first_line_size a.lines
 
 pub name_within : (name : List ℕ) (k : ℕ) (ls : List TextLine) (place : ℕ) (field : FieldText) → IsFieldAt name k ls place field → length field.name ≤ first_line_size (cut field.raw)
 name_within name k ls place field a =
-    omega (arith, ap length a.name, first_is_start name k ls place field a, ap length (start_apart a.found.start), length-append (name_of a.found.start) (behind_name a.found.start.content ++ ending_bytes a.found.start.ending))
+    omega (arith, ap length a.name, first_is_start name k ls place field a, ap length (start_apart a.found.start), length-append (name_of a.found.start) (after_name a.found.start.content ++ ending_bytes a.found.start.ending))
 
-pub behind_is : (name : List ℕ) (k : ℕ) (ls : List TextLine) (place : ℕ) (field : FieldText) (a : IsFieldAt name k ls place field) → behind_field_name field ≡ behind_name a.found.start.content ++ ending_bytes a.found.start.ending
-behind_is name k ls place field a =
+pub following_is : (name : List ℕ) (k : ℕ) (ls : List TextLine) (place : ℕ) (field : FieldText) (a : IsFieldAt name k ls place field) → after_field_name field ≡ after_name a.found.start.content ++ ending_bytes a.found.start.ending
+following_is name k ls place field a =
     let start = a.found.start in
-    let kept = behind_name start.content ++ ending_bytes start.ending in
+    let kept = after_name start.content ++ ending_bytes start.ending in
     ap (λ n. drop (length field.name) (take n field.raw)) (first_is_start name k ls place field a)
     ∙ (ap (λ xs. drop (length field.name) (take (length (printed_line start)) xs)) a.raw
     ∙ (ap (drop (length field.name)) (take-append_seam (printed_line start) (text_of a.found.more))
     ∙ (ap (λ xs. drop (length xs) (printed_line start)) a.name
     ∙ (ap (drop (length (name_of start))) (sym (start_apart start)) ∙ drop-append_seam (name_of start) kept))))
 
-pub put_renamed : (r : Put) (to name : List ℕ) (k : ℕ) (ls : List TextLine) (place : ℕ) (field : FieldText) (behind : List ℕ) (a : IsFieldAt name k ls place field) → behind ≡ behind_field_name field
-    → r.from ≡ place → r.count ≡ length field.name + length behind → r.lines.items ≡ to ++ behind → r.kept ≡ length behind → PutsLines r (name_put to a.found)
-put_renamed r to name k ls place field behind a b p q l t =
+pub put_renamed : (r : Put) (to name : List ℕ) (k : ℕ) (ls : List TextLine) (place : ℕ) (field : FieldText) (following : List ℕ) (a : IsFieldAt name k ls place field) → following ≡ after_field_name field
+    → r.from ≡ place → r.count ≡ length field.name + length following → r.lines.items ≡ to ++ following → r.kept ≡ length following → PutsLines r (name_put to a.found)
+put_renamed r to name k ls place field following a b p q l t =
     let start = a.found.start in
-    let kept = behind_name start.content ++ ending_bytes start.ending in
-    let same : behind ≡ kept = b ∙ behind_is name k ls place field a in
+    let kept = after_name start.content ++ ending_bytes start.ending in
+    let same : following ≡ kept = b ∙ following_is name k ls place field a in
     record {
-      from = p ∙ a.behind;
+      from = p ∙ a.following;
       count = omega (arith, q, ap length a.name, ap length same, ap length (start_apart start), length-append (name_of start) kept, ap length (append_nil (printed_line start)));
-      lines = l ∙ (ap (λ xs. to ++ xs) same ∙ (sym (append_assoc to (behind_name start.content) (ending_bytes start.ending)) ∙ sym (append_nil (printed_line (renamed to start)))));
+      lines = l ∙ (ap (λ xs. to ++ xs) same ∙ (sym (append_assoc to (after_name start.content) (ending_bytes start.ending)) ∙ sym (append_nil (printed_line (renamed to start)))));
       kept = t ∙ ap length same;
     }
 

@@ -28,7 +28,7 @@ use Rattle.mk_decide.specs.Outcomes.{has_mark, hit, or_own, edited}
 use Rattle.mk_decide.specs.Local.{HeaderEnds, IsLocal}
 use Rattle.mk_decide.specs.Around.{hit_below}
 use Rattle.mk_decide.specs.Looks.{has_separator}
-use Rattle.mk_decide.specs.LocalAnswers.{behind_first, opens_at}
+use Rattle.mk_decide.specs.LocalAnswers.{after_first, opens_at}
 use Rattle.mk_decide.specs.SectionAnswers.{body_place, part_bytes, ends_at_delimiter, insertion_at, insertion_of, insertion_answer}
 use Rattle.mk_decide.proofs.EveryEdit.{locality_lem, eol_closed}
 use Rattle.mk_decide.proofs.Decisions.{AnswersAs, planned_answers, fits_is, unplanned}
@@ -206,7 +206,7 @@ place_sum : (start : ℕ) (head pre ls : List TextLine) → start + size (head +
 place_sum start head pre ls = omega (arith, size_append head (pre ++ ls))
 
 spot_answers : (text path given : List ℕ) (k : ℕ) (p : Placed) (s : IsSite text path p) (h : Head) (b : List ℕ) (pre : List TextLine) (ps : Parts) (t : Option (TextLine × List TextLine)) → IsSpot text path p s h b pre ps t → (q : Parts × Parts) → parts_at k ps ≡ Some q → append_parts q.0 q.1 ≡ ps → front_lines k ps ≡ print_parts q.0
-    → AnswersAs (InsertPart path k given) text (insertion_at text (behind_first path) given b p (Some (p.start + size (head_lines h ++ (pre ++ front_lines k ps))))) (edited (InsertPart path k given) (tree text))
+    → AnswersAs (InsertPart path k given) text (insertion_at text (after_first path) given b p (Some (p.start + size (head_lines h ++ (pre ++ front_lines k ps))))) (edited (InsertPart path k given) (tree text))
 spot_answers text path given k p s h b pre ps t i q o a f =
     let e = InsertPart path k given in
     let eol = eol_of (cut text) in
@@ -218,7 +218,7 @@ spot_answers text path given k p s h b pre ps t i q o a f =
     let root = root_of (tree text) in
     let place = p.start + size (head_lines h ++ (pre ++ front_lines k ps)) in
     let bytes = part_bytes text b given in
-    let numbers : behind_first path ≡ s.numbers = ap behind_first s.path_is in
+    let numbers : after_first path ≡ s.numbers = ap after_first s.path_is in
     let are = given_are text path p s h b pre ps t i eol closed given in
     let lines : cut bytes ≡ l ∷ cut given = ap cut (made_text l given) ∙ cut_text (l ∷ cut given) are in
     let before = head_lines h ++ (pre ++ print_parts q.0) in
@@ -232,11 +232,11 @@ spot_answers text path given k p s h b pre ps t i q o a f =
     let test : ends_at_delimiter p place b ≡ look h.separator p.start (size (head_lines h)) (p.start + (size (head_lines h) + size (pre ++ print_parts q.0))) l =
     ap (λ y. has_separator (entity_head y).separator || (not (place == body_place p) || not (is_start l))) i.whole
     ∙ (ap (λ n. has_separator h.separator || (not (place == n) || not (is_start l))) head ∙ ap (λ n. has_separator h.separator || (not (n == p.start + size (head_lines h)) || not (is_start l))) at) in
-    planned_answers e text plan (opens_at text place 0 bytes) (or_own (hit_below (cut bytes) 1 (behind_first path) root) (has_mark b (cut given)) (length (behind_first path) + 1)) (ends_at_delimiter p place b)
+    planned_answers e text plan (opens_at text place 0 bytes) (or_own (hit_below (cut bytes) 1 (after_first path) root) (has_mark b (cut given)) (length (after_first path) + 1)) (ends_at_delimiter p place b)
     (record { place = place; count = 0; new = bytes }) [] planned_so (splices_here e text path p s refl ∙ ap (part_splices eol p.start k given) i.whole) refl
     (opens_here text path p s plan.new before [] (l ∷ cut given) after place 0 bytes (ap print (i.whole ∙ ap (λ xs. multi h b pre xs t) (sym a)) ∙ print_sides h b pre q.0 q.1 t)
     (print_added h b pre q.0 l x q.1 t ∙ ap (λ ls. before ++ ((l ∷ ls) ++ after)) kept) are (ap (λ ls. p.start + size (head_lines h ++ (pre ++ ls))) f) refl (made_text l given))
-    (ap (λ ls. or_own (hit_below ls 1 (behind_first path) root) (has_mark b (cut given)) (length (behind_first path) + 1)) lines
+    (ap (λ ls. or_own (hit_below ls 1 (after_first path) root) (has_mark b (cut given)) (length (after_first path) + 1)) lines
     ∙ (ap (λ ks. or_own (hit_below (l ∷ cut given) 1 ks root) (has_mark b (cut given)) (length ks + 1)) numbers
     ∙ (ap (λ r. or_own r (has_mark b (cut given)) (length s.numbers + 1)) (hit_here text path p s (l ∷ cut given))
     ∙ ap (or_own (hit 1 s.around (l ∷ cut given)) (has_mark b (cut given))) (one_more (length s.numbers) ∙ ap (λ n. suc n) (sym (as_long s.numbers (tree text).root s.around p.entity s.found))))))
@@ -269,19 +269,19 @@ spot_answers text path given k p s h b pre ps t i q o a f =
     })
 
 gap_answers : (text path given : List ℕ) (k : ℕ) (p : Placed) (s : IsSite text path p) (h : Head) (b : List ℕ) (pre : List TextLine) (ps : Parts) (t : Option (TextLine × List TextLine)) → IsSpot text path p s h b pre ps t → (o : Option (Parts × Parts)) → parts_at k ps ≡ o → Sides ps o → FrontOf k ps o
-    → AnswersAs (InsertPart path k given) text (insertion_at text (behind_first path) given b p (at_parts (p.start + size (head_lines h ++ (pre ++ front_lines k ps))) o)) (edited (InsertPart path k given) (tree text))
+    → AnswersAs (InsertPart path k given) text (insertion_at text (after_first path) given b p (at_parts (p.start + size (head_lines h ++ (pre ++ front_lines k ps))) o)) (edited (InsertPart path k given) (tree text))
 gap_answers text path given k p s h b pre ps t i None o a f =
     let e = InsertPart path k given in
     let eol = eol_of (cut text) in
     unplanned e text BadPlace (plan_here e text path p s refl ∙ (ap (λ y. insert eol s.around y k (cut given)) i.whole ∙ ap (insert_between eol s.around h b pre t (cut given)) o))
 gap_answers text path given k p s h b pre ps t i (Some q) o a f = spot_answers text path given k p s h b pre ps t i q o a f
 
-insertion_by : (text path given : List ℕ) (k : ℕ) (p : Placed) (s : IsSite text path p) (x : Entity) → p.entity ≡ x → AnswersAs (InsertPart path k given) text (insertion_of text (behind_first path) given k p x) (edited (InsertPart path k given) (tree text))
+insertion_by : (text path given : List ℕ) (k : ℕ) (p : Placed) (s : IsSite text path p) (x : Entity) → p.entity ≡ x → AnswersAs (InsertPart path k given) text (insertion_of text (after_first path) given k p x) (edited (InsertPart path k given) (tree text))
 insertion_by text path given k p s (leaf h ls) x = unplanned (InsertPart path k given) text NotMultipart (plan_here (InsertPart path k given) text path p s refl ∙ ap (λ y. insert (eol_of (cut text)) s.around y k (cut given)) x)
 insertion_by text path given k p s (message h e) x = unplanned (InsertPart path k given) text NotMultipart (plan_here (InsertPart path k given) text path p s refl ∙ ap (λ y. insert (eol_of (cut text)) s.around y k (cut given)) x)
 insertion_by text path given k p s (multi h b pre ps t) x =
-    subst (λ o. AnswersAs (InsertPart path k given) text (insertion_at text (behind_first path) given b p o) (edited (InsertPart path k given) (tree text))) (sym (gap_told k p h b pre ps t x))
+    subst (λ o. AnswersAs (InsertPart path k given) text (insertion_at text (after_first path) given b p o) (edited (InsertPart path k given) (tree text))) (sym (gap_told k p h b pre ps t x))
     (gap_answers text path given k p s h b pre ps t (spot text path p s h b pre ps t x) (parts_at k ps) refl (sides k ps) (front_is k ps))
 
-pub insertion_answers : (text path given : List ℕ) (k : ℕ) (p : Placed) → section_at path (tree text) ≡ Some p → AnswersAs (InsertPart path k given) text (insertion_answer text (behind_first path) given k p) (edited (InsertPart path k given) (tree text))
+pub insertion_answers : (text path given : List ℕ) (k : ℕ) (p : Placed) → section_at path (tree text) ≡ Some p → AnswersAs (InsertPart path k given) text (insertion_answer text (after_first path) given k p) (edited (InsertPart path k given) (tree text))
 insertion_answers text path given k p h = insertion_by text path given k p (site text path p h) p.entity refl

@@ -10,9 +10,9 @@ use Rattle.mk_tree.specs.Spans.{size}
 use Rattle.mk_tree.specs.Places.{Frame, put, placed, lines_before, lines_after}
 use Rattle.mk_splice.specs.Splices.{spliced, Splice, Stands, forth_step, GoesForth, LeadsTo}
 use Rattle.mk_splice.proofs.Bytes.{spliced_there, stands_there, leads_to}
-use Rattle.mk_tree.proofs.HeadChanged.{behind_fields, entity_lines, changed_lines}
+use Rattle.mk_tree.proofs.HeadChanged.{after_fields, entity_lines, changed_lines}
 use Rattle.mk_tree.proofs.Plugs.{lines_end, print_plug}
-use Rattle.mk_decide.specs.FieldEdits.{Found, behind_name, renamed}
+use Rattle.mk_decide.specs.FieldEdits.{Found, after_name, renamed}
 use Rattle.mk_decide.specs.Plans.{Plan, add_plan, drop_plan, rename_plan, change_plan, planned}
 use Rattle.mk_decide.specs.EditSplices.{one_splice}
 use Rattle.mk_decide.proofs.Counting.{name_before}
@@ -23,28 +23,28 @@ pub record Led (text new_text : List ℕ) (ss : List Splice) : Type 0 where
   pub front : List ℕ
   pub old : List ℕ
   pub new : List ℕ
-  pub behind : List ℕ
+  pub following : List ℕ
   pub splices : ss ≡ one_splice (length front) old new
-  pub before : text ≡ front ++ (old ++ behind)
-  pub after : new_text ≡ front ++ (new ++ behind)
+  pub before : text ≡ front ++ (old ++ following)
+  pub after : new_text ≡ front ++ (new ++ following)
 
 pub leads : (text new_text : List ℕ) (ss : List Splice) → Led text new_text ss → LeadsTo ss text new_text
 leads text new_text ss l =
-    let stands : GoesForth (one_splice (length l.front) l.old l.new) text = (subst (Stands (length l.front) l.old) (sym l.before) (stands_there l.front l.old l.behind), tt) in
+    let stands : GoesForth (one_splice (length l.front) l.old l.new) text = (subst (Stands (length l.front) l.old) (sym l.before) (stands_there l.front l.old l.following), tt) in
     leads_to ss text new_text (subst (λ rs. GoesForth rs text) (sym l.splices) stands)
-    (ap (λ rs. forth_step rs text) l.splices ∙ (ap (spliced (length l.front) (length l.old) l.new) l.before ∙ (spliced_there l.front l.old l.behind l.new ∙ sym l.after)))
+    (ap (λ rs. forth_step rs text) l.splices ∙ (ap (spliced (length l.front) (length l.old) l.new) l.before ∙ (spliced_there l.front l.old l.following l.new ∙ sym l.after)))
 
 -- the same between the lines of a section
 pub record Within (s n : Entity) (at : ℕ) (old new : List ℕ) : Type 0 where
   pub front : List ℕ
-  pub behind : List ℕ
+  pub following : List ℕ
   pub at_is : at ≡ length front
-  pub before : text_of (print s) ≡ front ++ (old ++ behind)
-  pub after : text_of (print n) ≡ front ++ (new ++ behind)
+  pub before : text_of (print s) ≡ front ++ (old ++ following)
+  pub after : text_of (print n) ≡ front ++ (new ++ following)
 
-put_text : (envelope : Option TextLine) (fs : List Frame) (s : Entity) (front mid behind : List ℕ) → text_of (print s) ≡ front ++ (mid ++ behind)
-    → printed (put envelope fs s) ≡ (text_of (option_line envelope ++ lines_before fs) ++ front) ++ (mid ++ (behind ++ text_of (lines_after fs)))
-put_text envelope fs s front mid behind e =
+put_text : (envelope : Option TextLine) (fs : List Frame) (s : Entity) (front mid following : List ℕ) → text_of (print s) ≡ front ++ (mid ++ following)
+    → printed (put envelope fs s) ≡ (text_of (option_line envelope ++ lines_before fs) ++ front) ++ (mid ++ (following ++ text_of (lines_after fs)))
+put_text envelope fs s front mid following e =
     let all = option_line envelope ++ lines_before fs in
     ap (λ ls. text_of (option_line envelope ++ ls)) (print_plug fs s)
     ∙ (ap text_of (sym (append_assoc (option_line envelope) (lines_before fs) (print s ++ lines_after fs)))
@@ -60,10 +60,10 @@ put_led envelope fs s n at old new w =
       front = text_of all ++ w.front;
       old = old;
       new = new;
-      behind = w.behind ++ text_of (lines_after fs);
+      following = w.following ++ text_of (lines_after fs);
       splices = ap (λ k. one_splice k old new) start;
-      before = put_text envelope fs s w.front old w.behind w.before;
-      after = put_text envelope fs n w.front new w.behind w.after;
+      before = put_text envelope fs s w.front old w.following w.before;
+      after = put_text envelope fs n w.front new w.following w.after;
     }
 
 -- where the section begins
@@ -84,10 +84,10 @@ pub fields_within : (s : Entity) (before old given after : List TextLine) (gone 
     → Within s (with_fields (before ++ (given ++ after)) s) (size before) gone new
 fields_within s before old given after gone new kept w o g = record {
   front = text_of before;
-  behind = kept ++ (text_of after ++ text_of (behind_fields s));
+  following = kept ++ (text_of after ++ text_of (after_fields s));
   at_is = refl;
-  before = ap text_of (entity_lines s ∙ ap (λ ls. ls ++ behind_fields s) (sym w)) ∙ fields_text before old after (behind_fields s) gone kept o;
-  after = ap text_of (changed_lines (before ++ (given ++ after)) s) ∙ fields_text before given after (behind_fields s) new kept g;
+  before = ap text_of (entity_lines s ∙ ap (λ ls. ls ++ after_fields s) (sym w)) ∙ fields_text before old after (after_fields s) gone kept o;
+  after = ap text_of (changed_lines (before ++ (given ++ after)) s) ∙ fields_text before given after (after_fields s) new kept g;
 }
 
 -- a plan and the splice of its edit
@@ -113,6 +113,6 @@ change_led envelope fs s text f h =
 pub rename_led : (envelope : Option TextLine) (fs : List Frame) (s : Entity) (to : List ℕ) (f : Found) → IsFound (field_lines s) f → IsLed envelope fs s (one_splice ((placed envelope fs s).start + size f.before) (name_of f.start) to) (rename_plan fs s to f)
 rename_led envelope fs s to f h =
     put_led envelope fs s (with_fields (f.before ++ (renamed to f.start ∷ (f.more ++ f.after))) s) (size f.before) (name_of f.start) to
-    (fields_within s f.before (f.start ∷ []) (renamed to f.start ∷ []) (f.more ++ f.after) (name_of f.start) to (behind_name f.start.content ++ ending_bytes f.start.ending) h.whole
-    (append_nil (printed_line f.start) ∙ (ap (λ xs. xs ++ ending_bytes f.start.ending) (sym (name_before f.start.content)) ∙ append_assoc (name_of f.start) (behind_name f.start.content) (ending_bytes f.start.ending)))
-    (append_nil (printed_line (renamed to f.start)) ∙ append_assoc to (behind_name f.start.content) (ending_bytes f.start.ending)))
+    (fields_within s f.before (f.start ∷ []) (renamed to f.start ∷ []) (f.more ++ f.after) (name_of f.start) to (after_name f.start.content ++ ending_bytes f.start.ending) h.whole
+    (append_nil (printed_line f.start) ∙ (ap (λ xs. xs ++ ending_bytes f.start.ending) (sym (name_before f.start.content)) ∙ append_assoc (name_of f.start) (after_name f.start.content) (ending_bytes f.start.ending)))
+    (append_nil (printed_line (renamed to f.start)) ∙ append_assoc to (after_name f.start.content) (ending_bytes f.start.ending)))

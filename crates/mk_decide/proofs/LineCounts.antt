@@ -3,7 +3,7 @@ use Rattle.std.proofs.Common.{◌≡◌, ◌+◌, ◌≤◌, ◌||◌, ◌++◌,
 use Rattle.std.proofs.lemmas.Bool.{cases_Bool}
 use Rattle.std.specs.Str.{bytes_eq}
 use Rattle.mk_line.specs.Lines.{cut, text_of, eol_of, AreLines}
-use Rattle.mk_line.proofs.Cuts.{cut_text, lines_behind}
+use Rattle.mk_line.proofs.Cuts.{cut_text, lines_following}
 use Rattle.mk_head.specs.Split.{head_lines}
 use Rattle.mk_tree.specs.Cutting.{tail_lines}
 use Rattle.mk_tree.specs.Kinds.{Kind, Leaf, Message, Multi, kind, is_digest}
@@ -49,7 +49,7 @@ others_some place followed d g (part l e ps) a h =
     rw h
     (both_same (length (cut (text_of (field_lines e)))) (length (field_lines e)) (lines_of_others g (parts_placed (place + size (l ∷ []) + size (print e)) followed d ps)) (part_lines ps)
     (ap length (cut_text (field_lines e) (entity_fields e (lines_front (print e) (print_parts ps) a.2))))
-    (others_some (place + size (l ∷ []) + size (print e)) followed d g ps (lines_behind (print e) (print_parts ps) a.2) h))
+    (others_some (place + size (l ∷ []) + size (print e)) followed d g ps (lines_following (print e) (print_parts ps) a.2) h))
 
 others_are : (place : ℕ) (followed d g : Bool) (ps : Parts) → AreLines (print_parts ps) → lines_of_others g (parts_placed place followed d ps) ≡ (if is_other d g then part_lines ps else 0)
 others_are place followed d g ps a =
@@ -76,7 +76,7 @@ alike_lines start followed d (Multi c g) (leaf h ls) a = zero_least (kind_lines 
 alike_lines start followed d (Multi c g) (message h e) a = zero_least (kind_lines d (message h e) (Multi c g))
 alike_lines start followed d (Multi c g) (multi h b pre ps t) a =
     let place = start + size (head_lines h) + size pre in
-    let parts : AreLines (print_parts ps) = lines_front (print_parts ps) (tail_lines t) (lines_behind pre (print_parts ps ++ tail_lines t) (lines_behind (head_lines h) (pre ++ (print_parts ps ++ tail_lines t)) a)) in
+    let parts : AreLines (print_parts ps) = lines_front (print_parts ps) (tail_lines t) (lines_following pre (print_parts ps ++ tail_lines t) (lines_following (head_lines h) (pre ++ (print_parts ps ++ tail_lines t)) a)) in
     let are = others_are place (has_tail t || followed) (digest_below d h) g ps parts in
     if_most (bytes_eq b c) (lines_of_others g (parts_placed place (has_tail t || followed) (digest_below d h) ps)) (kind_lines d (multi h b pre ps t) (Multi c g))
     (same_most (lines_of_others g (parts_placed place (has_tail t || followed) (digest_below d h) ps)) (kind_lines d (multi h b pre ps t) (Multi c g)) are)

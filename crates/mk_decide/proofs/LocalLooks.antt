@@ -67,12 +67,12 @@ fits_unglued g (f ∷ []) e h = fits_frame f e h
 fits_unglued g (f ∷ k ∷ fs) e h = fits_unglued (frame_glues f) (k ∷ fs) e h
 
 -- after a message without one, only an entity without a head
-bare_behind : (fields : List TextLine) (o : Option TextLine) (e : Entity) → Each (option_line o) → not (has_separator o) ≡ true → Continues fields o e → entity_head e ≡ open_head []
-bare_behind fields None e s h c = c.0
-bare_behind fields (Some l) e s h c = true_false (sym (separator_there l s.0) ∙ not_true (has_separator (Some l)) h)
+bare_after : (fields : List TextLine) (o : Option TextLine) (e : Entity) → Each (option_line o) → not (has_separator o) ≡ true → Continues fields o e → entity_head e ≡ open_head []
+bare_after fields None e s h c = c.0
+bare_after fields (Some l) e s h c = true_false (sym (separator_there l s.0) ∙ not_true (has_separator (Some l)) h)
 
 bare_frame : (f : Frame) (e : Entity) → Each (lines_before (f ∷ [])) → frame_glues f ≡ true → FitsFrame f e → entity_head e ≡ open_head []
-bare_frame (in_message h) e s g c = bare_behind h.fields h.separator e (each_back h.fields (option_line h.separator) (each_front (head_lines h) [] s)) g c
+bare_frame (in_message h) e s g c = bare_after h.fields h.separator e (each_back h.fields (option_line h.separator) (each_front (head_lines h) [] s)) g c
 bare_frame (in_multi h b pre before l after t) e s g c = false_true g
 
 each_further : (f k : Frame) (fs : List Frame) → Each (lines_before (f ∷ k ∷ fs)) → Each (lines_before (k ∷ fs))

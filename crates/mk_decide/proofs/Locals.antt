@@ -39,10 +39,10 @@ each_put : (envelope : Option TextLine) (fs : List Frame) (s e : Entity) → Eac
 each_put envelope fs s e h k =
     let whole = put_each envelope fs s h in
     let below = each_back (option_line envelope) (lines_before fs ++ (print s ++ lines_after fs)) whole in
-    let behind = each_back (print s) (lines_after fs) (each_back (lines_before fs) (print s ++ lines_after fs) below) in
+    let following = each_back (print s) (lines_after fs) (each_back (lines_before fs) (print s ++ lines_after fs) below) in
     subst (λ ls. Each (option_line envelope ++ ls)) (sym (print_plug fs e))
     (each_join (option_line envelope) (lines_before fs ++ (print e ++ lines_after fs)) (each_front (option_line envelope) (lines_before fs ++ (print s ++ lines_after fs)) whole)
-    (each_join (lines_before fs) (print e ++ lines_after fs) (each_front (lines_before fs) (print s ++ lines_after fs) below) (each_join (print e) (lines_after fs) k behind)))
+    (each_join (lines_before fs) (print e ++ lines_after fs) (each_front (lines_before fs) (print s ++ lines_after fs) below) (each_join (print e) (lines_after fs) k following)))
 
 some_none : {A : Type 0} (level : ℕ) → ◌≡◌ {A = Option ℕ} (Some level) None → A
 some_none level e = cc

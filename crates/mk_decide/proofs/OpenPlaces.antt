@@ -18,6 +18,6 @@ more_lines text xs [] e a =
 more_lines text xs (y ∷ ys) e a =
     lt-ltb (length (text_of xs)) (length text) (omega (arith, ap length (text_apart text xs (y ∷ ys) e), length-append (text_of xs) (text_of (y ∷ ys)), some_text y ys a.0))
 
-pub behind_lines : (xs ys : List TextLine) → AreLines (xs ++ ys) → AreLines ys
-behind_lines [] ys h = h
-behind_lines (x ∷ xs) ys h = behind_lines xs ys h.2
+pub after_lines : (xs ys : List TextLine) → AreLines (xs ++ ys) → AreLines ys
+after_lines [] ys h = h
+after_lines (x ∷ xs) ys h = after_lines xs ys h.2

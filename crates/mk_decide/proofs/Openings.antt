@@ -18,10 +18,10 @@ last_open (l ∷ []) = is_open l.ending
 last_open (l ∷ m ∷ ls) = last_open (m ∷ ls)
 
 -- the last byte of bytes that others stand before
-pub ends_behind : (us : List ℕ) (b : ℕ) (bs : List ℕ) → ends_open (us ++ (b ∷ bs)) ≡ ends_open (b ∷ bs)
-ends_behind [] b bs = refl
-ends_behind (a ∷ []) b bs = refl
-ends_behind (a ∷ c ∷ us) b bs = ends_behind (c ∷ us) b bs
+pub ends_after : (us : List ℕ) (b : ℕ) (bs : List ℕ) → ends_open (us ++ (b ∷ bs)) ≡ ends_open (b ∷ bs)
+ends_after [] b bs = refl
+ends_after (a ∷ []) b bs = refl
+ends_after (a ∷ c ∷ us) b bs = ends_after (c ∷ us) b bs
 
 -- bytes without a line feed end open
 no_feed_open : (b : ℕ) (bs : List ℕ) → has_line_feed (b ∷ bs) ≡ false → ends_open (b ∷ bs) ≡ true
@@ -36,8 +36,8 @@ open_content [] h = nil_full h.ends_well
 open_content (b ∷ bs) h = no_feed_open b bs h.no_feed
 
 open_line : (content : List ℕ) (e : Ending) → IsLine (text_line content e) → ends_open (content ++ ending_bytes e) ≡ is_open e
-open_line content Crlf h = ends_behind content 13 (10 ∷ [])
-open_line content Lf h = ends_behind content 10 []
+open_line content Crlf h = ends_after content 13 (10 ∷ [])
+open_line content Lf h = ends_after content 10 []
 open_line content Missing h = ap ends_open (append_nil content) ∙ open_content content h
 
 -- a line has a byte
@@ -50,14 +50,14 @@ some_bytes (b ∷ bs) Missing h = omega arith
 pub some_text : (l : TextLine) (ls : List TextLine) → IsLine l → 0 < length (text_of (l ∷ ls))
 some_text l ls h = omega (arith, some_bytes l.content l.ending h, length-append (printed_line l) (text_of ls))
 
-behind_some : (us bs : List ℕ) → 0 < length bs → ends_open (us ++ bs) ≡ ends_open bs
-behind_some us [] h = let none : 0 < 0 = h in absurd (omega arith)
-behind_some us (b ∷ bs) h = ends_behind us b bs
+after_some : (us bs : List ℕ) → 0 < length bs → ends_open (us ++ bs) ≡ ends_open bs
+after_some us [] h = let none : 0 < 0 = h in absurd (omega arith)
+after_some us (b ∷ bs) h = ends_after us b bs
 
 -- the last byte of lines tells whether the last is open
 pub open_text : (l : TextLine) (ls : List TextLine) → AreLines (l ∷ ls) → ends_open (text_of (l ∷ ls)) ≡ last_open (l ∷ ls)
 open_text l [] h = ap ends_open (append_nil (printed_line l)) ∙ open_line l.content l.ending h.0
-open_text l (m ∷ ls) h = behind_some (printed_line l) (text_of (m ∷ ls)) (some_text m ls h.2.0) ∙ open_text m ls h.2
+open_text l (m ∷ ls) h = after_some (printed_line l) (text_of (m ∷ ls)) (some_text m ls h.2.0) ∙ open_text m ls h.2
 
 -- an open line that isn't the last, in two lists one after the other
 pub or_assoc : (a b c : Bool) → ((a || b) || c) ≡ (a || (b || c))

@@ -13,8 +13,8 @@ use Rattle.mk_decide.proofs.SectionSites.{IsSite}
 abbrev onto : Frame → Option (List Frame × Entity) → Option (List Frame × Entity)
 onto f o = option_map {U = List Frame × Entity} (λ (q : List Frame × Entity). (f ∷ q.0, q.1)) o
 
-abbrev behind : List ℕ → Option (Frame × Entity) → Option (List Frame × Entity)
-behind ks o = option_and_then {U = List Frame × Entity} (λ (p : Frame × Entity). onto p.0 (place_at ks p.1)) o
+abbrev following : List ℕ → Option (Frame × Entity) → Option (List Frame × Entity)
+following ks o = option_and_then {U = List Frame × Entity} (λ (p : Frame × Entity). onto p.0 (place_at ks p.1)) o
 
 -- a place below an entity, by numbers and one more
 record HasParent (ks : List ℕ) (k : ℕ) (e : Entity) (fs : List Frame) (s : Entity) : Type 0 where
@@ -35,7 +35,7 @@ pairs gs fs e s h = (ap (λ o. (pair_or (fs, s) o).0) h, ap (λ o. (pair_or (fs,
 none_some : {A : Type 0} (q : List Frame × Entity) → ◌≡◌ {A = Option (List Frame × Entity)} None (Some q) → A
 none_some q h = cc
 
-parent_first : (k : ℕ) (e : Entity) (fs : List Frame) (s : Entity) (o : Option (Frame × Entity)) → step_to k e ≡ o → behind [] o ≡ Some (fs, s) → HasParent [] k e fs s
+parent_first : (k : ℕ) (e : Entity) (fs : List Frame) (s : Entity) (o : Option (Frame × Entity)) → step_to k e ≡ o → following [] o ≡ Some (fs, s) → HasParent [] k e fs s
 parent_first k e fs s None h q = none_some (fs, s) q
 parent_first k e fs s (Some r) h q =
     let p = pairs (r.0 ∷ []) fs r.1 s q in
@@ -52,12 +52,12 @@ parent_deeper j ks k e fs s r (Some x) h f q =
       frame = b.frame;
       parent = b.parent;
       frames = sym p.0 ∙ ap (λ gs. r.0 ∷ gs) b.frames;
-      found = ap (behind ks) h ∙ ap (onto r.0) b.found;
+      found = ap (following ks) h ∙ ap (onto r.0) b.found;
       step = b.step ∙ ap (λ y. Some (b.frame, y)) p.1;
     }
 
 parent_next : (j : ℕ) (ks : List ℕ) (k : ℕ) (e : Entity) (fs : List Frame) (s : Entity) (o : Option (Frame × Entity)) → step_to j e ≡ o → ((x : Entity) (gs : List Frame) (y : Entity) → place_at (ks ++ k ∷ []) x ≡ Some (gs, y) → HasParent ks k x gs y)
-    → behind (ks ++ k ∷ []) o ≡ Some (fs, s) → HasParent (j ∷ ks) k e fs s
+    → following (ks ++ k ∷ []) o ≡ Some (fs, s) → HasParent (j ∷ ks) k e fs s
 parent_next j ks k e fs s None h f q = none_some (fs, s) q
 parent_next j ks k e fs s (Some r) h f q = parent_deeper j ks k e fs s r (place_at (ks ++ k ∷ []) r.1) h (f r.1) q
 

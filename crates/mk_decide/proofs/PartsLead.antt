@@ -27,7 +27,7 @@ use Rattle.mk_decide.proofs.Replacing.{LastWithout, without_is}
 whole_within : (s n : Entity) → Within s n 0 (text_of (print s)) (text_of (print n))
 whole_within s n = record {
   front = [];
-  behind = [];
+  following = [];
   at_is = refl;
   before = sym (append_nil (text_of (print s)));
   after = sym (append_nil (text_of (print n)));
@@ -68,7 +68,7 @@ body_led envelope eol fs (leaf h ls) text =
     put_led envelope fs (leaf h ls) (leaf (record { fields = h.fields; separator = Some (separator_or eol h.separator) }) (cut text)) (size (head_lines h)) (text_of ls) (text_of (made_separator eol h.separator) ++ text)
     (record {
       front = text_of (head_lines h);
-      behind = [];
+      following = [];
       at_is = refl;
       before = text_append (head_lines h) ls ∙ ap (λ t. text_of (head_lines h) ++ t) (sym (append_nil (text_of ls)));
       after = body_text eol h text;
@@ -118,7 +118,7 @@ between_led envelope eol fs h b pre t text place ps (Some q) s f =
     put_led envelope fs (multi h b pre ps t) (multi h b pre (append_parts q.0 (part l (part_read fs h (cut text)) q.1)) t) (size (head_lines h ++ (pre ++ front_lines place ps))) [] (text_of (l ∷ []) ++ text)
     (record {
       front = text_of (front_of h pre q.0);
-      behind = text_of (rest_of q.1 t);
+      following = text_of (rest_of q.1 t);
       at_is = ap (λ ls. size (head_lines h ++ (pre ++ ls))) f;
       before = ap (λ qs. text_of (print (multi h b pre qs t))) (sym s) ∙ sides_text h b pre q.0 q.1 t;
       after = part_text h b pre q.0 l (part_read fs h (cut text)) q.1 t ∙ ap (λ x. text_of (front_of h pre q.0) ++ (x ++ text_of (rest_of q.1 t))) (made_part fs h l text);
@@ -162,7 +162,7 @@ gone_within : (h : Head) (b : List ℕ) (pre : List TextLine) (before : Parts) (
     → Within (multi h b pre (append_parts before (part l s after)) t) (multi h b pre (append_parts before after) t) (size (front_of h pre before)) (text_of (l ∷ print s)) []
 gone_within h b pre before l s after t = record {
   front = text_of (front_of h pre before);
-  behind = text_of (rest_of after t);
+  following = text_of (rest_of after t);
   at_is = refl;
   before = part_text h b pre before l s after t;
   after = sides_text h b pre before after t;

@@ -16,7 +16,7 @@ use Rattle.mk_decide.specs.FieldPuts.{LinePut, add_put, set_put, name_put, put_u
 use Rattle.mk_decide.proofs.Openings.{Each}
 use Rattle.mk_decide.proofs.Runs.{IsFound, FoundIn, field_is}
 use Rattle.mk_decide.proofs.Renaming.{renamed_line}
-use Rattle.mk_decide.proofs.FieldChanges.{AreNew, add_new, drop_new, change_new, rename_new, behind_each, not_true}
+use Rattle.mk_decide.proofs.FieldChanges.{AreNew, add_new, drop_new, change_new, rename_new, following_each, not_true}
 use Rattle.mk_decide.proofs.PutPlans.{lines_put}
 use Rattle.mk_splice.proofs.Bytes.{spliced_there}
 use Rattle.mk_decide.proofs.PutTexts.{apart}
@@ -36,7 +36,7 @@ found_put P ls (Some f) g h k = k f h
 
 -- the given lines are lines of a text
 one_line : (ls : List TextLine) (f : Found) (to : List ℕ) → Each ls → is_name to ≡ true → IsFound ls f → AreLines (renamed to f.start ∷ [])
-one_line ls f to e n h = (renamed_line to f.start n h.start (behind_each ls f h e).0, (λ m. refl), tt)
+one_line ls f to e n h = (renamed_line to f.start n h.start (following_each ls f h e).0, (λ m. refl), tt)
 
 add_lines : (top : Bool) (text : List ℕ) (ls : List TextLine) → AreLines (add_put top (cut text) ls).given
 add_lines true text ls = lines_cut text

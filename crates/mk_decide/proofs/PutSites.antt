@@ -7,7 +7,7 @@ use Rattle.mk_tree.specs.Spans.{size}
 use Rattle.mk_tree.specs.Sections.{Placed, root_of, head_text}
 use Rattle.mk_splice.specs.Splices.{spliced}
 use Rattle.mk_line.proofs.Cuts.{cut_text}
-use Rattle.mk_tree.proofs.HeadChanged.{behind_fields, changed_lines, apart}
+use Rattle.mk_tree.proofs.HeadChanged.{after_fields, changed_lines, apart}
 use Rattle.mk_tree.proofs.Descent.{size_append}
 use Rattle.mk_decide.specs.declared.field_edits.FieldEdit.{FieldEdit}
 use Rattle.mk_decide.specs.declared.field_edits.FieldEdit.TheVariants.{Add, Remove, Rename, Set}
@@ -57,7 +57,7 @@ old_lines text path p s q i =
 
 pub new_lines : (text path : List ℕ) (p : Placed) (s : IsSite text path p) (q : LinePut) → document_lines (planned (tree text).envelope (put_plan s.around p.entity q)) ≡ before_put text path p s q ++ (q.given ++ after_put text path p s q)
 new_lines text path p s q =
-    apart (tree text).envelope s.around (with_fields (lines_put q) p.entity) (lines_put q) (behind_fields p.entity) (changed_lines (lines_put q) p.entity)
+    apart (tree text).envelope s.around (with_fields (lines_put q) p.entity) (lines_put q) (after_fields p.entity) (changed_lines (lines_put q) p.entity)
     ∙ regroup (front_lines text path p s) q.before q.given q.after (rest_lines text path p s)
 
 -- where the place is, in bytes

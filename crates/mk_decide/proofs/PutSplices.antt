@@ -15,7 +15,7 @@ use Rattle.mk_decide.specs.declared.field_edits.FieldEdit.{FieldEdit}
 use Rattle.mk_decide.specs.declared.field_edits.FieldEdit.TheVariants.{Add, Remove, Rename, Set}
 use Rattle.mk_decide.specs.Edits.{Refusal, BadField, BadName}
 use Rattle.mk_line.specs.Kinds.{is_name}
-use Rattle.mk_decide.specs.FieldEdits.{Found, field_at, behind_name, renamed}
+use Rattle.mk_decide.specs.FieldEdits.{Found, field_at, after_name, renamed}
 use Rattle.mk_decide.specs.Plans.{place_of}
 use Rattle.mk_splice.specs.Splices.{Splice}
 use Rattle.mk_decide.specs.EditSplices.{one_splice, for_found, splices_in, splices_at, splices_of}
@@ -58,10 +58,10 @@ drop_splices start f = same_splice (start + size f.before) (start + size f.befor
 
 name_splices : (start : ℕ) (to : List ℕ) (f : Found) → one_splice (start + size f.before) (name_of f.start) to ≡ put_splices start (name_put to f)
 name_splices start to f =
-    let kept = behind_name f.start.content ++ ending_bytes f.start.ending in
+    let kept = after_name f.start.content ++ ending_bytes f.start.ending in
     let old : text_of (f.start ∷ []) ≡ name_of f.start ++ kept =
-    append_nil (printed_line f.start) ∙ (ap (λ xs. xs ++ ending_bytes f.start.ending) (sym (name_before f.start.content)) ∙ append_assoc (name_of f.start) (behind_name f.start.content) (ending_bytes f.start.ending)) in
-    let new : text_of (renamed to f.start ∷ []) ≡ to ++ kept = append_nil (printed_line (renamed to f.start)) ∙ append_assoc to (behind_name f.start.content) (ending_bytes f.start.ending) in
+    append_nil (printed_line f.start) ∙ (ap (λ xs. xs ++ ending_bytes f.start.ending) (sym (name_before f.start.content)) ∙ append_assoc (name_of f.start) (after_name f.start.content) (ending_bytes f.start.ending)) in
+    let new : text_of (renamed to f.start ∷ []) ≡ to ++ kept = append_nil (printed_line (renamed to f.start)) ∙ append_assoc to (after_name f.start.content) (ending_bytes f.start.ending) in
     same_splice (start + size f.before) (start + size f.before) (name_of f.start) _ to _ refl (sym (front_taken (name_of f.start) kept (text_of (f.start ∷ [])) old)) (sym (front_taken to kept (text_of (renamed to f.start ∷ [])) new))
 
 found_splices : (start : ℕ) (o : Option Found) (f : Found → List Splice) (g : Found → Result LinePut Refusal) → ((x : Found) → OfPut (λ q. f x ≡ put_splices start q) (g x)) → OfPut (λ q. for_found o f ≡ put_splices start q) (put_found o g)
@@ -87,15 +87,15 @@ of_ok P r q e h = let k : OfPut P (Ok q) = (rw e at h) in k
 old_bytes : (text path : List ℕ) (p : Placed) (s : IsSite text path p) (q : LinePut) → IsLinePut (cut (head_text p)) q → take (size q.old - length q.kept) (drop (p.start + size q.before) text) ≡ take (size q.old - length q.kept) (text_of q.old)
 old_bytes text path p s q i =
     let front = before_put text path p s q in
-    let behind = after_put text path p s q in
-    let all : text ≡ text_of front ++ (text_of q.old ++ text_of behind) = sym (text_cut text) ∙ (ap text_of (old_lines text path p s q i) ∙ apart front q.old behind) in
+    let following = after_put text path p s q in
+    let all : text ≡ text_of front ++ (text_of q.old ++ text_of following) = sym (text_cut text) ∙ (ap text_of (old_lines text path p s q i) ∙ apart front q.old following) in
     let count : size q.old - length q.kept ≡ length i.gone = omega (arith, ap length i.old_is, length-append i.gone q.kept) in
-    let there : text_of q.old ++ text_of behind ≡ i.gone ++ (q.kept ++ text_of behind) = ap (λ t. t ++ text_of behind) i.old_is ∙ append_assoc i.gone q.kept (text_of behind) in
+    let there : text_of q.old ++ text_of following ≡ i.gone ++ (q.kept ++ text_of following) = ap (λ t. t ++ text_of following) i.old_is ∙ append_assoc i.gone q.kept (text_of following) in
     ap (λ n. take (size q.old - length q.kept) (drop n text)) (place_is text path p s q)
     ∙ (ap (λ t. take (size q.old - length q.kept) (drop (size front) t)) all
-    ∙ (ap (take (size q.old - length q.kept)) (drop-append_seam (text_of front) (text_of q.old ++ text_of behind) ∙ there)
-    ∙ (ap (λ n. take n (i.gone ++ (q.kept ++ text_of behind))) count
-    ∙ (take-append_seam i.gone (q.kept ++ text_of behind)
+    ∙ (ap (take (size q.old - length q.kept)) (drop-append_seam (text_of front) (text_of q.old ++ text_of following) ∙ there)
+    ∙ (ap (λ n. take n (i.gone ++ (q.kept ++ text_of following))) count
+    ∙ (take-append_seam i.gone (q.kept ++ text_of following)
     ∙ (sym (take-append_seam i.gone q.kept) ∙ (ap (take (length i.gone)) (sym i.old_is) ∙ ap (λ n. take n (text_of q.old)) (sym count)))))))
 
 -- the splice of the edit is the one that is answered
@@ -115,5 +115,5 @@ splices_told text path edit p s q i h =
 pub splice_within : (text path : List ℕ) (p : Placed) (s : IsSite text path p) (q : LinePut) → IsLinePut (cut (head_text p)) q → p.start + size q.before + (size q.old - length q.kept) ≤ length text
 splice_within text path p s q i =
     let front = before_put text path p s q in
-    let behind = after_put text path p s q in
-    omega (arith, place_is text path p s q, ap length (text_cut text), ap size (old_lines text path p s q i), size_append front (q.old ++ behind), size_append q.old behind)
+    let following = after_put text path p s q in
+    omega (arith, place_is text path p s q, ap length (text_cut text), ap size (old_lines text path p s q i), size_append front (q.old ++ following), size_append q.old following)

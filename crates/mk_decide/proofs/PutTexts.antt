@@ -11,7 +11,7 @@ use Rattle.mk_tree.proofs.Descent.{size_append}
 use Rattle.mk_decide.specs.Reasons.{is_open_early}
 use Rattle.mk_decide.specs.LocalAnswers.{opens_at}
 use Rattle.mk_decide.proofs.Openings.{last_open, has_line, early_join, early_none, open_text, some_text}
-use Rattle.mk_decide.proofs.OpenPlaces.{front_open, more_lines, behind_lines}
+use Rattle.mk_decide.proofs.OpenPlaces.{front_open, more_lines, after_lines}
 
 -- lines of a text, in two lists
 pub record AreClosed (xs ys : List TextLine) : Type 0 where
@@ -25,17 +25,17 @@ are_closed xs ys h =
     let q = or_parts (last_open xs && has_line ys) (is_open_early ys) p.1 in
     record { front = p.0; seam = q.0; back = q.1 }
 
-line_behind : (a : Bool) (old ys : List TextLine) → (a && has_line (old ++ ys)) ≡ false → (a && has_line ys) ≡ false
-line_behind a [] ys h = h
-line_behind true (l ∷ old) ys h = cc
-line_behind false (l ∷ old) ys h = refl
+line_after : (a : Bool) (old ys : List TextLine) → (a && has_line (old ++ ys)) ≡ false → (a && has_line ys) ≡ false
+line_after a [] ys h = h
+line_after true (l ∷ old) ys h = cc
+line_after false (l ∷ old) ys h = refl
 
 -- lines that go and for which nothing comes
 gone_closed : (xs old ys : List TextLine) → AreLines (xs ++ (old ++ ys)) → is_open_early (xs ++ ys) ≡ false
 gone_closed xs old ys h =
     let a = are_closed xs (old ++ ys) h in
-    let b = are_closed old ys (behind_lines xs (old ++ ys) h) in
-    early_join xs ys ∙ rw (a.front, line_behind (last_open xs) old ys a.seam, b.back) refl
+    let b = are_closed old ys (after_lines xs (old ++ ys) h) in
+    early_join xs ys ∙ rw (a.front, line_after (last_open xs) old ys a.seam, b.back) refl
 
 and_one : (a : Bool) → (a && true) ≡ a
 and_one true = refl
@@ -53,7 +53,7 @@ or_none false = refl
 given_open : (xs old : List TextLine) (g : TextLine) (gs ys : List TextLine) → AreLines (xs ++ (old ++ ys)) → AreLines (g ∷ gs) → is_open_early (xs ++ ((g ∷ gs) ++ ys)) ≡ (last_open xs || (last_open (g ∷ gs) && has_line ys))
 given_open xs old g gs ys h k =
     let a = are_closed xs (old ++ ys) h in
-    let b = are_closed old ys (behind_lines xs (old ++ ys) h) in
+    let b = are_closed old ys (after_lines xs (old ++ ys) h) in
     early_join xs ((g ∷ gs) ++ ys) ∙ rw (a.front, and_one (last_open xs), early_join (g ∷ gs) ys, early_none (g ∷ gs) k, b.back) (ap (λ t. last_open xs || t) (or_none (last_open (g ∷ gs) && has_line ys)))
 
 true_false : {A : Type 0} → true ≡ false → A
@@ -73,16 +73,16 @@ sizes_are : (text : List ℕ) (xs zs : List TextLine) → cut text ≡ xs ++ zs 
 sizes_are text xs zs e = omega (arith, ap length (sym (text_cut text)), ap size e, size_append xs zs)
 
 -- what follows a place, by whether it is the end
-some_behind : (text : List ℕ) (xs zs : List TextLine) → cut text ≡ xs ++ zs → (size xs == length text) ≡ false → has_line zs ≡ true
-some_behind text xs [] e h =
+some_after : (text : List ℕ) (xs zs : List TextLine) → cut text ≡ xs ++ zs → (size xs == length text) ≡ false → has_line zs ≡ true
+some_after text xs [] e h =
     let same : length text ≡ size xs = omega (arith, sizes_are text xs [] e) in
     true_false (sym (same_test (size xs)) ∙ (ap (λ n. size xs == n) (sym same) ∙ h))
-some_behind text xs (z ∷ zs) e h = refl
+some_after text xs (z ∷ zs) e h = refl
 
-none_behind : (text : List ℕ) (xs zs : List TextLine) → cut text ≡ xs ++ zs → (size xs == length text) ≡ true → zs ≡ []
-none_behind text xs [] e h = refl
-none_behind text xs (z ∷ zs) e h =
-    let a : AreLines (z ∷ zs) = behind_lines xs (z ∷ zs) (subst AreLines e (lines_cut text)) in
+none_after : (text : List ℕ) (xs zs : List TextLine) → cut text ≡ xs ++ zs → (size xs == length text) ≡ true → zs ≡ []
+none_after text xs [] e h = refl
+none_after text xs (z ∷ zs) e h =
+    let a : AreLines (z ∷ zs) = after_lines xs (z ∷ zs) (subst AreLines e (lines_cut text)) in
     let none : 0 < 0 = omega (arith, eqb-true (size xs) (length text) h, sizes_are text xs (z ∷ zs) e, some_text z zs a.0) in
     absurd (omega (arith, none))
 
@@ -107,15 +107,15 @@ opens_same text xs old (g ∷ gs) ys e k =
     rw (not_nil (text_of (g ∷ gs)) (some_text g gs k.0))
     (elim (cases_Bool (size xs == length text)) [
       | inl h ↦
-          let none : ys ≡ [] = none_left old ys (none_behind text xs (old ++ ys) e h) in
+          let none : ys ≡ [] = none_left old ys (none_after text xs (old ++ ys) e h) in
           let all : take (size xs) text ≡ text = ap (λ n. take n text) (eqb-true (size xs) (length text) h) ∙ take-length text in
           rw h
           (ap ends_open (sym all) ∙ (front_open text xs (old ++ ys) e
           ∙ (sym (or_none (last_open xs)) ∙ (ap (λ t. last_open xs || t) (sym (and_none (last_open (g ∷ gs)))) ∙ (ap (λ zs. last_open xs || (last_open (g ∷ gs) && has_line zs)) (sym none) ∙ sym goal)))))
       | inr h ↦
-          let closed : last_open xs ≡ false = one_true (last_open xs) (has_line (old ++ ys)) (are_closed xs (old ++ ys) whole).seam (some_behind text xs (old ++ ys) e h) in
+          let closed : last_open xs ≡ false = one_true (last_open xs) (has_line (old ++ ys)) (are_closed xs (old ++ ys) whole).seam (some_after text xs (old ++ ys) e h) in
           let more : nat_lt (size xs + size old) (length text) ≡ has_line ys =
-          ap (λ n. nat_lt n (length text)) (sym (size_append xs old)) ∙ more_lines text (xs ++ old) ys (e ∙ sym (append_assoc xs old ys)) (behind_lines old ys (behind_lines xs (old ++ ys) whole)) in
+          ap (λ n. nat_lt n (length text)) (sym (size_append xs old)) ∙ more_lines text (xs ++ old) ys (e ∙ sym (append_assoc xs old ys)) (after_lines old ys (after_lines xs (old ++ ys) whole)) in
           rw h
           (ap (λ t. t && nat_lt (size xs + size old) (length text)) (open_text g gs k)
           ∙ (ap (λ t. last_open (g ∷ gs) && t) more ∙ (ap (λ t. t || (last_open (g ∷ gs) && has_line ys)) (sym closed) ∙ sym goal)))

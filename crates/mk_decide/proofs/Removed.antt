@@ -3,7 +3,7 @@ use Rattle.std.proofs.Common.{◌≡◌, ◌++◌, ℕ, Bool, false, Option, Non
 use Rattle.mk_line.specs.declared.marks.Mark.TheVariants.{Part}
 use Rattle.mk_line.specs.Marks.{mark}
 use Rattle.mk_line.specs.Lines.{TextLine, AreLines}
-use Rattle.mk_line.proofs.Cuts.{lines_cut, cut_text, lines_behind}
+use Rattle.mk_line.proofs.Cuts.{lines_cut, cut_text, lines_following}
 use Rattle.mk_head.specs.Split.{Head, head_lines, option_line}
 use Rattle.mk_head.specs.Splits.{has_line, Stops, Follows}
 use Rattle.mk_tree.specs.Cutting.{tail_lines, Unmarked, Closes}
@@ -26,7 +26,7 @@ some_nil [] y ys e = cc
 some_nil (x ∷ xs) y ys e = cc
 
 lines_between : (xs : List TextLine) (y : TextLine) (ys zs : List TextLine) → AreLines (xs ++ (y ∷ (ys ++ zs))) → AreLines (xs ++ zs)
-lines_between [] y ys zs h = lines_behind (y ∷ ys) zs h
+lines_between [] y ys zs h = lines_following (y ∷ ys) zs h
 lines_between (x ∷ xs) y ys zs h = (h.0, (λ e. some_nil xs y (ys ++ zs) (h.1 e)), lines_between xs y ys zs h.2)
 
 -- the first line after a header, without a part

@@ -8,7 +8,7 @@ use Rattle.mk_line.specs.Ascii.{is_blank, is_name_byte}
 use Rattle.mk_line.specs.Lines.{TextLine, is_nil, has_line_feed, ends_in_return, EndsWell, IsLine}
 use Rattle.mk_line.specs.Kinds.{is_past_blanks_colon, is_after_name, is_field_start, is_name}
 use Rattle.mk_head.specs.Split.{is_start}
-use Rattle.mk_decide.specs.FieldEdits.{behind_name, renamed}
+use Rattle.mk_decide.specs.FieldEdits.{after_name, renamed}
 
 pub both : (a b : Bool) → (a && b) ≡ true → (a ≡ true) × (b ≡ true)
 both true b h = (refl, h)
@@ -42,17 +42,17 @@ past_name c cs h =
       | inr b ↦ let colon : (c == 58) ≡ true = (rw b at h) in rw (eqb-true c 58 colon) refl
     ]
 
-behind_past : (cs : List ℕ) → is_after_name cs ≡ true → is_past_blanks_colon (behind_name cs) ≡ true
-behind_past [] h = h
-behind_past (c ∷ cs) h =
+after_past : (cs : List ℕ) → is_after_name cs ≡ true → is_past_blanks_colon (after_name cs) ≡ true
+after_past [] h = h
+after_past (c ∷ cs) h =
     elim (cases_Bool (is_name_byte c)) [
-      | inl n ↦ rw n (behind_past cs (rw n at h))
+      | inl n ↦ rw n (after_past cs (rw n at h))
       | inr n ↦ rw n (rw n at h)
     ]
 
-pub start_past : (cs : List ℕ) → is_field_start cs ≡ true → is_past_blanks_colon (behind_name cs) ≡ true
+pub start_past : (cs : List ℕ) → is_field_start cs ≡ true → is_past_blanks_colon (after_name cs) ≡ true
 start_past [] h = h
-start_past (c ∷ cs) h = let p = both (is_name_byte c) (is_after_name cs) h in rw p.0 (behind_past cs p.1)
+start_past (c ∷ cs) h = let p = both (is_name_byte c) (is_after_name cs) h in rw p.0 (after_past cs p.1)
 
 name_after : (to rest : List ℕ) → list_all is_name_byte to ≡ true → is_past_blanks_colon rest ≡ true → is_after_name (to ++ rest) ≡ true
 name_after [] [] n h = h
@@ -64,7 +64,7 @@ name_start [] rest n h = false_true n
 name_start (c ∷ to) rest n h = let p = both (is_name_byte c) (list_all is_name_byte to) n in rw p.0 (name_after to rest p.1 h)
 
 pub renamed_start : (to : List ℕ) (l : TextLine) → is_name to ≡ true → is_start l ≡ true → is_start (renamed to l) ≡ true
-renamed_start to l n h = name_start to (behind_name l.content) n (start_past l.content h)
+renamed_start to l n h = name_start to (after_name l.content) n (start_past l.content h)
 
 -- its bytes
 pub feed_join : (xs ys : List ℕ) → has_line_feed xs ≡ false → has_line_feed ys ≡ false → has_line_feed (xs ++ ys) ≡ false
@@ -75,11 +75,11 @@ pub feed_tested : (f : ℕ → Bool) (cs : List ℕ) → f 10 ≡ false → list
 feed_tested f [] k h = refl
 feed_tested f (c ∷ cs) k h = let p = both (f c) (list_all f cs) h in rw (differs f c 10 p.0 k) (feed_tested f cs k p.1)
 
-behind_feed : (cs : List ℕ) → has_line_feed cs ≡ false → has_line_feed (behind_name cs) ≡ false
-behind_feed [] h = h
-behind_feed (c ∷ cs) h =
+after_feed : (cs : List ℕ) → has_line_feed cs ≡ false → has_line_feed (after_name cs) ≡ false
+after_feed [] h = h
+after_feed (c ∷ cs) h =
     elim (cases_Bool (is_name_byte c)) [
-      | inl n ↦ rw n (behind_feed cs (or_parts (c == 10) (has_line_feed cs) h).1)
+      | inl n ↦ rw n (after_feed cs (or_parts (c == 10) (has_line_feed cs) h).1)
       | inr n ↦ rw n h
     ]
 
@@ -92,7 +92,7 @@ ends_some : (xs ys : List ℕ) → is_past_blanks_colon ys ≡ true → ends_in_
 ends_some xs [] h = false_true h
 ends_some xs (y ∷ ys) h = ends_after xs y ys
 
-ends_name : (cs : List ℕ) → is_past_blanks_colon (behind_name cs) ≡ true → ends_in_return (behind_name cs) ≡ ends_in_return cs
+ends_name : (cs : List ℕ) → is_past_blanks_colon (after_name cs) ≡ true → ends_in_return (after_name cs) ≡ ends_in_return cs
 ends_name [] h = refl
 ends_name (c ∷ []) h =
     elim (cases_Bool (is_name_byte c)) [
@@ -112,13 +112,13 @@ some_name (c ∷ to) rest n = refl
 name_bytes : (to : List ℕ) → is_name to ≡ true → list_all is_name_byte to ≡ true
 name_bytes to n = (both (not (is_nil to)) (list_all is_name_byte to) n).1
 
-ends_renamed : (e : Ending) (to content : List ℕ) → is_name to ≡ true → is_field_start content ≡ true → EndsWell e content → EndsWell e (to ++ behind_name content)
+ends_renamed : (e : Ending) (to content : List ℕ) → is_name to ≡ true → is_field_start content ≡ true → EndsWell e content → EndsWell e (to ++ after_name content)
 ends_renamed Crlf to content n s h = tt
-ends_renamed Lf to content n s h = ends_some to (behind_name content) (start_past content s) ∙ (ends_name content (start_past content s) ∙ h)
-ends_renamed Missing to content n s h = some_name to (behind_name content) n
+ends_renamed Lf to content n s h = ends_some to (after_name content) (start_past content s) ∙ (ends_name content (start_past content s) ∙ h)
+ends_renamed Missing to content n s h = some_name to (after_name content) n
 
 pub renamed_line : (to : List ℕ) (l : TextLine) → is_name to ≡ true → is_start l ≡ true → IsLine l → IsLine (renamed to l)
 renamed_line to l n s h = record {
-  no_feed = feed_join to (behind_name l.content) (feed_tested is_name_byte to refl (name_bytes to n)) (behind_feed l.content h.no_feed);
+  no_feed = feed_join to (after_name l.content) (feed_tested is_name_byte to refl (name_bytes to n)) (after_feed l.content h.no_feed);
   ends_well = ends_renamed l.ending to l.content n s h.ends_well;
 }

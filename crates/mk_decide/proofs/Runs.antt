@@ -7,7 +7,7 @@ use Rattle.mk_head.specs.Split.{is_start, is_more, belongs}
 use Rattle.mk_head.specs.Splits.{IsRun}
 use Rattle.mk_head.specs.Fields.{continuations, is_one_field}
 use Rattle.mk_decide.specs.Reasons.{added}
-use Rattle.mk_decide.specs.FieldEdits.{starts_named, behind_continuations, Found, found_behind, find, field_at}
+use Rattle.mk_decide.specs.FieldEdits.{starts_named, after_continuations, Found, found_after, find, field_at}
 
 or_false : (a : Bool) → (a || false) ≡ a
 or_false true = refl
@@ -62,19 +62,19 @@ added_run true g fields r s = run_join false g fields r s
 added_run false g fields r s = run_join false fields g s r
 
 -- the lines after a field begin another
-pub behind_run : (ls : List TextLine) → IsRun true ls → IsRun false (behind_continuations ls)
-behind_run [] r = tt
-behind_run (l ∷ ls) r =
+pub after_run : (ls : List TextLine) → IsRun true ls → IsRun false (after_continuations ls)
+after_run [] r = tt
+after_run (l ∷ ls) r =
     elim (cases_Bool (is_more l)) [
-      | inl h ↦ rw h (behind_run ls r.1)
+      | inl h ↦ rw h (after_run ls r.1)
       | inr h ↦ rw h (start_belongs false l (sym (or_false (is_start l)) ∙ (ap (λ t. is_start l || t) (sym h) ∙ r.0)), r.1)
     ]
 
-pub more_behind : (ls : List TextLine) → continuations ls ++ behind_continuations ls ≡ ls
-more_behind [] = refl
-more_behind (l ∷ ls) =
+pub more_after : (ls : List TextLine) → continuations ls ++ after_continuations ls ≡ ls
+more_after [] = refl
+more_after (l ∷ ls) =
     elim (cases_Bool (is_more l)) [
-      | inl h ↦ rw h (ap (λ xs. l ∷ xs) (more_behind ls))
+      | inl h ↦ rw h (ap (λ xs. l ∷ xs) (more_after ls))
       | inr h ↦ rw h refl
     ]
 
@@ -88,15 +88,15 @@ abbrev pub FoundIn : List TextLine → Option Found → Type 0
 FoundIn ls None = Unit {0}
 FoundIn ls (Some f) = IsFound ls f
 
-later : (l : TextLine) (ls : List TextLine) (o : Option Found) → FoundIn ls o → FoundIn (l ∷ ls) (found_behind l o)
+later : (l : TextLine) (ls : List TextLine) (o : Option Found) → FoundIn ls o → FoundIn (l ∷ ls) (found_after l o)
 later l ls None h = tt
 later l ls (Some f) h = record { whole = ap (λ xs. l ∷ xs) h.whole; start = h.start; after = h.after }
 
-here : (t : Bool) (l : TextLine) (ls : List TextLine) (o : Option Found) → (t ≡ true → is_start l ≡ true) → FoundIn ls o → FoundIn (l ∷ ls) (if t then Some (record { before = []; start = l; more = continuations ls; after = behind_continuations ls }) else found_behind l o)
+here : (t : Bool) (l : TextLine) (ls : List TextLine) (o : Option Found) → (t ≡ true → is_start l ≡ true) → FoundIn ls o → FoundIn (l ∷ ls) (if t then Some (record { before = []; start = l; more = continuations ls; after = after_continuations ls }) else found_after l o)
 here true l ls o s h = record {
-  whole = ap (λ xs. l ∷ xs) (more_behind ls);
+  whole = ap (λ xs. l ∷ xs) (more_after ls);
   start = s refl;
-  after = λ r. behind_run ls (subst (IsRun true) (more_behind ls) r);
+  after = λ r. after_run ls (subst (IsRun true) (more_after ls) r);
 }
 here false l ls o s h = later l ls o h
 
@@ -116,11 +116,11 @@ field_is name (suc k) ls = find_is (starts_named name) (named_start name) k ls
 pub run_before : (ls : List TextLine) (f : Found) → IsFound ls f → IsRun false ls → IsRun false f.before
 run_before ls f h r = run_front false f.before (f.start ∷ (f.more ++ f.after)) (subst (IsRun false) (sym h.whole) r)
 
-pub run_behind : (ls : List TextLine) (f : Found) → IsFound ls f → IsRun false ls → IsRun true (f.more ++ f.after)
-run_behind ls f h r = run_rest false f.before f.start (f.more ++ f.after) (subst (IsRun false) (sym h.whole) r)
+pub run_following : (ls : List TextLine) (f : Found) → IsFound ls f → IsRun false ls → IsRun true (f.more ++ f.after)
+run_following ls f h r = run_rest false f.before f.start (f.more ++ f.after) (subst (IsRun false) (sym h.whole) r)
 
 pub run_after : (ls : List TextLine) (f : Found) → IsFound ls f → IsRun false ls → IsRun false f.after
-run_after ls f h r = h.after (run_behind ls f h r)
+run_after ls f h r = h.after (run_following ls f h r)
 
 pub run_start : (l : TextLine) (ls : List TextLine) → is_start l ≡ true → IsRun true ls → IsRun false (l ∷ ls)
 run_start l ls h r = (start_belongs false l h, r)

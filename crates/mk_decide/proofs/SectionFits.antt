@@ -25,8 +25,8 @@ use Rattle.mk_decide.specs.Outcomes.{hit, or_own, edited}
 use Rattle.mk_decide.specs.Local.{IsLocal}
 use Rattle.mk_decide.specs.Around.{hit_below}
 use Rattle.mk_decide.specs.Looks.{has_separator}
-use Rattle.mk_decide.specs.LocalAnswers.{behind_first, opens_at}
-use Rattle.mk_decide.specs.SectionAnswers.{outer_path, last_number, runs_on, stays_behind, begins_well, stays, section_answer}
+use Rattle.mk_decide.specs.LocalAnswers.{after_first, opens_at}
+use Rattle.mk_decide.specs.SectionAnswers.{outer_path, last_number, runs_on, stays_after, begins_well, stays, section_answer}
 use Rattle.mk_decide.proofs.EveryEdit.{locality_lem}
 use Rattle.mk_decide.proofs.Decisions.{AnswersAs, planned_answers, fits_is}
 use Rattle.mk_decide.proofs.FieldFits.{entity_are, nil_told, before_each}
@@ -74,7 +74,7 @@ of_stops some l ls h = rw (h.0, h.1) refl
 
 -- an entity after the head of a message
 stays_message : (n : ℕ) (h : Head) (x new : Entity) (ls : List TextLine) → not (is_nil (text_of h.fields)) ≡ has_line h.fields → (g : Bool) → not (has_separator h.separator) ≡ g
-    → (g ≡ false → Continues h.fields h.separator new) → (g ≡ true → (Stops (has_line h.fields) ls ↔ Continues h.fields h.separator new)) → ((stays_behind (message h x) ls ≡ true) ↔ Continues h.fields h.separator new)
+    → (g ≡ false → Continues h.fields h.separator new) → (g ≡ true → (Stops (has_line h.fields) ls ↔ Continues h.fields h.separator new)) → ((stays_after (message h x) ls ≡ true) ↔ Continues h.fields h.separator new)
 stays_message n h x new [] m false e u k = ((λ q. u refl), (λ q. refl))
 stays_message n h x new [] m true e u k = ((λ q. (k refl).0 tt), (λ q. refl))
 stays_message n h x new (l ∷ ls) m false e u k = ((λ q. u refl), (λ q. rw e refl))
@@ -85,13 +85,13 @@ stays_message n h x new (l ∷ ls) m true e u k =
     )
 
 -- after a separator, or none
-free_behind : (fields : List TextLine) (o : Option TextLine) (new : Entity) → not (has_separator o) ≡ false → Continues fields o new
-free_behind fields None new h = true_false h
-free_behind fields (Some l) new h = tt
+free_after : (fields : List TextLine) (o : Option TextLine) (new : Entity) → not (has_separator o) ≡ false → Continues fields o new
+free_after fields None new h = true_false h
+free_after fields (Some l) new h = tt
 
-glued_behind : (n : ℕ) (fields : List TextLine) (o : Option TextLine) (new : Entity) (ls : List TextLine) → Each (option_line o) → IsRun false fields → IsWellRead n false new → print new ≡ ls → not (has_separator o) ≡ true → (Stops (has_line fields) ls ↔ Continues fields o new)
-glued_behind n fields (Some l) new ls e r w q h = true_false (sym (separator_there l e.0) ∙ not_false (has_separator (Some l)) h)
-glued_behind n fields None new ls e r w q h = (
+glued_after : (n : ℕ) (fields : List TextLine) (o : Option TextLine) (new : Entity) (ls : List TextLine) → Each (option_line o) → IsRun false fields → IsWellRead n false new → print new ≡ ls → not (has_separator o) ≡ true → (Stops (has_line fields) ls ↔ Continues fields o new)
+glued_after n fields (Some l) new ls e r w q h = true_false (sym (separator_there l e.0) ∙ not_false (has_separator (Some l)) h)
+glued_after n fields None new ls e r w q h = (
   (λ k. continues_of n false fields None new r (subst (Stops (has_line fields)) (sym q) k) w),
   (λ c. subst (Stops (has_line fields)) q (first_stops (has_line fields) (print new) (of_ends fields (first_line (print new)) c.1).next)),
 )
@@ -100,11 +100,11 @@ not_not : (t : Bool) → not (not t) ≡ t
 not_not true = refl
 not_not false = refl
 
-message_told : (n m : ℕ) (d : Bool) (h : Head) (x new : Entity) (ls : List TextLine) → AreLines (print (message h x)) → IsWellRead m d (message h x) → IsWellRead n false new → print new ≡ ls → ((stays_behind (message h x) ls ≡ true) ↔ Continues h.fields h.separator new)
+message_told : (n m : ℕ) (d : Bool) (h : Head) (x new : Entity) (ls : List TextLine) → AreLines (print (message h x)) → IsWellRead m d (message h x) → IsWellRead n false new → print new ≡ ls → ((stays_after (message h x) ls ≡ true) ↔ Continues h.fields h.separator new)
 message_told n m d h x new ls a v w q =
     let fields : AreLines h.fields = entity_fields (message h x) a in
     let line = each_back h.fields (option_line h.separator) (each_front (head_lines h) (print x) (each_line (print (message h x)) a)) in
-    stays_message n h x new ls (ap not (nil_told h.fields fields) ∙ not_not (has_line h.fields)) (not (has_separator h.separator)) refl (free_behind h.fields h.separator new) (glued_behind n h.fields h.separator new ls line v.0.run w q)
+    stays_message n h x new ls (ap not (nil_told h.fields fields) ∙ not_not (has_line h.fields)) (not (has_separator h.separator)) refl (free_after h.fields h.separator new) (glued_after n h.fields h.separator new ls line v.0.run w q)
 
 abbrev pair_frame : Frame × Entity → Option (Frame × Entity) → Frame
 pair_frame d None = d.0
@@ -122,16 +122,16 @@ multi_frame : (h : Head) (b : List ℕ) (pre : List TextLine) (t : Option (TextL
 multi_frame h b pre t f s new None e = none_some (f, s) e
 multi_frame h b pre t f s new (Some q) e = let same : in_multi h b pre q.0 q.1 q.3 t ≡ f = ap (pair_frame (f, s)) e in subst (λ g. FitsFrame g new) same tt
 
-stays_multi : (h : Head) (b : List ℕ) (pre : List TextLine) (ps : Parts) (t : Option (TextLine × List TextLine)) (ls : List TextLine) → stays_behind (multi h b pre ps t) ls ≡ true
+stays_multi : (h : Head) (b : List ℕ) (pre : List TextLine) (ps : Parts) (t : Option (TextLine × List TextLine)) (ls : List TextLine) → stays_after (multi h b pre ps t) ls ≡ true
 stays_multi h b pre ps t [] = refl
 stays_multi h b pre ps t (l ∷ ls) = refl
 
 -- an entity in the place of one directly below another
-frame_told : (n m k : ℕ) (d : Bool) (x s new : Entity) (f : Frame) (ls : List TextLine) → step_to k x ≡ Some (f, s) → AreLines (print x) → IsWellRead m d x → ((h : Head) → f ≡ in_message h → IsWellRead n false new) → print new ≡ ls → ((stays_behind x ls ≡ true) ↔ FitsFrame f new)
+frame_told : (n m k : ℕ) (d : Bool) (x s new : Entity) (f : Frame) (ls : List TextLine) → step_to k x ≡ Some (f, s) → AreLines (print x) → IsWellRead m d x → ((h : Head) → f ≡ in_message h → IsWellRead n false new) → print new ≡ ls → ((stays_after x ls ≡ true) ↔ FitsFrame f new)
 frame_told n m k d (leaf h xs) s new f ls e a v w q = none_some (f, s) e
 frame_told n m k d (message h x) s new f ls e a v w q =
     let same = one_frame k h x f s e in
-    subst (λ g. (stays_behind (message h x) ls ≡ true) ↔ FitsFrame g new) same (message_told n m d h x new ls a v (w h (sym same)) q)
+    subst (λ g. (stays_after (message h x) ls ≡ true) ↔ FitsFrame g new) same (message_told n m d h x new ls a v (w h (sym same)) q)
 frame_told n m k d (multi h b pre ps t) s new f ls e a v w q = ((λ j. multi_frame h b pre t f s new (part_at k ps) e), (λ j. stays_multi h b pre ps t ls))
 
 -- where a section may stand
@@ -186,7 +186,7 @@ pub none_own : (o : Option ℕ) (level : ℕ) → o ≡ or_own o false level
 none_own None level = refl
 none_own (Some outer) level = refl
 
-pub section_answers : (text path given : List ℕ) (p : Placed) → section_at path (tree text) ≡ Some p → AnswersAs (SetSection path given) text (section_answer text (behind_first path) given (section_at (outer_path path) (tree text)) p) (edited (SetSection path given) (tree text))
+pub section_answers : (text path given : List ℕ) (p : Placed) → section_at path (tree text) ≡ Some p → AnswersAs (SetSection path given) text (section_answer text (after_first path) given (section_at (outer_path path) (tree text)) p) (edited (SetSection path given) (tree text))
 section_answers text path given p h =
     let s = site text path p h in
     let e = SetSection path given in
@@ -194,12 +194,12 @@ section_answers text path given p h =
     let new = new_at s.around ls in
     let plan = read_plan s.around ls in
     let envelope = (tree text).envelope in
-    let numbers : behind_first path ≡ s.numbers = ap behind_first s.path_is in
+    let numbers : after_first path ≡ s.numbers = ap after_first s.path_is in
     let planned_so = plan_here e text path p s refl in
     let law = locality_lem e (tree text) s.around p.entity plan (read_stable text) (place_found text path p s) planned_so in
     let told = stays_told text path p s ls (section_at (outer_path path) (tree text)) (around_told text path p s) in
     let old = text_of (print p.entity) in
-    planned_answers e text plan (opens_at text p.start (length old) given) (hit_below ls 1 (behind_first path) (root_of (tree text))) (stays (section_at (outer_path path) (tree text)) p.start ls)
+    planned_answers e text plan (opens_at text p.start (length old) given) (hit_below ls 1 (after_first path) (root_of (tree text))) (stays (section_at (outer_path path) (tree text)) p.start ls)
     (record { place = p.start; count = length old; new = given }) old planned_so (splices_here e text path p s refl) refl
     (opens_here text path p s new [] (print p.entity) ls [] p.start (length old) given (sym (lines_end (print p.entity))) (print_read (left_at levels s.around) (default_at false s.around) ls ∙ sym (lines_end ls)) (lines_cut given)
     (sym (add-zero p.start)) refl (sym (text_cut given)))

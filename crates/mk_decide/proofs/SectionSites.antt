@@ -3,7 +3,7 @@ use Rattle.std.proofs.Common.{◌≡◌, ◌==◌, ◌≤◌, ◌+◌, ◌++◌,
 use Rattle.std.proofs.lemmas.Bool.{cases_Bool, eqb-true}
 use Rattle.std.specs.Option.{option_map}
 use Rattle.mk_line.specs.Lines.{TextLine, cut, AreLines}
-use Rattle.mk_line.proofs.Cuts.{cut_text, text_cut, lines_cut, lines_behind}
+use Rattle.mk_line.proofs.Cuts.{cut_text, text_cut, lines_cut, lines_following}
 use Rattle.mk_head.specs.Split.{option_line}
 use Rattle.mk_head.specs.Splits.{IsRun}
 use Rattle.mk_tree.specs.Tree.{Entity, field_lines}
@@ -12,7 +12,7 @@ use Rattle.mk_tree.specs.Reading.{IsWellRead}
 use Rattle.mk_tree.specs.Sections.{Placed, section_at, section_below, root_of, head_text}
 use Rattle.mk_tree.specs.Places.{Frame, place_at, put, placed, left_at, default_at, lines_before, lines_after}
 use Rattle.mk_tree.specs.Spans.{size}
-use Rattle.mk_tree.proofs.HeadChanged.{behind_fields, entity_lines, apart}
+use Rattle.mk_tree.proofs.HeadChanged.{after_fields, entity_lines, apart}
 use Rattle.mk_tree.proofs.Kept.{lines_kept}
 use Rattle.mk_tree.proofs.Placed.{sections_placed, place_plug}
 use Rattle.mk_tree.proofs.Descent.{size_append}
@@ -74,16 +74,16 @@ abbrev pub front_lines : (text path : List ℕ) (p : Placed) → IsSite text pat
 front_lines text path p s = option_line (tree text).envelope ++ lines_before s.around
 
 abbrev pub rest_lines : (text path : List ℕ) (p : Placed) → IsSite text path p → List TextLine
-rest_lines text path p s = behind_fields p.entity ++ lines_after s.around
+rest_lines text path p s = after_fields p.entity ++ lines_after s.around
 
 pub site_lines : (text path : List ℕ) (p : Placed) (s : IsSite text path p) → cut text ≡ front_lines text path p s ++ (field_lines p.entity ++ rest_lines text path p s)
 site_lines text path p s =
-    sym (lines_kept text) ∙ (ap document_lines (sym s.whole) ∙ apart (tree text).envelope s.around p.entity (field_lines p.entity) (behind_fields p.entity) (entity_lines p.entity))
+    sym (lines_kept text) ∙ (ap document_lines (sym s.whole) ∙ apart (tree text).envelope s.around p.entity (field_lines p.entity) (after_fields p.entity) (entity_lines p.entity))
 
 pub head_cut : (text path : List ℕ) (p : Placed) → IsSite text path p → cut (head_text p) ≡ field_lines p.entity
 head_cut text path p s =
     let rest = rest_lines text path p s in
-    cut_text (field_lines p.entity) (lines_front (field_lines p.entity) rest (lines_behind (front_lines text path p s) (field_lines p.entity ++ rest) (subst AreLines (site_lines text path p s) (lines_cut text))))
+    cut_text (field_lines p.entity) (lines_front (field_lines p.entity) rest (lines_following (front_lines text path p s) (field_lines p.entity ++ rest) (subst AreLines (site_lines text path p s) (lines_cut text))))
 
 pub head_is_run : (text path : List ℕ) (p : Placed) → IsSite text path p → IsRun false (cut (head_text p))
 head_is_run text path p s = subst (IsRun false) (sym (head_cut text path p s)) (run_read (left_at levels s.around) (default_at false s.around) p.entity s.well)

@@ -3,7 +3,7 @@ use Rattle.std.proofs.Common.{◌≡◌, ◌+◌, ◌-◌, ◌++◌, ℕ, zero, 
 use Rattle.std.specs.Option.{option_map}
 use Rattle.std.proofs.lemmas.Bool.{lt-ltb, le-ltb}
 use Rattle.mk_line.specs.Lines.{TextLine, text_of, AreLines}
-use Rattle.mk_line.proofs.Cuts.{cut_text, lines_behind}
+use Rattle.mk_line.proofs.Cuts.{cut_text, lines_following}
 use Rattle.mk_head.specs.Split.{head_lines, fields_from}
 use Rattle.mk_head.specs.Splits.{IsRun}
 use Rattle.mk_tree.specs.Cutting.{tail_lines}
@@ -12,7 +12,7 @@ use Rattle.mk_tree.specs.Documents.{levels}
 use Rattle.mk_tree.specs.Reading.{IsWellRead, AreWellRead}
 use Rattle.mk_tree.specs.Spans.{digest_below}
 use Rattle.mk_tree.specs.Places.{Frame, step_to, place_at, below, left_at}
-use Rattle.mk_tree.proofs.HeadChanged.{behind_fields, entity_lines}
+use Rattle.mk_tree.proofs.HeadChanged.{after_fields, entity_lines}
 use Rattle.mk_decide.specs.Local.{parts_of}
 use Rattle.mk_decide.specs.KindsKept.{fields_in}
 use Rattle.mk_decide.proofs.Openings.{lines_front}
@@ -62,13 +62,13 @@ pub own_fields : (fields : List TextLine) → AreLines fields → IsRun false fi
 own_fields fields a r = ap (fields_from false) (cut_text fields a) ∙ run_all false fields r
 
 pub entity_fields : (e : Entity) → AreLines (print e) → AreLines (field_lines e)
-entity_fields e a = lines_front (field_lines e) (behind_fields e) (subst AreLines (entity_lines e) a)
+entity_fields e a = lines_front (field_lines e) (after_fields e) (subst AreLines (entity_lines e) a)
 
 parts_fields : (n : ℕ) (d : Bool) (b : List ℕ) (ps : Parts) → AreLines (print_parts ps) → AreWellRead n d b ps → FieldsRead ps
 parts_fields n d b no_parts a w = tt
 parts_fields n d b (part l e ps) a w = (
   own_fields (field_lines e) (entity_fields e (lines_front (print e) (print_parts ps) a.2)) (run_read n d e w.2),
-  parts_fields n d b ps (lines_behind (print e) (print_parts ps) a.2) w.3,
+  parts_fields n d b ps (lines_following (print e) (print_parts ps) a.2) w.3,
 )
 
 pub parts_read : (n : ℕ) (d : Bool) (e : Entity) → AreLines (print e) → IsWellRead n d e → FieldsRead (parts_of e)
@@ -76,4 +76,4 @@ parts_read n d (leaf h ls) a w = tt
 parts_read n d (message h e) a w = tt
 parts_read n d (multi h b pre ps t) a w =
     parts_fields (below n) (digest_below d h) b ps
-    (lines_front (print_parts ps) (tail_lines t) (lines_behind pre (print_parts ps ++ tail_lines t) (lines_behind (head_lines h) (pre ++ (print_parts ps ++ tail_lines t)) a))) w.2
+    (lines_front (print_parts ps) (tail_lines t) (lines_following pre (print_parts ps ++ tail_lines t) (lines_following (head_lines h) (pre ++ (print_parts ps ++ tail_lines t)) a))) w.2

@@ -8,7 +8,7 @@ use Rattle.mk_line.specs.Marks.{trimmed_before, trimmed}
 use Rattle.mk_line.proofs.Blanks.{trimmed_kept}
 use Rattle.mk_line.proofs.Cuts.{append_nil}
 use Rattle.mk_head.specs.Boundaries.{is_boundary_byte, ends_in_space, is_boundary}
-use Rattle.mk_line.specs.Parting.{before, behind}
+use Rattle.mk_line.specs.Parting.{before, following}
 use Rattle.mk_head.specs.Values.{Plain, Quoted, uncommented, push_first, pieces, stripped, unquoted, parameter_value, lowered, parameters, is_token_byte, is_token, MediaType, media_type, typed_as, type_of_pieces, content_type_of}
 use Rattle.mk_head.specs.declared.encodings.Encoding.{Encoding}
 use Rattle.mk_head.specs.Types.{type_by}
@@ -71,12 +71,12 @@ quoted_pieces (c ∷ cs) h = rw (h.1, h.0) (ap (push_first c) (quoted_pieces cs 
 front_pieces : (subtype rest x : List ℕ) (ps : List (List ℕ)) → Simple subtype → pieces Plain rest ≡ x ∷ ps → pieces Plain (codes " multipart/" ++ (subtype ++ rest)) ≡ (codes " multipart/" ++ (subtype ++ x)) ∷ ps
 front_pieces subtype rest x ps h e = ap (λ qs. push_first 32 (push_first 109 (push_first 117 (push_first 108 (push_first 116 (push_first 105 (push_first 112 (push_first 97 (push_first 114 (push_first 116 (push_first 47 qs))))))))))) (plain_pieces subtype rest x ps h e)
 
-behind_pieces : (b : List ℕ) → InQuotes b → pieces Plain (codes "; boundary=\"" ++ (b ++ codes "\"")) ≡ [] ∷ (codes " boundary=\"" ++ (b ++ codes "\"")) ∷ []
-behind_pieces b k = ap (λ qs. [] ∷ push_first 32 (push_first 98 (push_first 111 (push_first 117 (push_first 110 (push_first 100 (push_first 97 (push_first 114 (push_first 121 (push_first 61 (push_first 34 qs))))))))))) (quoted_pieces b k)
+after_pieces : (b : List ℕ) → InQuotes b → pieces Plain (codes "; boundary=\"" ++ (b ++ codes "\"")) ≡ [] ∷ (codes " boundary=\"" ++ (b ++ codes "\"")) ∷ []
+after_pieces b k = ap (λ qs. [] ∷ push_first 32 (push_first 98 (push_first 111 (push_first 117 (push_first 110 (push_first 100 (push_first 97 (push_first 114 (push_first 121 (push_first 61 (push_first 34 qs))))))))))) (quoted_pieces b k)
 
 value_pieces : (subtype b : List ℕ) → Simple subtype → InQuotes b → pieces Plain (made_value subtype b) ≡ (codes " multipart/" ++ subtype) ∷ (codes " boundary=\"" ++ (b ++ codes "\"")) ∷ []
 value_pieces subtype b h k =
-    front_pieces subtype (codes "; boundary=\"" ++ (b ++ codes "\"")) [] ((codes " boundary=\"" ++ (b ++ codes "\"")) ∷ []) h (behind_pieces b k)
+    front_pieces subtype (codes "; boundary=\"" ++ (b ++ codes "\"")) [] ((codes " boundary=\"" ++ (b ++ codes "\"")) ∷ []) h (after_pieces b k)
     ∙ ap (λ xs. (codes " multipart/" ++ xs) ∷ (codes " boundary=\"" ++ (b ++ codes "\"")) ∷ []) (append_nil subtype)
 
 -- without blanks at the ends
@@ -117,7 +117,7 @@ made_type subtype b h k =
     let q = boundary_quotes b k in
     ap (λ v. type_of_pieces (pieces Plain v)) (value_uncommented subtype b s q)
     ∙ (ap type_of_pieces (value_pieces subtype b s q)
-    ∙ (ap (λ v. typed_as (before 47 v) (behind 47 v) (parameters ((codes " boundary=\"" ++ (b ++ codes "\"")) ∷ []))) (type_stripped subtype s)
+    ∙ (ap (λ v. typed_as (before 47 v) (following 47 v) (parameters ((codes " boundary=\"" ++ (b ++ codes "\"")) ∷ []))) (type_stripped subtype s)
     ∙ (ap (typed_as (codes "multipart") (Some subtype)) (made_parameters b q)
     ∙ typed_by subtype (is_token subtype) ((codes "boundary", b) ∷ []) h)))
 

@@ -47,5 +47,5 @@ further place n o = omega arith
 pub begins_far : (text : List ℕ) (place n : ℕ) → place ≤ length text → 0 < n → BeginsLine (drop place text) n → BeginsLine text (place + n)
 begins_far text place n h o b = record {
   within = omega (arith, h, b.within, length-drop place text);
-  behind_feed = λ p q. ap (slice_index text) (further place n o) ∙ (sym (get_or-drop place text (n - 1) 0) ∙ b.behind_feed o (omega (arith, q, h, length-drop place text)));
+  after_feed = λ p q. ap (slice_index text) (further place n o) ∙ (sym (get_or-drop place text (n - 1) 0) ∙ b.after_feed o (omega (arith, q, h, length-drop place text)));
 }

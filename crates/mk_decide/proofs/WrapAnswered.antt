@@ -10,7 +10,7 @@ use Rattle.mk_decide.specs.declared.deciding.Replacement.{Replacement}
 use Rattle.mk_decide.specs.declared.errors.EditError.{EditError}
 use Rattle.mk_decide.specs.Answers.{refusal_of, IsRefusedBy}
 use Rattle.mk_decide.specs.Around.{hit_below}
-use Rattle.mk_decide.specs.LocalAnswers.{PlainSplice, behind_first, answer_by, plain_splice}
+use Rattle.mk_decide.specs.LocalAnswers.{PlainSplice, after_first, answer_by, plain_splice}
 use Rattle.mk_decide.specs.Outcomes.{has_mark, or_own}
 use Rattle.mk_decide.specs.WrapAnswers.{content_part, other_part, version_bytes, type_bytes, delimiter_bytes, close_bytes, made_bytes, separator_text, separator_part, end_part, wrap_bytes, wrap_opens, wrap_fits, wrap_in, wrap_answer}
 use Rattle.mk_decide.proofs.WrapFits.{told_in}
@@ -94,11 +94,11 @@ nil_told [] = refl
 nil_told (x ∷ xs) = not_zero (length (x ∷ xs)) (λ e. absurd (omega (arith, e)))
 
 -- after the tests of what is given
-same_in : (text path numbers subtype b : List ℕ) (p : Placed) → behind_first path ≡ numbers → is_boundary b ≡ true → is_token subtype ≡ true → wrap_in text numbers subtype b p ≡ wrap_answer text (behind_first path) subtype b p
-same_in text path numbers subtype b p n k h = sym (told_in text (behind_first path) subtype b p k h ∙ ap (λ ks. wrap_in text ks subtype b p) n)
+same_in : (text path numbers subtype b : List ℕ) (p : Placed) → after_first path ≡ numbers → is_boundary b ≡ true → is_token subtype ≡ true → wrap_in text numbers subtype b p ≡ wrap_answer text (after_first path) subtype b p
+same_in text path numbers subtype b p n k h = sym (told_in text (after_first path) subtype b p k h ∙ ap (λ ks. wrap_in text ks subtype b p) n)
 
-pub in_ok : (text path numbers subtype b : List ℕ) (p : Placed) (r : Result Replacement EditError) → behind_first path ≡ numbers → is_boundary b ≡ true → is_token subtype ≡ true → IfOk r (λ x. wrap_in text numbers subtype b p ≡ Ok (plain_splice x)) → IfOk r (λ x. wrap_answer text (behind_first path) subtype b p ≡ Ok (plain_splice x))
+pub in_ok : (text path numbers subtype b : List ℕ) (p : Placed) (r : Result Replacement EditError) → after_first path ≡ numbers → is_boundary b ≡ true → is_token subtype ≡ true → IfOk r (λ x. wrap_in text numbers subtype b p ≡ Ok (plain_splice x)) → IfOk r (λ x. wrap_answer text (after_first path) subtype b p ≡ Ok (plain_splice x))
 in_ok text path numbers subtype b p r n k h i = subst (λ a. IfOk r (λ x. a ≡ Ok (plain_splice x))) (same_in text path numbers subtype b p n k h) i
 
-pub in_err : (text path numbers subtype b : List ℕ) (p : Placed) (r : Result Replacement EditError) → behind_first path ≡ numbers → is_boundary b ≡ true → is_token subtype ≡ true → IfErr r (λ x. IsRefusedBy (refusal_of x) (wrap_in text numbers subtype b p)) → IfErr r (λ x. IsRefusedBy (refusal_of x) (wrap_answer text (behind_first path) subtype b p))
+pub in_err : (text path numbers subtype b : List ℕ) (p : Placed) (r : Result Replacement EditError) → after_first path ≡ numbers → is_boundary b ≡ true → is_token subtype ≡ true → IfErr r (λ x. IsRefusedBy (refusal_of x) (wrap_in text numbers subtype b p)) → IfErr r (λ x. IsRefusedBy (refusal_of x) (wrap_answer text (after_first path) subtype b p))
 in_err text path numbers subtype b p r n k h i = subst (λ a. IfErr r (λ x. IsRefusedBy (refusal_of x) a)) (same_in text path numbers subtype b p n k h) i

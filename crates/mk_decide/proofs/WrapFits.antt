@@ -3,7 +3,7 @@ use Rattle.std.proofs.Common.{◌≡◌, ◌↔◌, ◌-◌, ◌+◌, ◌++◌, 
 use Rattle.std.proofs.lemmas.Bool.{cases_Bool}
 use Rattle.mk_line.specs.declared.cutting.Ending.{Ending}
 use Rattle.mk_line.specs.Lines.{TextLine, text_line, cut, text_of, is_nil, eol_of, is_open}
-use Rattle.mk_line.proofs.Cuts.{lines_behind}
+use Rattle.mk_line.proofs.Cuts.{lines_following}
 use Rattle.mk_head.specs.Boundaries.{is_boundary}
 use Rattle.mk_head.specs.Split.{option_line}
 use Rattle.mk_head.specs.Splits.{has_line}
@@ -24,14 +24,14 @@ use Rattle.mk_decide.specs.Plans.{unless, wrap, planned, plan_of}
 use Rattle.mk_decide.specs.Outcomes.{has_mark, hit, or_own, hit_level, edited}
 use Rattle.mk_decide.specs.Local.{WrapsWell, IsLocal}
 use Rattle.mk_decide.specs.Around.{hit_below, glued_below}
-use Rattle.mk_decide.specs.LocalAnswers.{behind_first}
+use Rattle.mk_decide.specs.LocalAnswers.{after_first}
 use Rattle.mk_decide.specs.WrapAnswers.{made_bytes, other_part, wrap_bytes, wrap_opens, may_end, makes_digest, fits_below, wrap_fits, wrap_in, wrap_answer}
 use Rattle.mk_decide.proofs.EveryEdit.{locality_lem, eol_closed}
 use Rattle.mk_decide.proofs.Decisions.{AnswersAs, planned_answers, fits_is, unplanned}
 use Rattle.mk_decide.proofs.AroundFrames.{frames_glued}
 use Rattle.mk_decide.proofs.BodyFits.{some_open}
 use Rattle.mk_decide.proofs.FieldChanges.{run_read}
-use Rattle.mk_decide.proofs.FieldFits.{entity_are, before_each, behind_are, body_cut, glued_told, fits_parts, parts_fit}
+use Rattle.mk_decide.proofs.FieldFits.{entity_are, before_each, after_are, body_cut, glued_told, fits_parts, parts_fit}
 use Rattle.mk_decide.proofs.HeadFits.{root_told, plain_some}
 use Rattle.mk_decide.proofs.LocalLooks.{fits_unglued, glued_head}
 use Rattle.mk_decide.proofs.PutSites.{place_found}
@@ -95,7 +95,7 @@ wraps_told text path p s eol subtype b c =
     let glue = glued_below false s.numbers (root_of (tree text)) in
     let glued = glued_told text path p s in
     let same : has_line (lines_after s.around) ≡ p.followed = sym (ap (λ (x : Placed). x.followed) s.placed_is) in
-    let end = end_told eol s.around e p.followed c (lines_behind (option_line (entity_head e).separator) (body_lines e) (behind_are text path p s)) same in
+    let end = end_told eol s.around e p.followed c (lines_following (option_line (entity_head e).separator) (body_lines e) (after_are text path p s)) same in
     let lower = below_here text path p s g in
     let content = content_kind (below n) (field_lines e) g in (
       (λ k.
@@ -179,16 +179,16 @@ pub told_in : (text numbers subtype b : List ℕ) (p : Placed) → is_boundary b
 told_in text numbers subtype b p k h =
     ap (λ t. if not t then Err BadBoundary else (if not (is_token subtype) then Err BadSubtype else wrap_in text numbers subtype b p)) k ∙ ap (λ t. if not t then Err BadSubtype else wrap_in text numbers subtype b p) h
 
-pub wrap_answers : (text path subtype b : List ℕ) (p : Placed) → section_at path (tree text) ≡ Some p → AnswersAs (Wrap path subtype b) text (wrap_answer text (behind_first path) subtype b p) (edited (Wrap path subtype b) (tree text))
+pub wrap_answers : (text path subtype b : List ℕ) (p : Placed) → section_at path (tree text) ≡ Some p → AnswersAs (Wrap path subtype b) text (wrap_answer text (after_first path) subtype b p) (edited (Wrap path subtype b) (tree text))
 wrap_answers text path subtype b p q =
     let s = site text path p q in
     let e = Wrap path subtype b in
-    let numbers : behind_first path ≡ s.numbers = ap behind_first s.path_is in
+    let numbers : after_first path ≡ s.numbers = ap after_first s.path_is in
     elim (cases_Bool (is_boundary b)) [
       | inl k ↦
           elim (cases_Bool (is_token subtype)) [
-            | inl h ↦ subst (λ a. AnswersAs e text a (edited e (tree text))) (sym (told_in text (behind_first path) subtype b p k h ∙ ap (λ ks. wrap_in text ks subtype b p) numbers)) (wrap_there text path subtype b p s k h)
-            | inr h ↦ subst (λ a. AnswersAs e text a (edited e (tree text))) (sym (told_subtype text (behind_first path) subtype b p k h)) (unplanned e text BadSubtype (bad_subtype text path subtype b p s k h))
+            | inl h ↦ subst (λ a. AnswersAs e text a (edited e (tree text))) (sym (told_in text (after_first path) subtype b p k h ∙ ap (λ ks. wrap_in text ks subtype b p) numbers)) (wrap_there text path subtype b p s k h)
+            | inr h ↦ subst (λ a. AnswersAs e text a (edited e (tree text))) (sym (told_subtype text (after_first path) subtype b p k h)) (unplanned e text BadSubtype (bad_subtype text path subtype b p s k h))
           ]
-      | inr k ↦ subst (λ a. AnswersAs e text a (edited e (tree text))) (sym (told_boundary text (behind_first path) subtype b p k)) (unplanned e text BadBoundary (bad_boundary text path subtype b p s k))
+      | inr k ↦ subst (λ a. AnswersAs e text a (edited e (tree text))) (sym (told_boundary text (after_first path) subtype b p k)) (unplanned e text BadBoundary (bad_boundary text path subtype b p s k))
     ]

@@ -4,7 +4,7 @@ use Rattle.std.proofs.lemmas.Bool.{cases_Bool, or_parts}
 use Rattle.mk_line.specs.declared.cutting.Ending.{Ending}
 use Rattle.mk_line.specs.declared.cutting.Ending.TheVariants.{Crlf, Lf, Missing}
 use Rattle.mk_line.specs.Lines.{TextLine, text_line, cut, text_of, is_nil, is_open, IsLine, AreLines, ends_open}
-use Rattle.mk_line.proofs.Cuts.{text_cut, lines_cut, lines_behind}
+use Rattle.mk_line.proofs.Cuts.{text_cut, lines_cut, lines_following}
 use Rattle.mk_head.specs.Split.{Head, head_lines, option_line}
 use Rattle.mk_head.specs.Splits.{has_line, Follows}
 use Rattle.mk_tree.specs.Tree.{Entity, leaf, message, multi, print, entity_head, field_lines}
@@ -19,7 +19,7 @@ use Rattle.mk_head.specs.Types.{type_line}
 use Rattle.mk_decide.specs.Wrapping.{is_content_line, content_fields, other_fields, names_field, version_lines, separator_or, ended_lines, inner_part, outer_fields, wrapped}
 use Rattle.mk_decide.specs.WrapAnswers.{is_leaf, wrap_opens}
 use Rattle.mk_decide.proofs.Openings.{Each, each_line, each_front, last_open, or_none, or_assoc, early_none, open_text, some_text}
-use Rattle.mk_decide.proofs.FieldFits.{split_of, no_text, behind_are}
+use Rattle.mk_decide.proofs.FieldFits.{split_of, no_text, after_are}
 use Rattle.mk_decide.proofs.SectionSites.{IsSite, front_lines}
 use Rattle.mk_decide.proofs.SiteLines.{lines_there, text_lines}
 
@@ -217,7 +217,7 @@ leaf_full text eol front h l ls c a =
     let whole : AreLines ((front ++ head_lines h) ++ (l ∷ ls)) = subst AreLines (leaf_apart front h (l ∷ ls)) a in
     let before = or_parts (any_open front) (any_open (head_lines h)) (sym (any_join front (head_lines h)) ∙ closed_front (front ++ head_lines h) l ls whole) in
     let fields = or_parts (any_open h.fields) (any_open (option_line h.separator)) (sym (any_join h.fields (option_line h.separator)) ∙ before.1) in
-    let body : AreLines (l ∷ ls) = lines_behind (front ++ head_lines h) (l ∷ ls) whole in
+    let body : AreLines (l ∷ ls) = lines_following (front ++ head_lines h) (l ∷ ls) whole in
     let some : is_nil (text_of (l ∷ ls)) ≡ false = no_text (text_of (l ∷ ls)) (some_text l ls body.0) in
     ap (λ t. not (not t) && ends_open text) some
     ∙ sym (or_both (any_open front) (any_open h.fields || any_open (ended_lines eol (l ∷ ls))) before.0 (or_both (any_open h.fields) (any_open (ended_lines eol (l ∷ ls))) fields.0 (ended_closed eol (l ∷ ls) c (early_none (l ∷ ls) body))))
@@ -241,10 +241,10 @@ opens_told text path p s eol subtype b c =
     let rest = lines_after s.around in
     let o = (entity_head p.entity).separator in
     let next = (split_of (left_at levels s.around) (default_at false s.around) p.entity s.well).next in
-    let each = each_front (option_line o) (body_lines p.entity) (each_line (option_line o ++ body_lines p.entity) (behind_are text path p s)) in
+    let each = each_front (option_line o) (body_lines p.entity) (each_line (option_line o ++ body_lines p.entity) (after_are text path p s)) in
     let whole : AreLines (front_lines text path p s ++ (print p.entity ++ lines_after s.around)) = subst AreLines (text_lines text path p s) (lines_cut text) in
     let same : p.followed ≡ has_line (lines_after s.around) = ap (λ (x : Placed). x.followed) s.placed_is in
     ap (λ t. not t && (not (is_leaf p.entity && not (is_nil (body_text p))) && ends_open text)) same
     ∙ (opens_by text eol front rest p.entity c (separator_none (has_line (field_lines p.entity)) o (body_lines p.entity) next each) (text_lines text path p s)
-    ∙ (sym (new_open eol front rest s.around p.entity subtype b c (made_none eol (has_line (field_lines p.entity)) o (body_lines p.entity) c next each) (early_none rest (lines_behind (print p.entity) rest (lines_behind front (print p.entity ++ rest) whole))))
+    ∙ (sym (new_open eol front rest s.around p.entity subtype b c (made_none eol (has_line (field_lines p.entity)) o (body_lines p.entity) c next each) (early_none rest (lines_following (print p.entity) rest (lines_following front (print p.entity ++ rest) whole))))
     ∙ ap is_open_early (sym (lines_there text path p s (wrapped eol s.around p.entity subtype b)))))

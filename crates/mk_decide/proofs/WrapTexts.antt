@@ -18,7 +18,7 @@ use Rattle.mk_head.specs.Types.{type_line}
 use Rattle.mk_decide.specs.Wrapping.{is_content_line, content_fields, other_fields, names_field, version_lines, made_lines, separator_or, ended_lines, inner_part, wrapped}
 use Rattle.mk_decide.specs.WrapAnswers.{content_part, other_part, version_bytes, type_bytes, delimiter_bytes, close_bytes, made_bytes, separator_text, separator_part, is_leaf, end_part, part_bytes, wrap_bytes}
 use Rattle.mk_decide.proofs.Openings.{Each, each_line, each_front, each_join, some_text}
-use Rattle.mk_decide.proofs.FieldFits.{no_text, entity_are, behind_are}
+use Rattle.mk_decide.proofs.FieldFits.{no_text, entity_are, after_are}
 use Rattle.mk_decide.proofs.SectionSites.{IsSite, head_cut}
 use Rattle.mk_decide.proofs.SiteFacts.{as_long, entity_fields}
 use Rattle.mk_decide.proofs.Typed.{MayBound, made_bound}
@@ -108,7 +108,7 @@ bytes_told text path p s eol subtype b =
     let version = version_lines eol fs (other_fields false (field_lines p.entity)) in
     let long = as_long s.numbers (tree text).root s.around p.entity s.found in
     let o = (entity_head p.entity).separator in
-    let each = each_front (option_line o) (body_lines p.entity) (each_line (option_line o ++ body_lines p.entity) (behind_are text path p s)) in
+    let each = each_front (option_line o) (body_lines p.entity) (each_line (option_line o ++ body_lines p.entity) (after_are text path p s)) in
     let other : other_part (head_text p) ≡ text_of (other_fields false (field_lines p.entity)) = ap (λ ls. text_of (other_fields false ls)) (head_cut text path p s) in
     let own : content_part (head_text p) ≡ text_of (content_fields false (field_lines p.entity)) = ap (λ ls. text_of (content_fields false ls)) (head_cut text path p s) in
     let are = others_are false fields (entity_fields p.entity (entity_are text path p s)) in

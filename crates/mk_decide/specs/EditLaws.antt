@@ -10,7 +10,7 @@ use Rattle.mk_line.specs.Lines.{TextLine}
 use Rattle.mk_head.specs.Split.{is_start}
 use Rattle.mk_head.specs.Fields.{name_of, field_text, fields_of, find_field}
 use Rattle.mk_line.specs.Kinds.{is_name}
-use Rattle.mk_decide.specs.FieldEdits.{Found, field_at, behind_name, renamed}
+use Rattle.mk_decide.specs.FieldEdits.{Found, field_at, after_name, renamed}
 use Rattle.mk_decide.specs.Edits.{PlainEdit, RemovePart, Wrap, path_of, Refusal, NoSuchSection, NotPart, OpenLine, HoldsBoundary, Recut}
 use Rattle.mk_decide.specs.Plans.{Plan, without, place_of, plan_of, planned}
 use Rattle.mk_decide.specs.Outcomes.{edited}
@@ -85,7 +85,7 @@ FieldsAreApart = (name : List ℕ) (k : ℕ) (fields : List TextLine) → IsApar
 
 -- a field start under another name: the name is the new one, and what follows it is as it was
 abbrev pub NamesAreReplaced : Type 0
-NamesAreReplaced = (to : List ℕ) (l : TextLine) → is_name to ≡ true → is_start l ≡ true → (name_of (renamed to l) ≡ to) × (behind_name (renamed to l).content ≡ behind_name l.content) × (name_of l ++ behind_name l.content ≡ l.content)
+NamesAreReplaced = (to : List ℕ) (l : TextLine) → is_name to ≡ true → is_start l ≡ true → (name_of (renamed to l) ≡ to) × (after_name (renamed to l).content ≡ after_name l.content) × (name_of l ++ after_name l.content ≡ l.content)
 
 -- what a path leads to is the section of that path
 abbrev pub PathsLeadToSections : Type 0

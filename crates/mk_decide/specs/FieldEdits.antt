@@ -11,9 +11,9 @@ abbrev pub starts_named : List ℕ → TextLine → Bool
 starts_named name l = is_start l && is_named name (field_text l [])
 
 -- what follows the continuations at the start
-abbrev pub behind_continuations : List TextLine → List TextLine
-behind_continuations [] = []
-behind_continuations (l ∷ ls) = if is_more l then behind_continuations ls else l ∷ ls
+abbrev pub after_continuations : List TextLine → List TextLine
+after_continuations [] = []
+after_continuations (l ∷ ls) = if is_more l then after_continuations ls else l ∷ ls
 
 -- a field among others: the lines before it, its field start, the lines that continue it, the lines after it
 pub record Found : Type 0 where
@@ -23,16 +23,16 @@ pub record Found : Type 0 where
   pub after : List TextLine
 
 -- a field found after a line
-abbrev pub found_behind : TextLine → Option Found → Option Found
-found_behind l o = option_map (λ (f : Found). record { before = l ∷ f.before; start = f.start; more = f.more; after = f.after }) o
+abbrev pub found_after : TextLine → Option Found → Option Found
+found_after l o = option_map (λ (f : Found). record { before = l ∷ f.before; start = f.start; more = f.more; after = f.after }) o
 
 -- the field of the first line that passes a test, or, where so many such are passed over, of a later one
 abbrev pub find : (TextLine → Bool) → ℕ → List TextLine → Option Found
 find test k [] = None
 find test zero (l ∷ ls) =
-    if test l then Some (record { before = []; start = l; more = continuations ls; after = behind_continuations ls })
-    else found_behind l (find test zero ls)
-find test (suc k) (l ∷ ls) = found_behind l (find test (if test l then k else suc k) ls)
+    if test l then Some (record { before = []; start = l; more = continuations ls; after = after_continuations ls })
+    else found_after l (find test zero ls)
+find test (suc k) (l ∷ ls) = found_after l (find test (if test l then k else suc k) ls)
 
 -- the k-th field of a name, counted from 1
 abbrev pub field_at : List ℕ → ℕ → List TextLine → Option Found
@@ -40,10 +40,10 @@ field_at name zero ls = None
 field_at name (suc k) ls = find (starts_named name) k ls
 
 -- what follows the name that a content begins with
-abbrev pub behind_name : List ℕ → List ℕ
-behind_name [] = []
-behind_name (byte ∷ bytes) = if is_name_byte byte then behind_name bytes else byte ∷ bytes
+abbrev pub after_name : List ℕ → List ℕ
+after_name [] = []
+after_name (byte ∷ bytes) = if is_name_byte byte then after_name bytes else byte ∷ bytes
 
 -- a field start with another name
 abbrev pub renamed : List ℕ → TextLine → TextLine
-renamed to l = text_line (to ++ behind_name l.content) l.ending
+renamed to l = text_line (to ++ after_name l.content) l.ending

@@ -8,7 +8,7 @@ use Rattle.mk_decide.specs.declared.field_edits.FieldEdit.TheVariants.{Add, Remo
 use Rattle.mk_decide.specs.declared.field_edits.Put.{Put}
 use Rattle.mk_decide.specs.Edits.{PlainEdit, AddField, RemoveField, RenameField, SetField, Refusal, NoSuchField, BadField, BadName}
 use Rattle.mk_line.specs.Kinds.{is_name}
-use Rattle.mk_decide.specs.FieldEdits.{Found, field_at, behind_name, renamed}
+use Rattle.mk_decide.specs.FieldEdits.{Found, field_at, after_name, renamed}
 
 -- an edit in memory as plain data
 abbrev pub plain_of : List ℕ → FieldEdit → PlainEdit
@@ -42,7 +42,7 @@ name_put to f = record {
   old = f.start ∷ [];
   given = renamed to f.start ∷ [];
   after = f.more ++ f.after;
-  kept = behind_name f.start.content ++ ending_bytes f.start.ending;
+  kept = after_name f.start.content ++ ending_bytes f.start.ending;
 }
 
 -- what is put, unless a reason holds
@@ -106,14 +106,14 @@ first_line_size (l ∷ ls) = length (printed_line l)
 pub record IsFieldAt (wanted : List ℕ) (k : ℕ) (ls : List TextLine) (place : ℕ) (field : FieldText) : Type 0 where
   pub found : Found
   pub is : field_at wanted k ls ≡ Some found
-  pub behind : place ≡ size found.before
+  pub following : place ≡ size found.before
   pub name : field.name ≡ name_of found.start
   pub raw : field.raw ≡ text_of (found.start ∷ found.more)
   pub lines : cut field.raw ≡ found.start ∷ found.more
 
 -- what follows the name in the first line of a field
-abbrev pub behind_field_name : FieldText → List ℕ
-behind_field_name f = drop (length f.name) (take (first_line_size (cut f.raw)) f.raw)
+abbrev pub after_field_name : FieldText → List ℕ
+after_field_name f = drop (length f.name) (take (first_line_size (cut f.raw)) f.raw)
 
 -- how many bytes fields have
 abbrev pub raw_size : List FieldText → ℕ

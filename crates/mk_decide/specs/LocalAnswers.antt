@@ -74,14 +74,14 @@ abbrev pub answer_at : List ℕ → List ℕ → FieldEdit → Placed → Result
 answer_at text numbers edit p = answer_puts text numbers p (puts edit (cut (head_text p)))
 
 -- the numbers after the first
-abbrev pub behind_first : List ℕ → List ℕ
-behind_first [] = []
-behind_first (k ∷ ks) = ks
+abbrev pub after_first : List ℕ → List ℕ
+after_first [] = []
+after_first (k ∷ ks) = ks
 
 -- the answer at a section, where it is there
 abbrev pub answer_found : List ℕ → List ℕ → FieldEdit → Option Placed → Result PlainSplice Refusal
 answer_found text path edit None = Err NoSuchSection
-answer_found text path edit (Some p) = answer_at text (behind_first path) edit p
+answer_found text path edit (Some p) = answer_at text (after_first path) edit p
 
 -- the answer at a path
 abbrev pub answer : List ℕ → List ℕ → FieldEdit → Result PlainSplice Refusal

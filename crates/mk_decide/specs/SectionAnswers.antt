@@ -29,9 +29,9 @@ abbrev pub runs_on : Bool → List ℕ → Bool
 runs_on some content = (is_field_start content || (some && is_continuation content)) || is_nil content
 
 -- whether the first of these lines may stand after the head of an entity
-abbrev pub stays_behind : Entity → List TextLine → Bool
-stays_behind e [] = true
-stays_behind e (l ∷ ls) = if glues e then not (runs_on (not (is_nil (text_of (entity_head e).fields))) l.content) else true
+abbrev pub stays_after : Entity → List TextLine → Bool
+stays_after e [] = true
+stays_after e (l ∷ ls) = if glues e then not (runs_on (not (is_nil (text_of (entity_head e).fields))) l.content) else true
 
 -- whether it may be the first of the root, which begins at a place
 abbrev pub begins_well : ℕ → List TextLine → Bool
@@ -41,7 +41,7 @@ begins_well start (l ∷ ls) = not (start == 0 && is_from_line l.content)
 -- whether these lines may be those of a section, in the section around or as the root
 abbrev pub stays : Option Placed → ℕ → List TextLine → Bool
 stays None start ls = begins_well start ls
-stays (Some q) start ls = stays_behind q.entity ls
+stays (Some q) start ls = stays_after q.entity ls
 
 -- another section in the place of a section
 abbrev pub section_answer : (text numbers given : List ℕ) → Option Placed → Placed → Result PlainSplice Refusal

@@ -7,7 +7,7 @@ ghost use Rattle.mk_head.specs.Splits.{IsRun};
 ghost use Rattle.mk_head.specs.Fields.{fields_of};
 ghost use Rattle.mk_head.specs.Views.{field_view};
 ghost use Rattle.mk_decide.specs.FieldEdits.{field_at as found_in};
-ghost use Rattle.mk_decide.specs.FieldPuts.{adds, behind_field_name, first_line_size, placed_field, puts, removes, renames, sets, IsFieldAt, IsPut};
+ghost use Rattle.mk_decide.specs.FieldPuts.{adds, after_field_name, first_line_size, placed_field, puts, removes, renames, sets, IsFieldAt, IsPut};
 ghost use Rattle.mk_decide.specs.Answers.{refusal_of, IsRefusedBy};
 
 use crate::errors::EditError;
@@ -122,14 +122,14 @@ fn put_name(alloc: Global, head: &[u8], name: &[u8], k: u32, to: &[u8]) -> Resul
             if !is_name(to) {
                 return Err(EditError::BadName);
             }
-            let behind = behind_name(&field);
+            let following = after_name(&field);
             let mut lines = Vec::from_slice(alloc, to)?;
-            lines.extend_from_slice(behind)?;
+            lines.extend_from_slice(following)?;
             Ok(Put {
                 from,
-                count: field.name.len() + behind.len(),
+                count: field.name.len() + following.len(),
                 lines,
-                kept: behind.len(),
+                kept: following.len(),
             })
         }
         None => Err(EditError::NoSuchField),
@@ -137,13 +137,13 @@ fn put_name(alloc: Global, head: &[u8], name: &[u8], k: u32, to: &[u8]) -> Resul
 }
 
 // What follows the name in the first line of a field.
-fn behind_name<'a>(field: &Field<'a>) -> &'a [u8]
+fn after_name<'a>(field: &Field<'a>) -> &'a [u8]
     requires { length field.now.name.now ≤ first_line_size (lines_of field.now.raw.now) }
-    ensures { result.now ≡ behind_field_name (field_view field.now) }
+    ensures { result.now ≡ after_field_name (field_view field.now) }
 {
     let (start, _) = field.raw.split_at(first_size(field.raw));
-    let (_, behind) = start.split_at(field.name.len());
-    behind
+    let (_, following) = start.split_at(field.name.len());
+    following
 }
 
 // A field in the place of another.

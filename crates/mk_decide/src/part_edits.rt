@@ -7,7 +7,7 @@ ghost use Rattle.mk_decide.specs.Answers.{refusal_of, IsRefusedBy};
 ghost use Rattle.mk_decide.specs.Around.{hit_below};
 ghost use Rattle.mk_decide.specs.Decided.{IsDecided};
 ghost use Rattle.mk_decide.specs.Edits.{InsertPart, RemovePart};
-ghost use Rattle.mk_decide.specs.LocalAnswers.{behind_first, plain_splice};
+ghost use Rattle.mk_decide.specs.LocalAnswers.{after_first, plain_splice};
 ghost use Rattle.mk_decide.specs.Outcomes.{edited, has_mark as have_mark, or_own};
 ghost use Rattle.mk_decide.specs.SectionAnswers.{ends_at_delimiter as ends_at, gap_at, insertion_answer, insertion_at, last_number, outer_path, part_bytes, removal, removal_answer, removal_from};
 
@@ -80,8 +80,8 @@ fn gap(section: &Section<'_>, place: u32) -> Option<usize>
     ensures { result ≡ gap_at place section.now }
 {
     if place == 0 {
-        let behind = section.body().len() - section.preamble().len();
-        return Some(section.end() - behind);
+        let following = section.body().len() - section.preamble().len();
+        return Some(section.end() - following);
     }
     match section.child(place) {
         Some(part) => Some(part.end()),
@@ -115,8 +115,8 @@ fn insert(
     text: &[u8],
 ) -> Result<Replacement, EditError>
     requires { section_at path.now (tree doc.now) ≡ Some section.now }
-    ensures ok { IfOk result (λ r. insertion_answer doc.now (behind_first path.now) text.now place section.now ≡ Ok (plain_splice r)) }
-    ensures err { IfErr result (λ e. IsRefusedBy (refusal_of e) (insertion_answer doc.now (behind_first path.now) text.now place section.now)) }
+    ensures ok { IfOk result (λ r. insertion_answer doc.now (after_first path.now) text.now place section.now ≡ Ok (plain_splice r)) }
+    ensures err { IfErr result (λ e. IsRefusedBy (refusal_of e) (insertion_answer doc.now (after_first path.now) text.now place section.now)) }
 {
     match section.boundary() {
         Some(boundary) => insert_between(alloc, doc, path, section, boundary, place, text),
@@ -134,8 +134,8 @@ fn insert_between(
     text: &[u8],
 ) -> Result<Replacement, EditError>
     requires { section_at path.now (tree doc.now) ≡ Some section.now }
-    ensures ok { IfOk result (λ r. insertion_at doc.now (behind_first path.now) text.now boundary.now section.now (gap_at place section.now) ≡ Ok (plain_splice r)) }
-    ensures err { IfErr result (λ e. IsRefusedBy (refusal_of e) (insertion_at doc.now (behind_first path.now) text.now boundary.now section.now (gap_at place section.now))) }
+    ensures ok { IfOk result (λ r. insertion_at doc.now (after_first path.now) text.now boundary.now section.now (gap_at place section.now) ≡ Ok (plain_splice r)) }
+    ensures err { IfErr result (λ e. IsRefusedBy (refusal_of e) (insertion_at doc.now (after_first path.now) text.now boundary.now section.now (gap_at place section.now))) }
 {
     let place = match gap(section, place) {
         Some(place) => place,

@@ -7,9 +7,9 @@ ghost use Rattle.mk_tree.specs.Sections.{section_at, raw_of, body_text};
 ghost use Rattle.mk_decide.specs.Answers.{refusal_of, IsRefusedBy};
 ghost use Rattle.mk_decide.specs.Decided.{IsDecided};
 ghost use Rattle.mk_decide.specs.Edits.{SetBody, SetSection};
-ghost use Rattle.mk_decide.specs.LocalAnswers.{behind_first, plain_splice};
+ghost use Rattle.mk_decide.specs.LocalAnswers.{after_first, plain_splice};
 ghost use Rattle.mk_decide.specs.Outcomes.{edited};
-ghost use Rattle.mk_decide.specs.SectionAnswers.{begins_well, body_answer, body_bytes, body_place, leaf_answer, outer_path, runs_on as may_run_on, section_answer, separator_bytes, stays as may_stay, stays_behind as may_stay_behind};
+ghost use Rattle.mk_decide.specs.SectionAnswers.{begins_well, body_answer, body_bytes, body_place, leaf_answer, outer_path, runs_on as may_run_on, section_answer, separator_bytes, stays as may_stay, stays_after as may_stay_after};
 
 use crate::around::{glues, hit_level, is_glued};
 use crate::deciding::Replacement;
@@ -44,8 +44,8 @@ fn section_in_place(
     text: &[u8],
 ) -> Result<Replacement, EditError>
     requires { section_at path.now (tree doc.now) ≡ Some section.now }
-    ensures ok { IfOk result (λ r. section_answer doc.now (behind_first path.now) text.now (section_at (outer_path path.now) (tree doc.now)) section.now ≡ Ok (plain_splice r)) }
-    ensures err { IfErr result (λ e. IsRefusedBy (refusal_of e) (section_answer doc.now (behind_first path.now) text.now (section_at (outer_path path.now) (tree doc.now)) section.now)) }
+    ensures ok { IfOk result (λ r. section_answer doc.now (after_first path.now) text.now (section_at (outer_path path.now) (tree doc.now)) section.now ≡ Ok (plain_splice r)) }
+    ensures err { IfErr result (λ e. IsRefusedBy (refusal_of e) (section_answer doc.now (after_first path.now) text.now (section_at (outer_path path.now) (tree doc.now)) section.now)) }
 {
     let place = section.start();
     let count = section.raw().len();
@@ -69,7 +69,7 @@ fn stays(around: &Option<Section<'_>>, start: usize, text: &[u8]) -> bool
 {
     match first_line(text) {
         Some((line, _)) => match around {
-            Some(outer) => stays_behind(outer, &line),
+            Some(outer) => stays_after(outer, &line),
             None => !(start == 0 && is_from_line(line.content)),
         },
         None => true,
@@ -77,8 +77,8 @@ fn stays(around: &Option<Section<'_>>, start: usize, text: &[u8]) -> bool
 }
 
 // Whether a line may be the first after the head of a section.
-fn stays_behind(outer: &Section<'_>, line: &Line<'_>) -> bool
-    ensures { result ≡ may_stay_behind outer.now.entity (line_of line.now ∷ []) }
+fn stays_after(outer: &Section<'_>, line: &Line<'_>) -> bool
+    ensures { result ≡ may_stay_after outer.now.entity (line_of line.now ∷ []) }
 {
     !glues(outer) || !runs_on(!outer.head().is_empty(), line.content)
 }
@@ -114,8 +114,8 @@ fn body_in_place(
     text: &[u8],
 ) -> Result<Replacement, EditError>
     requires { section_at path.now (tree doc.now) ≡ Some section.now }
-    ensures ok { IfOk result (λ r. body_answer doc.now (behind_first path.now) text.now section.now ≡ Ok (plain_splice r)) }
-    ensures err { IfErr result (λ e. IsRefusedBy (refusal_of e) (body_answer doc.now (behind_first path.now) text.now section.now)) }
+    ensures ok { IfOk result (λ r. body_answer doc.now (after_first path.now) text.now section.now ≡ Ok (plain_splice r)) }
+    ensures err { IfErr result (λ e. IsRefusedBy (refusal_of e) (body_answer doc.now (after_first path.now) text.now section.now)) }
 {
     if section.kind() == Kind::Leaf {
         leaf_in_place(alloc, doc, path, section, text)
@@ -132,8 +132,8 @@ fn leaf_in_place(
     text: &[u8],
 ) -> Result<Replacement, EditError>
     requires { section_at path.now (tree doc.now) ≡ Some section.now }
-    ensures ok { IfOk result (λ r. leaf_answer doc.now (behind_first path.now) text.now section.now ≡ Ok (plain_splice r)) }
-    ensures err { IfErr result (λ e. IsRefusedBy (refusal_of e) (leaf_answer doc.now (behind_first path.now) text.now section.now)) }
+    ensures ok { IfOk result (λ r. leaf_answer doc.now (after_first path.now) text.now section.now ≡ Ok (plain_splice r)) }
+    ensures err { IfErr result (λ e. IsRefusedBy (refusal_of e) (leaf_answer doc.now (after_first path.now) text.now section.now)) }
 {
     let place = section.body_start();
     let count = section.body().len();

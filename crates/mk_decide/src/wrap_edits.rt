@@ -7,7 +7,7 @@ ghost use Rattle.mk_decide.specs.Answers.{refusal_of, IsRefusedBy};
 ghost use Rattle.mk_decide.specs.Counts.{edit_lines};
 ghost use Rattle.mk_decide.specs.Decided.{IsDecided};
 ghost use Rattle.mk_decide.specs.Edits.{Wrap};
-ghost use Rattle.mk_decide.specs.LocalAnswers.{behind_first, plain_splice};
+ghost use Rattle.mk_decide.specs.LocalAnswers.{after_first, plain_splice};
 ghost use Rattle.mk_decide.specs.Outcomes.{edited};
 ghost use Rattle.mk_decide.specs.WrapAnswers.{ends_in_cr as ends_in_return, fits_below as fit_below, fits_levels as fit_in_levels, keeps_wrapped as keeps_when_wrapped, makes_digest as make_digest, may_end as may_get_end, wrap_answer, wrap_fits, wrap_in, wrap_looked, wrap_opens};
 
@@ -55,8 +55,8 @@ fn wrap(
     meter: &mut Meter,
 ) -> Result<Replacement, EditError>
     requires { section_at path.now (tree doc.now) ≡ Some section.now }
-    ensures ok { IfOk result (λ r. wrap_answer doc.now (behind_first path.now) subtype.now boundary.now section.now ≡ Ok (plain_splice r)) }
-    ensures err { IfErr result (λ e. IsRefusedBy (refusal_of e) (wrap_answer doc.now (behind_first path.now) subtype.now boundary.now section.now)) }
+    ensures ok { IfOk result (λ r. wrap_answer doc.now (after_first path.now) subtype.now boundary.now section.now ≡ Ok (plain_splice r)) }
+    ensures err { IfErr result (λ e. IsRefusedBy (refusal_of e) (wrap_answer doc.now (after_first path.now) subtype.now boundary.now section.now)) }
     ensures most { meter.new ≤ meter.old + wrap_looked subtype.now boundary.now section.now }
 {
     if !is_boundary(boundary) {

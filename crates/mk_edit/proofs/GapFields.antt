@@ -19,7 +19,7 @@ use Rattle.mk_edit.specs.inner.FieldNames.{may_have, BeginsField, IsKnown}
 use Rattle.mk_edit.specs.RootFields.{root_in, lines_in, HasFields, HasPassed, IsBehind, Replaces}
 use Rattle.mk_edit.specs.inner.Gaps.{Gapped, without_gap}
 use Rattle.mk_edit.specs.inner.GapFields.{IsHeldInParts}
-use Rattle.mk_edit.proofs.PassedFields.{behind_is}
+use Rattle.mk_edit.proofs.PassedFields.{following_is}
 use Rattle.mk_edit.proofs.PassedNames.{none_named}
 use Rattle.mk_edit.proofs.RootEdits.{root_head, root_run}
 
@@ -67,12 +67,12 @@ pub place_inside : (text : List ℕ) (start taken bytes : ℕ) → HasFields tex
 place_inside text start taken bytes h p =
     omega (arith, h.takes, p.takes, ap length (text_cut (head_text (root_in text))), ap size (sym p.whole), size_append p.before p.after)
 
-pub behind_inside : (text : List ℕ) (start taken bytes k : ℕ) (edit : SilentEdit) → HasFields text start taken → IsBehind (lines_in text) bytes edit k → bytes ≤ taken
-behind_inside text start taken bytes k edit h p =
-    omega (arith, h.takes, p.takes, ap length (text_cut (head_text (root_in text))), ap size (sym p.whole), size_append p.before p.behind)
+pub after_inside : (text : List ℕ) (start taken bytes k : ℕ) (edit : SilentEdit) → HasFields text start taken → IsBehind (lines_in text) bytes edit k → bytes ≤ taken
+after_inside text start taken bytes k edit h p =
+    omega (arith, h.takes, p.takes, ap length (text_cut (head_text (root_in text))), ap size (sym p.whole), size_append p.before p.following)
 
 pub run_left : (fields left : List ℕ) (bytes k : ℕ) (edit : SilentEdit) → left ≡ drop bytes fields → IsBehind (cut fields) bytes edit k → IsRun false (cut left)
-run_left fields left bytes k edit e b = subst (IsRun false) (sym (ap cut e ∙ behind_is fields bytes k edit b)) b.run
+run_left fields left bytes k edit e b = subst (IsRun false) (sym (ap cut e ∙ following_is fields bytes k edit b)) b.run
 
 -- the gap after it went back
 pub gap_back_at : (ls : List TextLine) (edit : SilentEdit) (front start bytes k new : ℕ) → BeginsField ls (front - start) → IsBehind ls bytes edit k → new ≡ min front (start + bytes) → BeginsField ls (new - start)
@@ -80,7 +80,7 @@ gap_back_at ls edit front start bytes k new g b e =
     elim (cases_Bool (nat_lt (start + bytes) front)) [
       | inl t ↦
           let less : start + bytes < front = ltb-true (start + bytes) front t in
-          subst (BeginsField ls) (omega (arith, e, less)) (record { before = b.before; after = b.behind; whole = b.whole; takes = b.takes; run = b.run })
+          subst (BeginsField ls) (omega (arith, e, less)) (record { before = b.before; after = b.following; whole = b.whole; takes = b.takes; run = b.run })
       | inr f ↦
           let more : front ≤ start + bytes = grind (arith, nat_tests, f) in
           subst (BeginsField ls) (omega (arith, e, more)) g
@@ -135,10 +135,10 @@ copied_there text t rest place front count e r f h =
     ap (take count) (ap (drop (place - front)) r ∙ (ap (λ n. drop (place - n) t.rest) f ∙ (sym (drop_gap t place h) ∙ ap (drop place) e)))
 
 -- where the field of an edit is looked for
-pub behind_passed : (ls : List TextLine) (edit : SilentEdit) (name : List ℕ) (bytes fields : ℕ) → HasPassed ls name bytes fields → fields < edit.k → name ≡ edit.name.now → IsBehind ls bytes edit (edit.k - fields)
-behind_passed ls edit name bytes fields p less e = record {
+pub after_passed : (ls : List TextLine) (edit : SilentEdit) (name : List ℕ) (bytes fields : ℕ) → HasPassed ls name bytes fields → fields < edit.k → name ≡ edit.name.now → IsBehind ls bytes edit (edit.k - fields)
+after_passed ls edit name bytes fields p less e = record {
   before = p.place.before;
-  behind = p.place.after;
+  following = p.place.after;
   whole = p.place.whole;
   takes = p.place.takes;
   number = omega (arith, less, p.holds, ap (λ n. length (filter (starts_named n) p.place.before)) e);
@@ -146,10 +146,10 @@ behind_passed ls edit name bytes fields p less e = record {
   run = p.place.run;
 }
 
-pub behind_known : (ls : List TextLine) (edit : SilentEdit) (bytes : ℕ) (marks : Option (Vec Bool)) → IsKnown ls bytes marks → may_have marks edit.name.now ≡ false → 0 < edit.k → IsBehind ls bytes edit edit.k
-behind_known ls edit bytes marks h none some = record {
+pub after_known : (ls : List TextLine) (edit : SilentEdit) (bytes : ℕ) (marks : Option (Vec Bool)) → IsKnown ls bytes marks → may_have marks edit.name.now ≡ false → 0 < edit.k → IsBehind ls bytes edit edit.k
+after_known ls edit bytes marks h none some = record {
   before = h.place.before;
-  behind = h.place.after;
+  following = h.place.after;
   whole = h.place.whole;
   takes = h.place.takes;
   number = omega (arith, none_named h.place.before edit.name.now marks h.known none);
@@ -157,8 +157,8 @@ behind_known ls edit bytes marks h none some = record {
   run = h.place.run;
 }
 
-pub behind_nothing : (text : List ℕ) (edit : SilentEdit) → 0 < edit.k → IsBehind (lines_in text) 0 edit edit.k
-behind_nothing text edit some = record { before = []; behind = lines_in text; whole = refl; takes = refl; number = omega arith; some = some; run = root_run text }
+pub after_nothing : (text : List ℕ) (edit : SilentEdit) → 0 < edit.k → IsBehind (lines_in text) 0 edit edit.k
+after_nothing text edit some = record { before = []; following = lines_in text; whole = refl; takes = refl; number = omega arith; some = some; run = root_run text }
 
 -- the part of a list from a place on, as it is sliced
 pub sliced : (n : ℕ) (xs : List ℕ) → take (length xs - n) (drop n xs) ≡ drop n xs

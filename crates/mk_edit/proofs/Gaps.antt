@@ -23,7 +23,7 @@ drop_later n m x y h e =
 
 pub written_after : (front rest count to : ℕ) (text x y z : List ℕ) → z ≡ spliced to (length text) text y → y ≡ copy_within x rest (rest + count) front → front ≤ rest → front + count ≤ to → rest + count ≤ to + length text → to + length text ≤ length x
     → drop to z ≡ text ++ drop (to + length text) x
-written_after front rest count to text x y z e f order behind moved within =
+written_after front rest count to text x y z e f order following moved within =
     let copied : y ≡ paste x front (drop rest x) count = f ∙ ap (paste x front (drop rest x)) (omega arith) in
     let before : front ≤ length x = omega arith in
     let there : count ≤ length (drop rest x) = omega (arith, length-drop rest x) in
@@ -36,7 +36,7 @@ written_after front rest count to text x y z e f order behind moved within =
 -- the text then
 pub gap_spliced : (front from place count rest to : ℕ) (text y z f r : List ℕ) → f ≡ take front y → r ≡ drop rest y → length f ≡ front → place ≡ front + from → to + length text ≡ rest + from + count
     → take (front + from) z ≡ take front y ++ take from (drop rest y) → drop to z ≡ text ++ drop (to + length text) y → take place z ++ drop to z ≡ spliced place count text (f ++ r)
-gap_spliced front from place count rest to text y z f r first second long at end before behind =
+gap_spliced front from place count rest to text y z f r first second long at end before following =
     let whole = f ++ r in
     let seam : drop front whole ≡ r = drop_at f r front long in
     let taken : take place whole ≡ take front y ++ take from (drop rest y) =
@@ -44,7 +44,7 @@ gap_spliced front from place count rest to text y z f r first second long at end
     let left : drop (place + count) whole ≡ drop (to + length text) y =
     ap (λ n. drop n whole) (omega (arith, at)) ∙ (sym (drop-drop (from + count) front whole) ∙ (ap (drop (from + count)) (seam ∙ second) ∙ (drop-drop (from + count) rest y ∙ ap (λ n. drop n y) (omega (arith, end))))) in
     ap (λ xs. xs ++ drop to z) (ap (λ n. take n z) at ∙ (before ∙ sym taken))
-    ∙ ap (λ xs. take place whole ++ xs) (behind ∙ ap (λ xs. text ++ xs) (sym left))
+    ∙ ap (λ xs. take place whole ++ xs) (following ∙ ap (λ xs. text ++ xs) (sym left))
 
 -- a gap that goes back over some bytes
 pub gap_back : (place count to : ℕ) (x z : List ℕ) → z ≡ copy_within x place (place + count) to → place ≤ to → to + count ≤ length x → take place z ++ drop to z ≡ take (place + count) x ++ drop (to + count) x

@@ -4,7 +4,7 @@ use Rattle.mk_tree.specs.Documents.{Document, tree, printed}
 use Rattle.mk_tree.proofs.Kept.{text_kept}
 use Rattle.mk_decide.specs.Edits.{PlainEdit, Refusal}
 use Rattle.mk_decide.specs.EditSplices.{splices_of}
-use Rattle.mk_edit.specs.Groups.{Together, behind, made_on, together}
+use Rattle.mk_edit.specs.Groups.{Together, following, made_on, together}
 use Rattle.mk_edit.specs.Laws.{GroupsLead, GroupsReadBack}
 use Rattle.mk_decide.specs.Outcomes.{edited}
 use Rattle.mk_splice.specs.Splices.{Splice, LeadsTo}
@@ -16,15 +16,15 @@ abbrev pub LeadsFrom : List ℕ → Together → Type 0
 LeadsFrom x (Ok p) = LeadsTo p.1 x (printed p.0) × (tree (printed p.0) ≡ p.0)
 LeadsFrom x (Err q) = Unit {0}
 
-behind_leads : (x y : List ℕ) (ss : List Splice) (r : Together) → LeadsTo ss x y → LeadsFrom y r → LeadsFrom x (behind 1 ss r)
-behind_leads x y ss (Ok p) l h = (leads_on ss p.1 x y (printed p.0) l h.0, h.1)
-behind_leads x y ss (Err q) l h = tt
+after_leads : (x y : List ℕ) (ss : List Splice) (r : Together) → LeadsTo ss x y → LeadsFrom y r → LeadsFrom x (following 1 ss r)
+after_leads x y ss (Ok p) l h = (leads_on ss p.1 x y (printed p.0) l h.0, h.1)
+after_leads x y ss (Err q) l h = tt
 
 -- the edits after an accepted one are made in what it gave, which is read back
 next_leads : (e : PlainEdit) (es : List PlainEdit) (x : List ℕ) (r : Result Document Refusal) → edited e (tree x) ≡ r → ((y : List ℕ) → LeadsFrom y (together es (tree y)))
     → LeadsFrom x (made_on (splices_of e (tree x)) (together es) r)
 next_leads e es x (Ok t) o others =
-    behind_leads x (printed t) (splices_of e (tree x)) (together es t) (splices_lead_lem e x t o)
+    after_leads x (printed t) (splices_of e (tree x)) (together es t) (splices_lead_lem e x t o)
     (subst (λ u. LeadsFrom (printed t) (together es u)) (edits_read_back_lem e x t o) (others (printed t)))
 next_leads e es x (Err f) o others = tt
 

@@ -7,7 +7,7 @@ use Rattle.mk_decide.specs.Answers.{IsRefusedBy}
 use Rattle.mk_decide.specs.Decided.{IsDecided}
 use Rattle.mk_decide.specs.Edits.{PlainEdit, Refusal, Member}
 use Rattle.mk_decide.specs.EditSplices.{splices_of}
-use Rattle.mk_edit.specs.Groups.{Together, behind, made_on, together}
+use Rattle.mk_edit.specs.Groups.{Together, following, made_on, together}
 use Rattle.mk_edit.specs.History.{History}
 use Rattle.mk_edit.specs.Histories.{grouped_by}
 use Rattle.mk_decide.specs.LocalAnswers.{PlainSplice}
@@ -44,31 +44,31 @@ text_next e first x y ss more s m q t = m.text ∙ (ap (forth_one s) t ∙ (sym 
 one_more : (i k : ℕ) → i + (1 + k) ≡ (i + 1) + k
 one_more i k = omega arith
 
-behind_more : (i : ℕ) (ss : List Splice) (s : Splice) (r : Together) → behind i ss (behind 1 (s ∷ []) r) ≡ behind (i + 1) (ss ++ s ∷ []) r
-behind_more i ss s (Ok p) = ap (λ rs. Ok (p.0, rs)) (sym (append_assoc ss (s ∷ []) p.1))
-behind_more i ss s (Err q) = ap (λ k. Err (k, q.1)) (one_more i q.0)
+after_more : (i : ℕ) (ss : List Splice) (s : Splice) (r : Together) → following i ss (following 1 (s ∷ []) r) ≡ following (i + 1) (ss ++ s ∷ []) r
+after_more i ss s (Ok p) = ap (λ rs. Ok (p.0, rs)) (sym (append_assoc ss (s ∷ []) p.1))
+after_more i ss s (Err q) = ap (λ k. Err (k, q.1)) (one_more i q.0)
 
 -- the edits that are left, with the next before them
 left_edits : {X : Type 0} (f : X → PlainEdit) (cs : List X) (i : ℕ) (d : X) → i < length cs → map f (drop i cs) ≡ f (get_or cs i d) ∷ map f (drop (i + 1) cs)
 left_edits f cs i d l = ap (map f) (drop_more cs i d l)
 
 pub told_next : {X : Type 0} (f : X → PlainEdit) (cs : List X) (i : ℕ) (d : X) (x y : List ℕ) (ss more : List Splice) (s : Splice) (r : Together) → i < length cs → IsMade (f (get_or cs i d)) x s y → more ≡ ss ++ s ∷ []
-    → behind i ss (together (map f (drop i cs)) (tree x)) ≡ r → behind (i + 1) more (together (map f (drop (i + 1) cs)) (tree y)) ≡ r
+    → following i ss (together (map f (drop i cs)) (tree x)) ≡ r → following (i + 1) more (together (map f (drop (i + 1) cs)) (tree y)) ≡ r
 told_next f cs i d x y ss more s r l m q t =
     let rest = map f (drop (i + 1) cs) in
-    ap (λ rs. behind (i + 1) rs (together rest (tree y))) q
-    ∙ (sym (behind_more i ss s (together rest (tree y)))
-    ∙ (ap (λ rs. behind i ss (made_on rs (together rest) (Ok (tree y)))) (sym m.splices)
-    ∙ (ap (λ o. behind i ss (made_on (splices_of (f (get_or cs i d)) (tree x)) (together rest) o)) (sym m.accepted)
-    ∙ (ap (λ es. behind i ss (together es (tree x))) (sym (left_edits f cs i d l)) ∙ t))))
+    ap (λ rs. following (i + 1) rs (together rest (tree y))) q
+    ∙ (sym (after_more i ss s (together rest (tree y)))
+    ∙ (ap (λ rs. following i ss (made_on rs (together rest) (Ok (tree y)))) (sym m.splices)
+    ∙ (ap (λ o. following i ss (made_on (splices_of (f (get_or cs i d)) (tree x)) (together rest) o)) (sym m.accepted)
+    ∙ (ap (λ es. following i ss (together es (tree x))) (sym (left_edits f cs i d l)) ∙ t))))
 
 -- a refused edit is a refused group
 pub told_refused : {X : Type 0} (f : X → PlainEdit) (cs : List X) (i : ℕ) (d : X) (x : List ℕ) (ss : List Splice) (r : Together) (o : Option Refusal) (reason : Refusal) (h : History) → i < length cs
-    → behind i ss (together (map f (drop i cs)) (tree x)) ≡ r → IsRefusedBy o (edited (f (get_or cs i d)) (tree x)) → o ≡ Some reason → grouped_by h r ≡ Err (Member i reason)
+    → following i ss (together (map f (drop i cs)) (tree x)) ≡ r → IsRefusedBy o (edited (f (get_or cs i d)) (tree x)) → o ≡ Some reason → grouped_by h r ≡ Err (Member i reason)
 told_refused f cs i d x ss r o reason h l t e q =
     let refused : edited (f (get_or cs i d)) (tree x) ≡ Err reason = subst (λ p. IsRefusedBy p (edited (f (get_or cs i d)) (tree x))) q e in
     let rest = map f (drop (i + 1) cs) in
     ap (grouped_by h) (sym t)
-    ∙ (ap (λ es. grouped_by h (behind i ss (together es (tree x)))) (left_edits f cs i d l)
-    ∙ (ap (λ p. grouped_by h (behind i ss (made_on (splices_of (f (get_or cs i d)) (tree x)) (together rest) p))) refused
+    ∙ (ap (λ es. grouped_by h (following i ss (together es (tree x)))) (left_edits f cs i d l)
+    ∙ (ap (λ p. grouped_by h (following i ss (made_on (splices_of (f (get_or cs i d)) (tree x)) (together rest) p))) refused
     ∙ ap (λ k. Err (Member k reason)) (add-zero i)))

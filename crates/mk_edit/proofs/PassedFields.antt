@@ -15,13 +15,13 @@ use Rattle.mk_edit.specs.declared.silent_edits.SilentEdit.{SilentEdit}
 use Rattle.mk_decide.specs.Answers.{IsRefusedBy}
 use Rattle.mk_decide.specs.Edits.{Refusal, BadName}
 use Rattle.mk_line.specs.Kinds.{is_name}
-use Rattle.mk_decide.specs.FieldEdits.{starts_named, behind_continuations, Found, found_behind, find, field_at, renamed}
+use Rattle.mk_decide.specs.FieldEdits.{starts_named, after_continuations, Found, found_after, find, field_at, renamed}
 use Rattle.mk_decide.specs.FieldPuts.{LinePut, IsPut, name_put, put_unless, puts, removes, renames}
 use Rattle.mk_edit.specs.RootFields.{IsBehind}
 use Rattle.mk_edit.specs.SilentEdits.{by_option, numbered}
 use Rattle.mk_decide.proofs.FieldPutFacts.{puts_is, puts_fit}
 use Rattle.mk_decide.proofs.Renaming.{renamed_start}
-use Rattle.mk_decide.proofs.Runs.{IsFound, FoundIn, field_is, run_after, run_behind, run_start}
+use Rattle.mk_decide.proofs.Runs.{IsFound, FoundIn, field_is, run_after, run_following, run_start}
 use Rattle.mk_edit.proofs.SilentFields.{not_false}
 
 -- a field with more lines before it
@@ -32,18 +32,18 @@ none_before : (o : Option Found) → o ≡ option_map (later_found []) o
 none_before None = refl
 none_before (Some f) = refl
 
-one_before : (l : TextLine) (before : List TextLine) (o : Option Found) → found_behind l (option_map (later_found before) o) ≡ option_map (later_found (l ∷ before)) o
+one_before : (l : TextLine) (before : List TextLine) (o : Option Found) → found_after l (option_map (later_found before) o) ≡ option_map (later_found (l ∷ before)) o
 one_before l before None = refl
 one_before l before (Some f) = refl
 
-find_zero : (test : TextLine → Bool) (l : TextLine) (ls : List TextLine) → test l ≡ false → find test zero (l ∷ ls) ≡ found_behind l (find test zero ls)
+find_zero : (test : TextLine → Bool) (l : TextLine) (ls : List TextLine) → test l ≡ false → find test zero (l ∷ ls) ≡ found_after l (find test zero ls)
 find_zero test l ls h = rw h refl
 
-find_same : (test : TextLine → Bool) (n : ℕ) (l : TextLine) (ls : List TextLine) → test l ≡ false → find test n (l ∷ ls) ≡ found_behind l (find test n ls)
+find_same : (test : TextLine → Bool) (n : ℕ) (l : TextLine) (ls : List TextLine) → test l ≡ false → find test n (l ∷ ls) ≡ found_after l (find test n ls)
 find_same test zero l ls h = find_zero test l ls h
 find_same test (suc n) l ls h = rw h refl
 
-find_less : (test : TextLine → Bool) (n : ℕ) (l : TextLine) (ls : List TextLine) → test l ≡ true → find test (suc n) (l ∷ ls) ≡ found_behind l (find test n ls)
+find_less : (test : TextLine → Bool) (n : ℕ) (l : TextLine) (ls : List TextLine) → test l ≡ true → find test (suc n) (l ∷ ls) ≡ found_after l (find test n ls)
 find_less test n l ls h = rw h refl
 
 less : (m n c k : ℕ) → n ≡ suc c + k → n ≡ suc m → m ≡ c + k
@@ -52,18 +52,18 @@ less m n c k e f = omega (arith, e, f)
 no_number : {A : Type 0} (c k : ℕ) → zero ≡ suc c + k → A
 no_number c k e = let none : 0 < 0 = omega (arith, e) in absurd (omega (arith, none))
 
-find_named : (test : TextLine → Bool) (l : TextLine) (before behind : List TextLine) (n k : ℕ) → test l ≡ true → n ≡ suc (length (filter test before)) + k
-    → ((m : ℕ) → m ≡ length (filter test before) + k → find test m (before ++ behind) ≡ option_map (later_found before) (find test k behind)) → find test n (l ∷ (before ++ behind)) ≡ option_map (later_found (l ∷ before)) (find test k behind)
-find_named test l before behind zero k t e f = no_number (length (filter test before)) k e
-find_named test l before behind (suc m) k t e f =
-    find_less test m l (before ++ behind) t ∙ (ap (found_behind l) (f m (less m (suc m) (length (filter test before)) k e refl)) ∙ one_before l before (find test k behind))
+find_named : (test : TextLine → Bool) (l : TextLine) (before following : List TextLine) (n k : ℕ) → test l ≡ true → n ≡ suc (length (filter test before)) + k
+    → ((m : ℕ) → m ≡ length (filter test before) + k → find test m (before ++ following) ≡ option_map (later_found before) (find test k following)) → find test n (l ∷ (before ++ following)) ≡ option_map (later_found (l ∷ before)) (find test k following)
+find_named test l before following zero k t e f = no_number (length (filter test before)) k e
+find_named test l before following (suc m) k t e f =
+    find_less test m l (before ++ following) t ∙ (ap (found_after l) (f m (less m (suc m) (length (filter test before)) k e refl)) ∙ one_before l before (find test k following))
 
-find_later : (test : TextLine → Bool) (before behind : List TextLine) (n k : ℕ) → n ≡ length (filter test before) + k → find test n (before ++ behind) ≡ option_map (later_found before) (find test k behind)
-find_later test [] behind n k e = ap (λ i. find test i behind) (omega (arith, e)) ∙ none_before (find test k behind)
-find_later test (l ∷ before) behind n k e =
+find_later : (test : TextLine → Bool) (before following : List TextLine) (n k : ℕ) → n ≡ length (filter test before) + k → find test n (before ++ following) ≡ option_map (later_found before) (find test k following)
+find_later test [] following n k e = ap (λ i. find test i following) (omega (arith, e)) ∙ none_before (find test k following)
+find_later test (l ∷ before) following n k e =
     elim (cases_Bool (test l)) [
-      | inl t ↦ find_named test l before behind n k t (rw t at e) (λ m. find_later test before behind m k)
-      | inr t ↦ find_same test n l (before ++ behind) t ∙ (ap (found_behind l) (find_later test before behind n k (rw t at e)) ∙ one_before l before (find test k behind))
+      | inl t ↦ find_named test l before following n k t (rw t at e) (λ m. find_later test before following m k)
+      | inr t ↦ find_same test n l (before ++ following) t ∙ (ap (found_after l) (find_later test before following n k (rw t at e)) ∙ one_before l before (find test k following))
     ]
 
 no_first : {A : Type 0} (c j : ℕ) → zero ≡ c + suc j → A
@@ -72,10 +72,10 @@ no_first c j e = let none : 0 < 0 = omega (arith, e) in absurd (omega (arith, no
 none_less : {A : Type 0} → 0 < 0 → A
 none_less h = absurd (omega (arith, h))
 
-field_later : (name : List ℕ) (before behind : List TextLine) (k j : ℕ) → k ≡ length (filter (starts_named name) before) + j → 0 < j → field_at name k (before ++ behind) ≡ option_map (later_found before) (field_at name j behind)
-field_later name before behind k zero e h = none_less h
-field_later name before behind zero (suc j) e h = no_first (length (filter (starts_named name) before)) j e
-field_later name before behind (suc k) (suc j) e h = find_later (starts_named name) before behind k j (omega (arith, e))
+field_later : (name : List ℕ) (before following : List TextLine) (k j : ℕ) → k ≡ length (filter (starts_named name) before) + j → 0 < j → field_at name k (before ++ following) ≡ option_map (later_found before) (field_at name j following)
+field_later name before following k zero e h = none_less h
+field_later name before following zero (suc j) e h = no_first (length (filter (starts_named name) before)) j e
+field_later name before following (suc k) (suc j) e h = find_later (starts_named name) before following k j (omega (arith, e))
 
 -- what is put there
 abbrev later_put : List TextLine → LinePut → LinePut
@@ -97,13 +97,13 @@ renames_later : (before : List TextLine) (to : List ℕ) (o : Option Found) → 
 renames_later before to None = refl
 renames_later before to (Some f) = unless_later before (not (is_name to)) BadName (name_put to f)
 
-puts_later : (name : Bor (List ℕ)) (o : Option (Bor (List ℕ))) (before behind : List TextLine) (k j : ℕ) → k ≡ length (filter (starts_named name.now) before) + j → 0 < j
-    → puts (by_option o (Remove name k) (λ to. Rename name k to)) (before ++ behind) ≡ later_puts before (puts (by_option o (Remove name j) (λ to. Rename name j to)) behind)
-puts_later name None before behind k j e h = ap removes (field_later name.now before behind k j e h) ∙ removes_later before (field_at name.now j behind)
-puts_later name (Some to) before behind k j e h = ap (renames to.now) (field_later name.now before behind k j e h) ∙ renames_later before to.now (field_at name.now j behind)
+puts_later : (name : Bor (List ℕ)) (o : Option (Bor (List ℕ))) (before following : List TextLine) (k j : ℕ) → k ≡ length (filter (starts_named name.now) before) + j → 0 < j
+    → puts (by_option o (Remove name k) (λ to. Rename name k to)) (before ++ following) ≡ later_puts before (puts (by_option o (Remove name j) (λ to. Rename name j to)) following)
+puts_later name None before following k j e h = ap removes (field_later name.now before following k j e h) ∙ removes_later before (field_at name.now j following)
+puts_later name (Some to) before following k j e h = ap (renames to.now) (field_later name.now before following k j e h) ∙ renames_later before to.now (field_at name.now j following)
 
-puts_behind : (edit : SilentEdit) (ls : List TextLine) (bytes k : ℕ) → (b : IsBehind ls bytes edit k) → puts (numbered edit edit.k) ls ≡ later_puts b.before (puts (numbered edit k) b.behind)
-puts_behind edit ls bytes k b = ap (puts (numbered edit edit.k)) (sym b.whole) ∙ puts_later edit.name edit.to b.before b.behind edit.k k b.number b.some
+puts_after : (edit : SilentEdit) (ls : List TextLine) (bytes k : ℕ) → (b : IsBehind ls bytes edit k) → puts (numbered edit edit.k) ls ≡ later_puts b.before (puts (numbered edit k) b.following)
+puts_after edit ls bytes k b = ap (puts (numbered edit edit.k)) (sym b.whole) ∙ puts_later edit.name edit.to b.before b.following edit.k k b.number b.some
 
 -- in memory
 later_is_put : (before : List TextLine) (bytes : ℕ) (r s : Put) (x : Result LinePut Refusal) → size before ≡ bytes → s.from ≡ bytes + r.from → s.count ≡ r.count → s.lines ≡ r.lines → s.kept ≡ r.kept → IsPut r x → IsPut s (later_puts before x)
@@ -116,35 +116,35 @@ later_is_put before bytes r s (Ok q) t from count lines kept m = record {
 }
 
 pub put_later : (edit : SilentEdit) (ls : List TextLine) (bytes k : ℕ) (r s : Put) → (b : IsBehind ls bytes edit k) → s.from ≡ bytes + r.from → s.count ≡ r.count → s.lines ≡ r.lines → s.kept ≡ r.kept
-    → IsPut r (puts (numbered edit k) b.behind) → IsPut s (puts (numbered edit edit.k) ls)
-put_later edit ls bytes k r s b from count lines kept m = subst (IsPut s) (sym (puts_behind edit ls bytes k b)) (later_is_put b.before bytes r s (puts (numbered edit k) b.behind) b.takes from count lines kept m)
+    → IsPut r (puts (numbered edit k) b.following) → IsPut s (puts (numbered edit edit.k) ls)
+put_later edit ls bytes k r s b from count lines kept m = subst (IsPut s) (sym (puts_after edit ls bytes k b)) (later_is_put b.before bytes r s (puts (numbered edit k) b.following) b.takes from count lines kept m)
 
 later_refused : (before : List TextLine) (o : Option Refusal) (x : Result LinePut Refusal) → IsRefusedBy o x → IsRefusedBy o (later_puts before x)
 later_refused before None x h = tt
 later_refused before (Some e) x h = ap (later_puts before) h
 
-pub refused_later : (edit : SilentEdit) (ls : List TextLine) (bytes k : ℕ) (o : Option Refusal) → (b : IsBehind ls bytes edit k) → IsRefusedBy o (puts (numbered edit k) b.behind) → IsRefusedBy o (puts (numbered edit edit.k) ls)
-refused_later edit ls bytes k o b r = subst (IsRefusedBy o) (sym (puts_behind edit ls bytes k b)) (later_refused b.before o (puts (numbered edit k) b.behind) r)
+pub refused_later : (edit : SilentEdit) (ls : List TextLine) (bytes k : ℕ) (o : Option Refusal) → (b : IsBehind ls bytes edit k) → IsRefusedBy o (puts (numbered edit k) b.following) → IsRefusedBy o (puts (numbered edit edit.k) ls)
+refused_later edit ls bytes k o b r = subst (IsRefusedBy o) (sym (puts_after edit ls bytes k b)) (later_refused b.before o (puts (numbered edit k) b.following) r)
 
 -- the text after the fields that were passed over
-pub behind_is : (text : List ℕ) (bytes k : ℕ) (edit : SilentEdit) → (b : IsBehind (cut text) bytes edit k) → cut (drop bytes text) ≡ b.behind
-behind_is text bytes k edit b = ap (λ n. cut (drop n text)) (sym b.takes) ∙ cut_rest text b.before b.behind (sym b.whole)
+pub following_is : (text : List ℕ) (bytes k : ℕ) (edit : SilentEdit) → (b : IsBehind (cut text) bytes edit k) → cut (drop bytes text) ≡ b.following
+following_is text bytes k edit b = ap (λ n. cut (drop n text)) (sym b.takes) ∙ cut_rest text b.before b.following (sym b.whole)
 
 -- where the search goes on
-counted_behind : (test : TextLine → Bool) (l : TextLine) (n k : ℕ) (o : Option Found) → (t : Bool) → test l ≡ t → k ≡ (if t then suc n else n) → IfSome o (λ f. length (filter test f.before) ≡ n) → IfSome (found_behind l o) (λ f. length (filter test f.before) ≡ k)
-counted_behind test l n k None t e m h = tt
-counted_behind test l n k (Some f) true e m h = rw e (ap suc h ∙ sym m)
-counted_behind test l n k (Some f) false e m h = rw e (h ∙ sym m)
+counted_after : (test : TextLine → Bool) (l : TextLine) (n k : ℕ) (o : Option Found) → (t : Bool) → test l ≡ t → k ≡ (if t then suc n else n) → IfSome o (λ f. length (filter test f.before) ≡ n) → IfSome (found_after l o) (λ f. length (filter test f.before) ≡ k)
+counted_after test l n k None t e m h = tt
+counted_after test l n k (Some f) true e m h = rw e (ap suc h ∙ sym m)
+counted_after test l n k (Some f) false e m h = rw e (h ∙ sym m)
 
 counted_here : (test : TextLine → Bool) (l : TextLine) (ls : List TextLine) (t : Bool) → test l ≡ t → IfSome (find test zero ls) (λ f. length (filter test f.before) ≡ zero)
-    → IfSome (if t then Some (record { before = []; start = l; more = continuations ls; after = behind_continuations ls }) else found_behind l (find test zero ls)) (λ f. length (filter test f.before) ≡ zero)
+    → IfSome (if t then Some (record { before = []; start = l; more = continuations ls; after = after_continuations ls }) else found_after l (find test zero ls)) (λ f. length (filter test f.before) ≡ zero)
 counted_here test l ls true e h = refl
-counted_here test l ls false e h = counted_behind test l zero zero (find test zero ls) false e refl h
+counted_here test l ls false e h = counted_after test l zero zero (find test zero ls) false e refl h
 
 counted_next : (test : TextLine → Bool) (k : ℕ) (l : TextLine) (ls : List TextLine) (t : Bool) → test l ≡ t → IfSome (find test (if t then k else suc k) ls) (λ f. length (filter test f.before) ≡ (if t then k else suc k))
-    → IfSome (found_behind l (find test (if t then k else suc k) ls)) (λ f. length (filter test f.before) ≡ suc k)
-counted_next test k l ls true e h = counted_behind test l k (suc k) (find test k ls) true e refl h
-counted_next test k l ls false e h = counted_behind test l (suc k) (suc k) (find test (suc k) ls) false e refl h
+    → IfSome (found_after l (find test (if t then k else suc k) ls)) (λ f. length (filter test f.before) ≡ suc k)
+counted_next test k l ls true e h = counted_after test l k (suc k) (find test k ls) true e refl h
+counted_next test k l ls false e h = counted_after test l (suc k) (suc k) (find test (suc k) ls) false e refl h
 
 counted : (test : TextLine → Bool) (k : ℕ) (ls : List TextLine) → IfSome (find test k ls) (λ f. length (filter test f.before) ≡ k)
 counted test k [] = tt
@@ -175,7 +175,7 @@ removal_goes name k ls (Some f) r i h = record { some = h.0; holds = h.1; run = 
 
 renamed_goes : (name : List ℕ) (k : ℕ) (ls : List TextLine) (to : List ℕ) (f : Found) → IsRun false ls → IsFound ls f → (1 ≤ k) × (length (filter (starts_named name) f.before) ≡ k - 1) → (bad : Bool) → not (is_name to) ≡ bad → GoOn name k (put_unless bad BadName (name_put to f))
 renamed_goes name k ls to f r i h true e = tt
-renamed_goes name k ls to f r i h false e = record { some = h.0; holds = h.1; run = run_start (renamed to f.start) (f.more ++ f.after) (renamed_start to f.start (not_false (is_name to) e) i.start) (run_behind ls f i r) }
+renamed_goes name k ls to f r i h false e = record { some = h.0; holds = h.1; run = run_start (renamed to f.start) (f.more ++ f.after) (renamed_start to f.start (not_false (is_name to) e) i.start) (run_following ls f i r) }
 
 renaming_goes : (name : List ℕ) (k : ℕ) (ls : List TextLine) (to : List ℕ) (o : Option Found) → IsRun false ls → FoundIn ls o → IfSome o (λ f. (1 ≤ k) × (length (filter (starts_named name) f.before) ≡ k - 1)) → GoOn name k (renames to o)
 renaming_goes name k ls to None r i h = tt

@@ -4,7 +4,7 @@ use Rattle.std.proofs.Math.Seq.{take-append_seam}
 use Rattle.std.proofs.lemmas.List.Elements.{filter-append}
 use Rattle.std.specs.Global.{Vec}
 use Rattle.mk_line.specs.Lines.{TextLine, cut, text_of, AreLines}
-use Rattle.mk_line.proofs.Cuts.{cut_text, drop_lines, lines_behind, lines_cut, text_append}
+use Rattle.mk_line.proofs.Cuts.{cut_text, drop_lines, lines_following, lines_cut, text_append}
 use Rattle.mk_head.specs.Split.{fields_from, is_start}
 use Rattle.mk_head.specs.Splits.{IsRun}
 use Rattle.mk_head.specs.Fields.{field_text, fields_of, is_named}
@@ -63,7 +63,7 @@ run_front inside (x ∷ xs) ys r = (r.0, run_front true xs ys r.1)
 pub cut_between : (text : List ℕ) (xs ys zs : List TextLine) → cut text ≡ xs ++ (ys ++ zs) → cut (take (size ys) (drop (size xs) text)) ≡ ys
 cut_between text xs ys zs e =
     ap (λ t. cut (take (size ys) t)) (drop_lines text xs (ys ++ zs) e ∙ text_append ys zs)
-    ∙ (ap cut (take-append_seam (text_of ys) (text_of zs)) ∙ cut_text ys (lines_front ys zs (lines_behind xs (ys ++ zs) (subst AreLines e (lines_cut text)))))
+    ∙ (ap cut (take-append_seam (text_of ys) (text_of zs)) ∙ cut_text ys (lines_front ys zs (lines_following xs (ys ++ zs) (subst AreLines e (lines_cut text)))))
 
 -- among fewer lines
 nothing_before : (xs ys : List TextLine) → ◌≡◌ {A = List TextLine} (xs ++ ys) [] → ◌≡◌ {A = List TextLine} xs []

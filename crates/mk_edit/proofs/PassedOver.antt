@@ -11,7 +11,7 @@ use Rattle.mk_tree.proofs.Descent.{size_append}
 use Rattle.mk_decide.specs.FieldEdits.{starts_named}
 use Rattle.mk_decide.specs.FieldPuts.{placed_field, raw_size, IsFieldAt}
 use Rattle.mk_decide.proofs.FieldPlaces.{fields_size, is_there, run_all}
-use Rattle.mk_decide.proofs.Runs.{IsFound, FoundIn, field_is, run_behind, run_join, run_start}
+use Rattle.mk_decide.proofs.Runs.{IsFound, FoundIn, field_is, run_following, run_join, run_start}
 use Rattle.mk_edit.specs.declared.silent_edits.SilentEdit.{SilentEdit}
 use Rattle.mk_edit.specs.RootFields.{IsBehind}
 use Rattle.mk_edit.specs.inner.FieldNames.{BeginsField}
@@ -87,10 +87,10 @@ over_met text name k r m =
       before = f.before;
       after = f.start ∷ (f.more ++ f.after);
       whole = g.whole;
-      takes = sym at.behind;
+      takes = sym at.following;
       number = omega (arith, counted.0, counted.1);
       some = omega arith;
-      run = run_start f.start (f.more ++ f.after) g.start (run_behind (cut text) f g r);
+      run = run_start f.start (f.more ++ f.after) g.start (run_following (cut text) f g r);
     })
 
 nothing_after : (ls : List TextLine) → ls ++ [] ≡ ls
@@ -118,12 +118,12 @@ over text name k r (inr m) = over_all (cut text) name k r m
 
 -- further on among the fields before a place
 between : (fields here : List ℕ) (edit : SilentEdit) (bytes k gap : ℕ) (r : ℕ × ℕ) (zs : List TextLine) (b : IsBehind (cut fields) bytes edit k) (g : BeginsField (cut fields) gap)
-    → b.behind ≡ zs ++ g.after → cut here ≡ zs → Over (cut here) edit.name.now k r → IsBehind (cut fields) (bytes + r.0) edit r.1
+    → b.following ≡ zs ++ g.after → cut here ≡ zs → Over (cut here) edit.name.now k r → IsBehind (cut fields) (bytes + r.0) edit r.1
 between fields here edit bytes k gap r zs b g rest lines o =
     let parts : o.before ++ o.after ≡ zs = o.whole ∙ lines in
     record {
       before = b.before ++ o.before;
-      behind = o.after ++ g.after;
+      following = o.after ++ g.after;
       whole =
           append_assoc b.before o.before (o.after ++ g.after)
           ∙ (ap (λ xs. b.before ++ xs) (sym (append_assoc o.before o.after g.after) ∙ (ap (λ xs. xs ++ g.after) parts ∙ sym rest)) ∙ b.whole);
@@ -133,7 +133,7 @@ between fields here edit bytes k gap r zs b g rest lines o =
       run = run_join false o.after g.after o.run g.run;
     }
 
-by_overlap : (fields here : List ℕ) (edit : SilentEdit) (bytes k gap : ℕ) → (b : IsBehind (cut fields) bytes edit k) → (g : BeginsField (cut fields) gap) → bytes < gap → here ≡ take (gap - bytes) (drop bytes fields) → Overlap b.before b.behind g.before g.after
+by_overlap : (fields here : List ℕ) (edit : SilentEdit) (bytes k gap : ℕ) → (b : IsBehind (cut fields) bytes edit k) → (g : BeginsField (cut fields) gap) → bytes < gap → here ≡ take (gap - bytes) (drop bytes fields) → Overlap b.before b.following g.before g.after
     → let r = passed_over edit.name.now k 0 (fields_of (fields_from false (cut here))) in IsBehind (cut fields) (bytes + r.0) edit r.1
 by_overlap fields here edit bytes k gap b g less h (inr p) = absurd (omega (arith, b.takes, g.takes, less, ap size p.1, size_append g.before p.0))
 by_overlap fields here edit bytes k gap b g less h (inl p) =
@@ -149,4 +149,4 @@ by_overlap fields here edit bytes k gap b g less h (inl p) =
 -- where the search of an edit's field goes on after the fields before a place
 pub further_on : (fields here : List ℕ) (edit : SilentEdit) (bytes k gap : ℕ) → (b : IsBehind (cut fields) bytes edit k) → (g : BeginsField (cut fields) gap) → bytes < gap → here ≡ take (gap - bytes) (drop bytes fields)
     → let r = passed_over edit.name.now k 0 (fields_of (fields_from false (cut here))) in IsBehind (cut fields) (bytes + r.0) edit r.1
-further_on fields here edit bytes k gap b g less h = by_overlap fields here edit bytes k gap b g less h (overlap b.before b.behind g.before g.after (b.whole ∙ sym g.whole))
+further_on fields here edit bytes k gap b g less h = by_overlap fields here edit bytes k gap b g less h (overlap b.before b.following g.before g.after (b.whole ∙ sym g.whole))

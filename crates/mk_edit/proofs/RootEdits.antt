@@ -274,15 +274,15 @@ opens_put text start r q t m b o =
     ∙ (ap (λ n. opens_at text (start + r.from) n (text_of q.given)) (sym m.count) ∙ (ap (opens_at text (start + r.from) r.count) (sym m.lines) ∙ o)))
 
 -- the search goes on after the splice
-held_behind : (text : List ℕ) (edit : SilentEdit) (q : LinePut) (r : PlainSplice) (start size : ℕ) → puts (numbered edit edit.k) (lines_in text) ≡ Ok q → IsReplaced text (numbered edit edit.k) q r → start ≡ (root_in text).start → size ≡ length (head_text (root_in text))
+held_after : (text : List ℕ) (edit : SilentEdit) (q : LinePut) (r : PlainSplice) (start size : ℕ) → puts (numbered edit edit.k) (lines_in text) ≡ Ok q → IsReplaced text (numbered edit edit.k) q r → start ≡ (root_in text).start → size ≡ length (head_text (root_in text))
     → r.place ≡ start + length (text_of q.before) → Replaces edit text start size r
-held_behind text edit q r start size h d b t p =
+held_after text edit q r start size h d b t p =
     let g = put_goes_on edit (lines_in text) q (root_run text) h in
     let taken : length (text_of q.before) ≡ r.place - start = omega (arith, p) in
     record {
       decided = d.decided;
       inside = omega (arith, d.inside, t, taken);
-      behind = omega (arith, p);
+      following = omega (arith, p);
       left = subst (λ n. HasFields (spliced r.place r.count r.new text) n (size - r.count + length r.new)) (sym b) (subst (λ n. HasFields (spliced r.place r.count r.new text) (root_in text).start (n - r.count + length r.new)) (sym t) d.left);
       passed = record { place = record { before = q.before; after = q.given ++ q.after; whole = sym d.lines; takes = taken; run = g.run }; holds = g.holds };
       stays = λ bytes within place.
@@ -302,7 +302,7 @@ put_by text start taken edit r w (Ok q) f i h m o place count new =
     (count ∙ (ap (λ n. n - r.kept) m.count ∙ ap (λ n. size q.old - n) m.kept))
     (new ∙ (ap (λ xs. take (length xs - r.kept) xs) m.lines ∙ ap (λ n. take (size q.given - n) (text_of q.given)) m.kept)) in
     let done = replaces_put text (numbered edit edit.k) q (names_silent edit edit.k i) f.separated h (opens_put text start r q false m f.begins o) in
-    held_behind text edit q w start taken h (subst (IsReplaced text (numbered edit edit.k) q) same done) f.begins f.takes (place ∙ ap (λ n. start + n) m.from)
+    held_after text edit q w start taken h (subst (IsReplaced text (numbered edit edit.k) q) same done) f.begins f.takes (place ∙ ap (λ n. start + n) m.from)
 
 pub put_root : (text : List ℕ) (start size : ℕ) (edit : SilentEdit) (r : Put) (w : PlainSplice) → HasFields text start size → IsSilent edit → IsPut r (puts (numbered edit edit.k) (lines_in text)) → opens_at text (start + r.from) r.count r.lines.items ≡ false
     → w.place ≡ start + r.from → w.count ≡ r.count - r.kept → w.new ≡ take (length r.lines.items - r.kept) r.lines.items → Replaces edit text start size w

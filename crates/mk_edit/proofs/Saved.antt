@@ -2,15 +2,15 @@
 use Rattle.std.proofs.Common.{◌≡◌, ◌≤◌, ℕ, suc, zero, List, [], ◌∷◌, refl, ap, sym, ◌∙◌, subst, length, take, drop, get_or, arith}
 use Rattle.mk_splice.specs.Splices.{Splice, back_step, GoesBack}
 use Rattle.mk_splice.specs.Fits.{back_all, AllBack, AllForth, Fit}
-use Rattle.mk_edit.specs.History.{History, texts_behind, texts_from, history_of}
+use Rattle.mk_edit.specs.History.{History, texts_after, texts_from, history_of}
 use Rattle.mk_edit.specs.Histories.{AreLinked, IsHistory, text_now}
 
 -- linked texts are what the steps make of the first
-linked_texts : (x : List ℕ) (ys : List (List ℕ)) (ss : List (List Splice)) → AreLinked x ys ss → texts_behind x ss ≡ ys
+linked_texts : (x : List ℕ) (ys : List (List ℕ)) (ss : List (List Splice)) → AreLinked x ys ss → texts_after x ss ≡ ys
 linked_texts x [] [] h = refl
 linked_texts x [] (s ∷ ss) h = absurd h
 linked_texts x (y ∷ ys) [] h = absurd h
-linked_texts x (y ∷ ys) (s ∷ ss) h = ap (λ z. z ∷ texts_behind z ss) h.0.forth ∙ ap (λ zs. y ∷ zs) (linked_texts y ys ss h.1)
+linked_texts x (y ∷ ys) (s ∷ ss) h = ap (λ z. z ∷ texts_after z ss) h.0.forth ∙ ap (λ zs. y ∷ zs) (linked_texts y ys ss h.1)
 
 linked_forth : (x : List ℕ) (ys : List (List ℕ)) (ss : List (List Splice)) → AreLinked x ys ss → AllForth ss x
 linked_forth x [] [] h = tt

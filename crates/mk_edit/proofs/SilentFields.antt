@@ -14,14 +14,14 @@ use Rattle.mk_decide.specs.declared.field_edits.FieldEdit.{FieldEdit}
 use Rattle.mk_decide.specs.declared.field_edits.FieldEdit.TheVariants.{Add, Remove, Rename, Set}
 use Rattle.mk_decide.specs.Edits.{Refusal, BadName}
 use Rattle.mk_line.specs.Kinds.{is_name}
-use Rattle.mk_decide.specs.FieldEdits.{starts_named, behind_continuations, Found, found_behind, find, field_at, renamed}
+use Rattle.mk_decide.specs.FieldEdits.{starts_named, after_continuations, Found, found_after, find, field_at, renamed}
 use Rattle.mk_decide.specs.FieldPuts.{LinePut, name_put, put_unless, puts, removes, renames}
 use Rattle.mk_edit.specs.declared.silent_edits.SilentEdit.{SilentEdit}
 use Rattle.mk_edit.specs.SilentEdits.{are_same, is_silent, by_option, numbered, IsSilent}
 use Rattle.mk_decide.proofs.Counting.{names_lem}
 use Rattle.mk_decide.proofs.PutPlans.{lines_put}
 use Rattle.mk_decide.proofs.Renaming.{both, renamed_start}
-use Rattle.mk_decide.proofs.Runs.{more_behind}
+use Rattle.mk_decide.proofs.Runs.{more_after}
 use Rattle.mk_decide.proofs.WrapFields.{start_more}
 
 -- lines of which the first continues no field stand after others
@@ -29,15 +29,15 @@ continued : (xs ys zs : List TextLine) → continuations ys ≡ [] → continuat
 continued [] ys zs h k = h ∙ sym k
 continued (x ∷ xs) ys zs h k = ap (λ ls. if is_more x then x ∷ ls else []) (continued xs ys zs h k)
 
-value_behind_others : (name : List ℕ) (xs ys zs : List TextLine) → continuations ys ≡ [] → continuations zs ≡ [] → field_value name ys ≡ field_value name zs → field_value name (xs ++ ys) ≡ field_value name (xs ++ zs)
-value_behind_others name [] ys zs h k e = e
-value_behind_others name (x ∷ xs) ys zs h k e =
+value_after_others : (name : List ℕ) (xs ys zs : List TextLine) → continuations ys ≡ [] → continuations zs ≡ [] → field_value name ys ≡ field_value name zs → field_value name (xs ++ ys) ≡ field_value name (xs ++ zs)
+value_after_others name [] ys zs h k e = e
+value_after_others name (x ∷ xs) ys zs h k e =
     let named = is_start x && is_named name (field_text x []) in
     ap (λ ls. if named then Some (value_in (x ∷ ls)) else field_value name (xs ++ ys)) (continued xs ys zs h k)
-    ∙ ap (λ v. if named then Some (value_in (x ∷ continuations (xs ++ zs))) else v) (value_behind_others name xs ys zs h k e)
+    ∙ ap (λ v. if named then Some (value_in (x ∷ continuations (xs ++ zs))) else v) (value_after_others name xs ys zs h k e)
 
 -- continuations hold no field
-value_left : (name : List ℕ) (ls : List TextLine) → field_value name (behind_continuations ls) ≡ field_value name ls
+value_left : (name : List ℕ) (ls : List TextLine) → field_value name (after_continuations ls) ≡ field_value name ls
 value_left name [] = refl
 value_left name (l ∷ ls) =
     elim (cases_Bool (is_more l)) [
@@ -45,7 +45,7 @@ value_left name (l ∷ ls) =
       | inr m ↦ rw m refl
     ]
 
-none_left : (ls : List TextLine) → continuations (behind_continuations ls) ≡ []
+none_left : (ls : List TextLine) → continuations (after_continuations ls) ≡ []
 none_left [] = refl
 none_left (l ∷ ls) =
     elim (cases_Bool (is_more l)) [
@@ -61,20 +61,20 @@ pub record IsNamedIn (name : List ℕ) (ls : List TextLine) (f : Found) : Type 0
   pub rest : List TextLine
   pub whole : f.before ++ (f.start ∷ rest) ≡ ls
   pub apart : f.more ++ f.after ≡ rest
-  pub after : f.after ≡ behind_continuations rest
+  pub after : f.after ≡ after_continuations rest
   pub named : starts_named name f.start ≡ true
 
 abbrev NamedIn : List ℕ → List TextLine → Option Found → Type 0
 NamedIn name ls None = Unit {0}
 NamedIn name ls (Some f) = IsNamedIn name ls f
 
-later : (name : List ℕ) (l : TextLine) (ls : List TextLine) (o : Option Found) → NamedIn name ls o → NamedIn name (l ∷ ls) (found_behind l o)
+later : (name : List ℕ) (l : TextLine) (ls : List TextLine) (o : Option Found) → NamedIn name ls o → NamedIn name (l ∷ ls) (found_after l o)
 later name l ls None h = tt
 later name l ls (Some f) h = record { rest = h.rest; whole = ap (λ xs. l ∷ xs) h.whole; apart = h.apart; after = h.after; named = h.named }
 
 here : (name : List ℕ) (t : Bool) (l : TextLine) (ls : List TextLine) (o : Option Found) → (t ≡ true → starts_named name l ≡ true) → NamedIn name ls o
-    → NamedIn name (l ∷ ls) (if t then Some (record { before = []; start = l; more = continuations ls; after = behind_continuations ls }) else found_behind l o)
-here name true l ls o s h = record { rest = ls; whole = refl; apart = more_behind ls; after = refl; named = s refl }
+    → NamedIn name (l ∷ ls) (if t then Some (record { before = []; start = l; more = continuations ls; after = after_continuations ls }) else found_after l o)
+here name true l ls o s h = record { rest = ls; whole = refl; apart = more_after ls; after = refl; named = s refl }
 here name false l ls o s h = later name l ls o h
 
 named_in : (name : List ℕ) (k : ℕ) (ls : List TextLine) → NamedIn name ls (find (starts_named name) k ls)
@@ -104,7 +104,7 @@ passed_over other l ls h = rw h refl
 value_without : (name other : List ℕ) (ls : List TextLine) (f : Found) → IsNamedIn name ls f → are_same name other ≡ false → field_value other (f.before ++ f.after) ≡ field_value other ls
 value_without name other ls f h k =
     let start = (both (is_start f.start) (is_named name (field_text f.start [])) h.named).0 in
-    value_behind_others other f.before f.after (f.start ∷ h.rest) (ap continuations h.after ∙ none_left h.rest) (none_before f.start h.rest start)
+    value_after_others other f.before f.after (f.start ∷ h.rest) (ap continuations h.after ∙ none_left h.rest) (none_before f.start h.rest start)
     (ap (field_value other) h.after ∙ (value_left other h.rest ∙ sym (passed_over other f.start h.rest (starts_other name other f.start h.named k))))
     ∙ ap (field_value other) h.whole
 
@@ -117,7 +117,7 @@ value_renamed name to other ls f h n k e =
     let spelt : name_of new ≡ to = (names_lem to f.start n start).0 in
     let passed : starts_named other new ≡ false = none_named (is_start new) (is_named other (field_text new [])) (ap (λ x. are_same x other) spelt ∙ e) in
     ap (λ xs. field_value other (f.before ++ (new ∷ xs))) h.apart
-    ∙ (value_behind_others other f.before (new ∷ h.rest) (f.start ∷ h.rest) (none_before new h.rest (renamed_start to f.start n start)) (none_before f.start h.rest start)
+    ∙ (value_after_others other f.before (new ∷ h.rest) (f.start ∷ h.rest) (none_before new h.rest (renamed_start to f.start n start)) (none_before f.start h.rest start)
     (passed_over other new h.rest passed ∙ sym (passed_over other f.start h.rest (starts_other name other f.start h.named k)))
     ∙ ap (field_value other) h.whole)
 

@@ -4,7 +4,7 @@ use Rattle.std.proofs.lemmas.List.{take_at, drop_at, length-take-le, take-append
 use Rattle.mk_splice.specs.Splices.{Splice, forth_step, back_step, GoesForth, GoesBack}
 use Rattle.mk_edit.specs.Histories.{AreLinked, IsHistory, text_now, with_step}
 use Rattle.mk_splice.specs.Fits.{back_all, forth_all, AllBack, AllForth, Fit}
-use Rattle.mk_edit.specs.History.{texts_behind, texts_from, history_of}
+use Rattle.mk_edit.specs.History.{texts_after, texts_from, history_of}
 use Rattle.mk_splice.proofs.Bytes.{back_forth, forth_back, leads_to}
 
 -- one step more at the end
@@ -46,7 +46,7 @@ texts_more zero t ss s h = refl
 texts_more (suc n) t [] s h = absurd (omega (arith, h))
 texts_more (suc n) t (r ∷ ss) s h = ap (λ xs. t ∷ xs) (texts_more n (forth_step r t) ss s (omega (arith, h)))
 
-pub linked : (t : List ℕ) (ss : List (List Splice)) → AllForth ss t → AreLinked t (texts_behind t ss) ss
+pub linked : (t : List ℕ) (ss : List (List Splice)) → AllForth ss t → AreLinked t (texts_after t ss) ss
 linked t [] h = tt
 linked t (s ∷ ss) h = (leads_to s t (forth_step s t) h.0 refl, linked (forth_step s t) ss h.1)
 
@@ -60,7 +60,7 @@ all_steps x ss n f =
 pub fit_history : (x : List ℕ) (ss : List (List Splice)) (n : ℕ) → Fit x ss n → IsHistory (history_of x ss n)
 fit_history x ss n f = record {
   first = back_all (take n ss) x;
-  others = texts_behind (back_all (take n ss) x) ss;
+  others = texts_after (back_all (take n ss) x) ss;
   texts = refl;
   linked = linked (back_all (take n ss) x) ss (all_steps x ss n f);
   within = f.within;

@@ -11,13 +11,13 @@ abbrev pub Together : Type 0
 Together = Result (Document × List Splice) (ℕ × Refusal)
 
 -- what edits give, where so many were made before them, with these splices
-abbrev pub behind : ℕ → List Splice → Together → Together
-behind made splices (Ok p) = Ok (p.0, splices ++ p.1)
-behind made splices (Err q) = Err (made + q.0, q.1)
+abbrev pub following : ℕ → List Splice → Together → Together
+following made splices (Ok p) = Ok (p.0, splices ++ p.1)
+following made splices (Err q) = Err (made + q.0, q.1)
 
 -- further edits are made in the document that an edit gave
 abbrev pub made_on : List Splice → (Document → Together) → Result Document Refusal → Together
-made_on splices others (Ok t) = behind 1 splices (others t)
+made_on splices others (Ok t) = following 1 splices (others t)
 made_on splices others (Err e) = Err (0, e)
 
 -- edits, each made in the document that the earlier ones gave

@@ -10,13 +10,13 @@ pub record History : Type 0 where
   pub place : ℕ
 
 -- the texts that steps give, one after another
-abbrev pub texts_behind : List ℕ → List (List Splice) → List (List ℕ)
-texts_behind x [] = []
-texts_behind x (s ∷ ss) = forth_step s x ∷ texts_behind (forth_step s x) ss
+abbrev pub texts_after : List ℕ → List (List Splice) → List (List ℕ)
+texts_after x [] = []
+texts_after x (s ∷ ss) = forth_step s x ∷ texts_after (forth_step s x) ss
 
 -- the same with the first text
 abbrev pub texts_from : List ℕ → List (List Splice) → List (List ℕ)
-texts_from x ss = x ∷ texts_behind x ss
+texts_from x ss = x ∷ texts_after x ss
 
 -- the history of a text and steps of which so many are done
 abbrev pub history_of : List ℕ → List (List Splice) → ℕ → History

@@ -39,19 +39,19 @@ pub record HasPassed (ls : List TextLine) (name : List ℕ) (bytes fields : ℕ)
 -- the field of an edit is the k-th of its name after so many bytes of fields
 pub record IsBehind (ls : List TextLine) (bytes : ℕ) (edit : SilentEdit) (k : ℕ) : Type 0 where
   pub before : List TextLine
-  pub behind : List TextLine
-  pub whole : before ++ behind ≡ ls
+  pub following : List TextLine
+  pub whole : before ++ following ≡ ls
   pub takes : size before ≡ bytes
   pub number : edit.k ≡ length (filter (starts_named edit.name.now) before) + k
   pub some : 0 < k
-  pub run : IsRun false behind
+  pub run : IsRun false following
 
 -- an edit of the root is accepted, these bytes are its splice, and the root's fields stand at the same place after it, where
 -- those before the splice were passed over; what was known of fields before it is known still
 pub record Replaces (edit : SilentEdit) (text : List ℕ) (start size : ℕ) (r : PlainSplice) : Type 0 where
   pub decided : IsDecided (plain_of (1 ∷ []) (numbered edit edit.k)) text r
   pub inside : (r.place - start) + r.count ≤ size
-  pub behind : start ≤ r.place
+  pub following : start ≤ r.place
   pub left : HasFields (spliced r.place r.count r.new text) start (size - r.count + length r.new)
   pub passed : HasPassed (lines_in (spliced r.place r.count r.new text)) edit.name.now (r.place - start) (edit.k - 1)
   pub stays : (bytes : ℕ) → bytes ≤ r.place - start → BeginsField (lines_in text) bytes → BeginsField (lines_in (spliced r.place r.count r.new text)) bytes

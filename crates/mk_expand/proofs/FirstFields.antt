@@ -6,7 +6,7 @@ use Rattle.mk_head.specs.Split.{is_more, is_start}
 use Rattle.mk_head.specs.Fields.{FieldText, continuations, field_text, fields_of, is_named}
 use Rattle.mk_head.specs.Types.{field_value}
 use Rattle.mk_head.specs.Unfolding.{value_in}
-use Rattle.mk_decide.specs.FieldEdits.{Found, behind_continuations, find, found_behind, starts_named}
+use Rattle.mk_decide.specs.FieldEdits.{Found, after_continuations, find, found_after, starts_named}
 
 -- a line is the first field of a name, and ends there
 abbrev pub IsFirst : List ℕ → TextLine → List TextLine → Type 0
@@ -42,7 +42,7 @@ first_after name first (l ∷ ls) none = elim (cases_Bool (is_start l)) [
 ]
 
 -- no continuation stands after the continuations
-ended : (ls : List TextLine) → continuations (behind_continuations ls) ≡ []
+ended : (ls : List TextLine) → continuations (after_continuations ls) ≡ []
 ended [] = refl
 ended (l ∷ ls) = elim (cases_Bool (is_more l)) [
   | inl more ↦ rw more (ended ls)
@@ -50,7 +50,7 @@ ended (l ∷ ls) = elim (cases_Bool (is_more l)) [
 ]
 
 -- a line in the place of the first field of the name
-put_by : (name : List ℕ) (first l : TextLine) (o : Option Found) (f : Found) → starts_named name l ≡ false → ((g : Found) → o ≡ Some g → IsFirst name first (g.before ++ (first ∷ g.after))) → found_behind l o ≡ Some f
+put_by : (name : List ℕ) (first l : TextLine) (o : Option Found) (f : Found) → starts_named name l ≡ false → ((g : Found) → o ≡ Some g → IsFirst name first (g.before ++ (first ∷ g.after))) → found_after l o ≡ Some f
     → IsFirst name first (f.before ++ (first ∷ f.after))
 put_by name first l None f other rest e = none_found f e
 put_by name first l (Some g) f other rest e =
@@ -61,13 +61,13 @@ pub first_put : (name : List ℕ) (first : TextLine) (ls : List TextLine) (f : F
 first_put name first [] f e = none_found f e
 first_put name first (l ∷ ls) f e = elim (cases_Bool (starts_named name l)) [
   | inl named ↦
-      let now : Found = record { before = []; start = l; more = continuations ls; after = behind_continuations ls } in
+      let now : Found = record { before = []; start = l; more = continuations ls; after = after_continuations ls } in
       subst (λ (x : Found). IsFirst name first (x.before ++ (first ∷ x.after))) (same_found now f (rw named at e)) (inl (refl, ended ls))
   | inr other ↦ put_by name first l (find (starts_named name) 0 ls) f other (λ g. first_put name first ls g) (rw other at e)
 ]
 
 -- without a later field of the name
-gone_by : (l : TextLine) (ls : List TextLine) (o : Option Found) (f : Found) → is_more l ≡ false → found_behind l o ≡ Some f → continuations (f.before ++ f.after) ≡ []
+gone_by : (l : TextLine) (ls : List TextLine) (o : Option Found) (f : Found) → is_more l ≡ false → found_after l o ≡ Some f → continuations (f.before ++ f.after) ≡ []
 gone_by l ls None f other e = none_found f e
 gone_by l ls (Some g) f other e =
     let now : Found = record { before = l ∷ g.before; start = g.start; more = g.more; after = g.after } in
@@ -84,15 +84,15 @@ still_ended : (test : TextLine → Bool) (ls : List TextLine) (f : Found) → co
 still_ended test [] f none e = none_found f e
 still_ended test (l ∷ ls) f none e = elim (cases_Bool (test l)) [
   | inl named ↦
-      let now : Found = record { before = []; start = l; more = continuations ls; after = behind_continuations ls } in
+      let now : Found = record { before = []; start = l; more = continuations ls; after = after_continuations ls } in
       subst (λ (x : Found). continuations (x.before ++ x.after) ≡ []) (same_found now f (rw named at e)) (ended ls)
   | inr other ↦ gone_by l ls (find test 0 ls) f (no_more l (continuations ls) (is_more l) refl none) (rw other at e)
 ]
 
-first_behind : (name : List ℕ) (first l : TextLine) (o : Option Found) (f : Found) → ((g : Found) → o ≡ Some g → ((l ≡ first) × (continuations (g.before ++ g.after) ≡ [])) ⊎ ((starts_named name l ≡ false) × IsFirst name first (g.before ++ g.after))) → found_behind l o ≡ Some f
+first_following : (name : List ℕ) (first l : TextLine) (o : Option Found) (f : Found) → ((g : Found) → o ≡ Some g → ((l ≡ first) × (continuations (g.before ++ g.after) ≡ [])) ⊎ ((starts_named name l ≡ false) × IsFirst name first (g.before ++ g.after))) → found_after l o ≡ Some f
     → IsFirst name first (f.before ++ f.after)
-first_behind name first l None f rest e = none_found f e
-first_behind name first l (Some g) f rest e =
+first_following name first l None f rest e = none_found f e
+first_following name first l (Some g) f rest e =
     let now : Found = record { before = l ∷ g.before; start = g.start; more = g.more; after = g.after } in
     subst (λ (x : Found). IsFirst name first (x.before ++ x.after)) (same_found now f e) (rest g refl)
 
@@ -100,6 +100,6 @@ pub first_stays : (name : List ℕ) (first : TextLine) (ls : List TextLine) (f :
 first_stays name first [] f named h e = absurd h
 first_stays name first (l ∷ ls) f named (inl h) e =
     let starts : starts_named name l ≡ true = ap (starts_named name) h.0 ∙ named in
-    first_behind name first l (find (starts_named name) 0 ls) f (λ g found. inl (h.0, still_ended (starts_named name) ls g h.1 found)) (rw starts at e)
+    first_following name first l (find (starts_named name) 0 ls) f (λ g found. inl (h.0, still_ended (starts_named name) ls g h.1 found)) (rw starts at e)
 first_stays name first (l ∷ ls) f named (inr h) e =
-    first_behind name first l (find (starts_named name) 1 ls) f (λ g found. inr (h.0, first_stays name first ls g named h.1 found)) (rw h.0 at e)
+    first_following name first l (find (starts_named name) 1 ls) f (λ g found. inr (h.0, first_stays name first ls g named h.1 found)) (rw h.0 at e)

@@ -7,7 +7,7 @@ use Rattle.mk_line.specs.declared.marks.Mark.TheVariants.{No, Part, Close}
 use Rattle.mk_line.specs.Kinds.{is_continuation, is_field_start}
 use Rattle.mk_line.specs.Lines.{TextLine, ending_bytes, is_nil, printed_line, text_line, text_of}
 use Rattle.mk_line.specs.Ascii.{colon}
-use Rattle.mk_line.specs.Parting.{behind}
+use Rattle.mk_line.specs.Parting.{following}
 use Rattle.mk_line.specs.Marks.{mark}
 use Rattle.mk_head.specs.Split.{belongs, body_of, fields_from, is_empty, is_more, is_start, rest_from}
 use Rattle.mk_head.specs.Fields.{continuations, field_text, is_named}
@@ -63,7 +63,7 @@ contents_bare (l ∷ ls) = ap (λ c. l.content ++ c) (contents_bare ls)
 value_bare : (name : List ℕ) (ls : List TextLine) → field_value name (map bare ls) ≡ field_value name ls
 value_bare name [] = refl
 value_bare name (l ∷ ls) = elim (cases_Bool (is_start l && is_named name (field_text l []))) [
-  | inl h ↦ rw (h) (ap (λ c. Some (or_nothing (behind colon (l.content ++ c)))) (ap contents (continuations_bare ls) ∙ contents_bare (continuations ls)))
+  | inl h ↦ rw (h) (ap (λ c. Some (or_nothing (following colon (l.content ++ c)))) (ap contents (continuations_bare ls) ∙ contents_bare (continuations ls)))
   | inr h ↦ rw (h) (value_bare name ls)
 ]
 

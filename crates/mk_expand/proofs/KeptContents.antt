@@ -1,7 +1,7 @@
 -- Entities of which each leaf keeps its content, and where sections get an ending after them.
 use Rattle.std.proofs.Common.{◌≡◌, ◌||◌, ℕ, zero, suc, Bool, true, false, List, [], ◌∷◌, map, codes, refl, ap, sym, ◌∙◌, subst, inl, inr}
 use Rattle.mk_line.specs.Lines.{TextLine}
-use Rattle.mk_head.specs.Split.{Head, behind_head, fields_from, head_of}
+use Rattle.mk_head.specs.Split.{Head, after_head, fields_from, head_of}
 use Rattle.mk_head.specs.Types.{encoding_by, field_value, header_encoding, type_by}
 use Rattle.mk_tree.specs.Cutting.{Cut, cut_by}
 use Rattle.mk_tree.specs.Kinds.{Kind, Leaf, Message, Multi, kind, kind_at, kind_of}
@@ -94,8 +94,8 @@ entity_kept f (Multi b digest) h i ls ms r e g = cuts_kept (f digest) b ls ms (r
 pub read_kept : (n : ℕ) (d : Bool) → GrowsIn (read n d)
 read_kept zero d ls ms g =
     let heads = heads_grow_or false ls ms g in
-    (same_encoding (fields_from false ls) (fields_from false ms) heads.0, grown_content (behind_head ls) (behind_head ms) heads.1)
+    (same_encoding (fields_from false ls) (fields_from false ms) heads.0, grown_content (after_head ls) (after_head ms) heads.1)
 read_kept (suc n) d ls ms g =
     let heads = heads_grow_or false ls ms g in
-    subst (λ k. Keeps false (read (suc n) d ls) true (entity_by (read n) k (head_of ms) (behind_head ms))) (same_kind (suc n) d (fields_from false ls) (fields_from false ms) heads.0)
-    (entity_kept (read n) (kind_at (suc n) (head_of ls).fields d) (head_of ls) (head_of ms) (behind_head ls) (behind_head ms) (read_kept n) (same_encoding (fields_from false ls) (fields_from false ms) heads.0) heads.1)
+    subst (λ k. Keeps false (read (suc n) d ls) true (entity_by (read n) k (head_of ms) (after_head ms))) (same_kind (suc n) d (fields_from false ls) (fields_from false ms) heads.0)
+    (entity_kept (read n) (kind_at (suc n) (head_of ls).fields d) (head_of ls) (head_of ms) (after_head ls) (after_head ms) (read_kept n) (same_encoding (fields_from false ls) (fields_from false ms) heads.0) heads.1)

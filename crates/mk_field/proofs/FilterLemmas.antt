@@ -28,34 +28,34 @@ use Rattle.mk_field.specs.FilterViews.{is_round}
 use Rattle.mk_report.specs.Reports.{message_line_at}
 use Rattle.mk_field.specs.Filtering.{PlainFilter, filter_made, given_of, given_said, missing_report, report_of, said_alone, said_filtered, said_from, said_of, said_of_made, said_or}
 use Rattle.mk_transfer.specs.RunClauses.{Counts, Held, IsBlamed, IsSent, IsStopped, Reason, WriteFailed, cause_of_writing, held, status_of}
-use Rattle.mk_transfer.specs.Said.{Run, shown, Said, said_behind, silence}
+use Rattle.mk_transfer.specs.Said.{Run, shown, Said, said_after, silence}
 use Rattle.mk_transfer.proofs.GivenUp.{not_reading}
-use Rattle.mk_transfer.proofs.Fronts.{AppendsFront-behind, not-is_nil-append, AppendsFront-none, AppendsFront-whole}
+use Rattle.mk_transfer.proofs.Fronts.{AppendsFront-following, not-is_nil-append, AppendsFront-none, AppendsFront-whole}
 
 -- ---- what is said of messages, one after another
 
-behind_behind : (a b c : Said) → said_behind (said_behind a b) c ≡ said_behind a (said_behind b c)
-behind_behind a b c = λ i. record { output = append_assoc a.output b.output c.output i; errors = append_assoc a.errors b.errors c.errors i }
+after_following : (a b c : Said) → said_after (said_after a b) c ≡ said_after a (said_after b c)
+after_following a b c = λ i. record { output = append_assoc a.output b.output c.output i; errors = append_assoc a.errors b.errors c.errors i }
 
-behind_none : (a : Said) → said_behind a silence ≡ a
-behind_none a = λ i. record { output = append-nil a.output i; errors = append-nil a.errors i }
+after_none : (a : Said) → said_after a silence ≡ a
+after_none a = λ i. record { output = append-nil a.output i; errors = append-nil a.errors i }
 
-said_append : (f : PlainFilter) (number : ℕ) (ms ns : List (List ℕ)) → said_from true f number (ms ++ ns) ≡ said_behind (said_from true f number ms) (said_from true f (number + length ms) ns)
+said_append : (f : PlainFilter) (number : ℕ) (ms ns : List (List ℕ)) → said_from true f number (ms ++ ns) ≡ said_after (said_from true f number ms) (said_from true f (number + length ms) ns)
 said_append f number [] ns = ap (λ k. said_from true f k ns) (omega arith)
 said_append f number (m ∷ ms) ns =
-    ap (said_behind (said_of true f number m)) (said_append f (suc number) ms ns ∙ ap (λ k. said_behind (said_from true f (suc number) ms) (said_from true f k ns)) (omega arith))
-    ∙ sym (behind_behind (said_of true f number m) (said_from true f (suc number) ms) (said_from true f (number + length (m ∷ ms)) ns))
+    ap (said_after (said_of true f number m)) (said_append f (suc number) ms ns ∙ ap (λ k. said_after (said_from true f (suc number) ms) (said_from true f k ns)) (omega arith))
+    ∙ sym (after_following (said_of true f number m) (said_from true f (suc number) ms) (said_from true f (number + length (m ∷ ms)) ns))
 
 pub said_one : (each : Bool) (f : PlainFilter) (number : ℕ) (m : List ℕ) → said_from each f number (m ∷ []) ≡ said_of each f number m
-said_one each f number m = behind_none (said_of each f number m)
+said_one each f number m = after_none (said_of each f number m)
 
 -- one message more
-said_more : (f : PlainFilter) (turn : ℕ) (done : List (List ℕ)) (m : List ℕ) → turn ≡ length done → said_from true f 1 (done ++ m ∷ []) ≡ said_behind (said_from true f 1 done) (said_of true f (turn + 1) m)
+said_more : (f : PlainFilter) (turn : ℕ) (done : List (List ℕ)) (m : List ℕ) → turn ≡ length done → said_from true f 1 (done ++ m ∷ []) ≡ said_after (said_from true f 1 done) (said_of true f (turn + 1) m)
 said_more f turn done m t =
-    said_append f 1 done (m ∷ []) ∙ ap (said_behind (said_from true f 1 done)) (said_one true f (1 + length done) m ∙ ap (λ k. said_of true f k m) (omega (arith, t)))
+    said_append f 1 done (m ∷ []) ∙ ap (said_after (said_from true f 1 done)) (said_one true f (1 + length done) m ∙ ap (λ k. said_of true f k m) (omega (arith, t)))
 
 says_on : (a b : Said) (r s : Bool) (out out_mid out_after err err_mid err_after : Option (List ℕ)) → SaysAll a r out out_mid err err_mid → SaysAll b s out_mid out_after err_mid err_after
-    → SaysAll (said_behind a b) (r || s) out out_after err err_after
+    → SaysAll (said_after a b) (r || s) out out_after err err_after
 says_on a b r s out out_mid out_after err err_mid err_after x y = record {
   output = Appends-trans out out_mid out_after a.output b.output x.output y.output;
   errors = Appends-trans err err_mid err_after a.errors b.errors x.errors y.errors;
@@ -63,10 +63,10 @@ says_on a b r s out out_mid out_after err err_mid err_after x y = record {
 }
 
 some_on : (a b c all : Said) (r : Bool) (out out_mid out_after err err_mid err_after : Option (List ℕ)) → SaysAll a r out out_mid err err_mid → SaysSome b out_mid out_after err_mid err_after
-    → all ≡ said_behind a (said_behind b c) → SaysSome all out out_after err err_after
+    → all ≡ said_after a (said_after b c) → SaysSome all out out_after err err_after
 some_on a b c all r out out_mid out_after err err_mid err_after x y e = record {
-  output = AppendsFront-behind out out_mid out_after a.output b.output c.output all.output x.output y.output (ap (λ (s : Said). s.output) e);
-  errors = AppendsFront-behind err err_mid err_after a.errors b.errors c.errors all.errors x.errors y.errors (ap (λ (s : Said). s.errors) e);
+  output = AppendsFront-following out out_mid out_after a.output b.output c.output all.output x.output y.output (ap (λ (s : Said). s.output) e);
+  errors = AppendsFront-following err err_mid err_after a.errors b.errors c.errors all.errors x.errors y.errors (ap (λ (s : Said). s.errors) e);
 }
 
 none_said : (out err : Option (List ℕ)) → SaysSome silence out out err err
@@ -149,7 +149,7 @@ stopped_within f turn refused text read m done old now out out_mid out_after err
     let all : mailbox_pieces f.from_lines (text ++ read) ≡ done ++ (m ∷ rest) =
     ap (mailbox_pieces f.from_lines) (sym (append-nil (text ++ read))) ∙ (read_with f turn refused text read done old out out_mid err err_mid a r [] (λ _. refl) ∙ ap (λ xs. done ++ xs) (next_on f m read old now [] a.same p (λ _. refl))) in
     some_on (said_from true f 1 done) (said_of true f (turn + 1) m) (said_from true f (suc (1 + length done)) rest) (said_from true f 1 (mailbox_pieces f.from_lines (text ++ read))) refused out out_mid out_after err err_mid err_after a.says y
-    (ap (said_from true f 1) all ∙ (said_append f 1 done (m ∷ rest) ∙ ap (λ k. said_behind (said_from true f 1 done) (said_behind (said_of true f k m) (said_from true f (suc (1 + length done)) rest))) (omega (arith, a.count))))
+    (ap (said_from true f 1) all ∙ (said_append f 1 done (m ∷ rest) ∙ ap (λ k. said_after (said_from true f 1 done) (said_after (said_of true f k m) (said_from true f (suc (1 + length done)) rest))) (omega (arith, a.count))))
 
 -- all messages went out
 pub all_out : (f : PlainFilter) (turn : ℕ) (refused : Bool) (text read : List ℕ) (done : List (List ℕ)) (old now : Kept) (out out_after err err_after : Option (List ℕ))

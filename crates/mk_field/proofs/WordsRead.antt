@@ -18,7 +18,7 @@ use Rattle.mk_code.proofs.Spaced.{space_decoded, text_whole}
 use Rattle.mk_code.proofs.WordsKept.{words_kept}
 use Rattle.mk_script.specs.Paths.{parted}
 use Rattle.mk_script.proofs.PieceLemmas.{HoldsNo, parted-append}
-use Rattle.mk_field.specs.Filtering.{behind_colon, part_behind}
+use Rattle.mk_field.specs.Filtering.{after_colon, part_after}
 use Rattle.mk_mail.specs.Prepended.{is_one_line, is_plain}
 use Rattle.mk_wording.specs.Wording.{field_kind, field_or, is_structured, worded_by, worded_field, worded_field_of, worded_value}
 use Rattle.mk_wording.proofs.FieldLemmas.{text_written}
@@ -75,8 +75,8 @@ field name value = name ++ (codes ": " ++ value)
 field_parted : (name value : List ℕ) → list_all is_name_byte name ≡ true → parted 58 (field name value) ≡ Some (name, 32 ∷ value)
 field_parted name value h = parted-append 58 name (32 ∷ value) (no_colon name h)
 
-value_behind : (name value : List ℕ) → list_all is_name_byte name ≡ true → behind_colon (field name value) ≡ 32 ∷ value
-value_behind name value h = ap part_behind (field_parted name value h)
+value_after : (name value : List ℕ) → list_all is_name_byte name ≡ true → after_colon (field name value) ≡ 32 ∷ value
+value_after name value h = ap part_after (field_parted name value h)
 
 -- the field that is made of a name and a text
 field_worded : (eol : Ending) (name text : List ℕ) → list_all is_name_byte name ≡ true → stripped text ≡ text
@@ -87,32 +87,32 @@ field_worded eol name text h s =
 
 -- what is read where the text stays, and where it goes in as encoded words
 plain_read : (name text : List ℕ) → list_all is_name_byte name ≡ true → is_plain text ≡ true → IsUtf8 text → is_one_line text ≡ true → stripped text ≡ text
-    → decoded_value (behind_colon (field name text)) ≡ text
+    → decoded_value (after_colon (field name text)) ≡ text
 plain_read name text h p u l s =
     let both = and_parts (list_all is_shown text) (not (has_pair 61 63 text)) p in
-    ap decoded_value (value_behind name text h)
+    ap decoded_value (value_after name text h)
     ∙ spaced_value text text (words_kept text both.0 (not-true (has_pair 61 63 text) both.1)) u l s
 
 words_read : (eol : Ending) (name text : List ℕ) → list_all is_name_byte name ≡ true → IsUtf8 text → IsBytes text → is_one_line text ≡ true → stripped text ≡ text
-    → decoded_value (behind_colon (field name (words_encoded eol text))) ≡ text
+    → decoded_value (after_colon (field name (words_encoded eol text))) ≡ text
 words_read eol name text h u b l s =
-    ap decoded_value (value_behind name (words_encoded eol text) h)
+    ap decoded_value (value_after name (words_encoded eol text) h)
     ∙ spaced_value (words_encoded eol text) text (words_back eol text b) u l s
 
 -- what is read of a field whose text needs encoded words or not
 abbrev pub made_by : Ending → List ℕ → List ℕ → Bool → List ℕ
-made_by eol name text needs = decoded_value (behind_colon (if needs then field_or (field name text) name (worded_value (field_kind name) eol text) else field name text))
+made_by eol name text needs = decoded_value (after_colon (if needs then field_or (field name text) name (worded_value (field_kind name) eol text) else field name text))
 
 -- what is read of the field that is made of a name and a text
 parts_read : (eol : Ending) (name text : List ℕ) (stays : Bool) → is_plain text ≡ stays → list_all is_name_byte name ≡ true → is_structured name ≡ false → IsUtf8 text → IsBytes text → is_one_line text ≡ true
-    → stripped text ≡ text → decoded_value (behind_colon (worded_field_of eol (field name text) name text)) ≡ text
+    → stripped text ≡ text → decoded_value (after_colon (worded_field_of eol (field name text) name text)) ≡ text
 parts_read eol name text true e h a u b l s = ap (made_by eol name text) (plain_stays text u e) ∙ plain_read name text h e u l s
 parts_read eol name text false e h a u b l s =
     ap (made_by eol name text) (needed text u e)
-    ∙ (ap (λ o. decoded_value (behind_colon (field_or (field name text) name o))) (text_written eol name text a) ∙ words_read eol name text h u b l s)
+    ∙ (ap (λ o. decoded_value (after_colon (field_or (field name text) name o))) (text_written eol name text a) ∙ words_read eol name text h u b l s)
 
 pub worded_read : WordedFieldsAreRead
 worded_read eol name text n a u b l s =
     let h = (and_parts (not (is_nil name)) (list_all is_name_byte name) n).1 in
-    ap (λ made. decoded_value (behind_colon made)) (field_worded eol name text h s)
+    ap (λ made. decoded_value (after_colon made)) (field_worded eol name text h s)
     ∙ parts_read eol name text (is_plain text) refl h a u b l s

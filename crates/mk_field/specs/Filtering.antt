@@ -15,7 +15,7 @@ use Rattle.mk_report.specs.Reports.{message_line_at}
 use Rattle.mk_field.specs.declared.filters.ValueForm.{ValueForm}
 use Rattle.mk_field.specs.declared.filters.ValueForm.TheVariants.{AsWritten}
 use Rattle.mk_field.specs.Wording.{printed_value}
-use Rattle.mk_transfer.specs.Said.{Run, shown, Said, said_behind, silence}
+use Rattle.mk_transfer.specs.Said.{Run, shown, Said, said_after, silence}
 
 -- what a filter is asked for: rounds of letters, how values are printed, which From-lines begin the messages of a mailbox, and at
 -- which section of a message the letters work
@@ -38,17 +38,17 @@ abbrev pub fields_named : List ℕ → List ℕ → List ℕ → List FieldText
 fields_named path name text = filter (is_named name) (fields_at path text)
 
 -- what follows a separator, where there is one
-abbrev pub part_behind : Option (List ℕ × List ℕ) → List ℕ
-part_behind None = []
-part_behind (Some p) = p.1
+abbrev pub part_after : Option (List ℕ × List ℕ) → List ℕ
+part_after None = []
+part_after (Some p) = p.1
 
 -- what follows the colon of a field, all its lines and endings as they stand
-abbrev pub behind_colon : List ℕ → List ℕ
-behind_colon raw = part_behind (parted colon raw)
+abbrev pub after_colon : List ℕ → List ℕ
+after_colon raw = part_after (parted colon raw)
 
 -- the values of the fields of a name, one after another (`-x`)
 abbrev pub values_named : List ℕ → ValueForm → List ℕ → List ℕ → List ℕ
-values_named path form name text = flat_map (λ f. printed_value form (behind_colon f.raw)) (fields_named path name text)
+values_named path form name text = flat_map (λ f. printed_value form (after_colon f.raw)) (fields_named path name text)
 
 -- the fields of a name, one after another (`-X`)
 abbrev pub wholes_named : List ℕ → List ℕ → List ℕ → List ℕ
@@ -115,7 +115,7 @@ said_of each f number text = if is_left_alone f.from_lines text then said_alone 
 -- what is said of messages in turn, where the first has this number
 abbrev pub said_from : Bool → PlainFilter → ℕ → List (List ℕ) → Said
 said_from each f number [] = silence
-said_from each f number (m ∷ ms) = said_behind (said_of each f number m) (said_from each f (suc number) ms)
+said_from each f number (m ∷ ms) = said_after (said_of each f number m) (said_from each f (suc number) ms)
 
 -- the messages that are filtered: those of a mailbox, each by itself, or all as one
 abbrev pub messages_of : FromLines → Bool → List ℕ → List (List ℕ)

@@ -3,7 +3,7 @@
 ghost use Rattle.std.specs.Prelude.{◌≡◌, map, IfOk};
 ghost use Rattle.mk_mail.specs.LetterViews.{bytes_in, letters_of};
 ghost use Rattle.mk_field.specs.FilterViews.{round_of};
-ghost use Rattle.mk_field.specs.Filtering.{behind_colon as is_behind_colon, given_by, given_of, values_named, wholes_named};
+ghost use Rattle.mk_field.specs.Filtering.{after_colon as is_after_colon, given_by, given_of, values_named, wholes_named};
 
 use crate::filters::{FieldFilter, ValueForm};
 use crate::wording::push_value;
@@ -67,7 +67,7 @@ fn values(
     let mut text = Vec::new(alloc);
     for field in each_field(head_at(doc, path)) {
         if field.is_named(name) {
-            push_value(alloc, &mut text, behind_colon(field.raw), form)?;
+            push_value(alloc, &mut text, after_colon(field.raw), form)?;
         }
     }
     Ok(text)
@@ -87,11 +87,11 @@ fn wholes(alloc: Global, doc: &Doc, path: &[u32], name: &[u8]) -> Result<Vec<u8>
 }
 
 // What follows the colon of a field.
-fn behind_colon(field: &[u8]) -> &[u8]
-    ensures { result.now ≡ is_behind_colon field.now }
+fn after_colon(field: &[u8]) -> &[u8]
+    ensures { result.now ≡ is_after_colon field.now }
 {
     match parted(field, COLON) {
-        Some((_, behind)) => behind,
+        Some((_, following)) => following,
         None => b"",
     }
 }

@@ -156,7 +156,7 @@ fn before_colon(word: &[u8]) -> Option<&[u8]>
     ensures { option_map (λ name. name.now) result ≡ name_in_word word.now }
 {
     match parted(word, COLON) {
-        Some((name, behind)) if behind.is_empty() => Some(name),
+        Some((name, following)) if following.is_empty() => Some(name),
         _ => None,
     }
 }
@@ -245,9 +245,9 @@ fn prepend(alloc: Global, word: Option<&str>) -> Result<Option<Prepend>, AllocEr
         return Ok(None);
     };
     match parted(word.as_bytes(), COLON) {
-        Some((name, behind)) => {
+        Some((name, following)) => {
             let name = Vec::from_slice(alloc, name)?;
-            let text = Vec::from_slice(alloc, &behind[leading_blanks(behind)..])?;
+            let text = Vec::from_slice(alloc, &following[leading_blanks(following)..])?;
             Ok(Some(Prepend { name, text }))
         }
         None => Ok(None),

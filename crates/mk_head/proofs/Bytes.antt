@@ -5,7 +5,7 @@ use Rattle.std.specs.List.{list_all}
 use Rattle.std.specs.Str.{bytes_eq}
 use Rattle.mk_line.specs.Ascii.{is_blank, semicolon, quote, backslash, equals_sign, slash}
 use Rattle.mk_line.specs.Marks.{trimmed, trimmed_before}
-use Rattle.mk_line.specs.Parting.{before, behind}
+use Rattle.mk_line.specs.Parting.{before, following}
 use Rattle.mk_head.specs.Values.{Scan, Plain, scan, is_kept, is_plain, uncommented, pieces, push_first, unled, stripped, unquoted, parameter_value, parameter_before, parameters, typed_as, type_of_pieces, content_type_of, param_of, is_token}
 use Rattle.mk_head.specs.Types.{trimmed_boundary}
 use Rattle.mk_head.specs.Laws.{ParametersAreBytes, BoundariesAreTrimmed}
@@ -53,13 +53,13 @@ some_same a b e = cc
 none_some : (a : List ℕ) → ◌≡◌ {A = Option (List ℕ)} None (Some a) → ⊥
 none_some a e = cc
 
-behind_all : (t : ℕ → Bool) (mark : ℕ) (xs ys : List ℕ) → Passes t xs → behind mark xs ≡ Some ys → Passes t ys
-behind_all t mark [] ys h e = absurd (none_some ys e)
-behind_all t mark (x ∷ xs) ys h e =
+after_all : (t : ℕ → Bool) (mark : ℕ) (xs ys : List ℕ) → Passes t xs → following mark xs ≡ Some ys → Passes t ys
+after_all t mark [] ys h e = absurd (none_some ys e)
+after_all t mark (x ∷ xs) ys h e =
     let p = both (t x) (list_all t xs) h in
     elim (cases_Bool (x == mark)) [
       | inl k ↦ subst (Passes t) (some_same xs ys (rw k at e)) p.1
-      | inr k ↦ behind_all t mark xs ys p.1 (rw k at e)
+      | inr k ↦ after_all t mark xs ys p.1 (rw k at e)
     ]
 
 unled_all : (t : ℕ → Bool) (xs : List ℕ) → Passes t xs → Passes t (unled xs)
@@ -110,13 +110,13 @@ abbrev ValuesPass : (ℕ → Bool) → List (List ℕ × List ℕ) → Type 0
 ValuesPass t [] = Unit {0}
 ValuesPass t (p ∷ ps) = Passes t p.1 × ValuesPass t ps
 
-parameter_all : (t : ℕ → Bool) (name piece : List ℕ) (o : Option (List ℕ)) (ps : List (List ℕ × List ℕ)) → behind equals_sign piece ≡ o → Passes t piece → ValuesPass t ps → ValuesPass t (parameter_before name o ps)
+parameter_all : (t : ℕ → Bool) (name piece : List ℕ) (o : Option (List ℕ)) (ps : List (List ℕ × List ℕ)) → following equals_sign piece ≡ o → Passes t piece → ValuesPass t ps → ValuesPass t (parameter_before name o ps)
 parameter_all t name piece None ps e h k = k
-parameter_all t name piece (Some value) ps e h k = (value_all t (stripped value) (trimmed_all t (unled value) (unled_all t value (behind_all t equals_sign piece value h e))), k)
+parameter_all t name piece (Some value) ps e h k = (value_all t (stripped value) (trimmed_all t (unled value) (unled_all t value (after_all t equals_sign piece value h e))), k)
 
 parameters_all : (t : ℕ → Bool) (ps : List (List ℕ)) → AllPass t ps → ValuesPass t (parameters ps)
 parameters_all t [] h = tt
-parameters_all t (p ∷ ps) h = parameter_all t (before equals_sign p) p (behind equals_sign p) (parameters ps) refl h.0 (parameters_all t ps h.1)
+parameters_all t (p ∷ ps) h = parameter_all t (before equals_sign p) p (following equals_sign p) (parameters ps) refl h.0 (parameters_all t ps h.1)
 
 typed_params : (main : List ℕ) (o : Option (List ℕ)) (ps : List (List ℕ × List ℕ)) → (typed_as main o ps).params ≡ ps
 typed_params main None ps = refl
@@ -128,7 +128,7 @@ typed_params main (Some sub) ps =
 
 type_all : (t : ℕ → Bool) (ps : List (List ℕ)) → AllPass t ps → ValuesPass t (type_of_pieces ps).params
 type_all t [] h = tt
-type_all t (p ∷ ps) h = subst (ValuesPass t) (sym (typed_params (before slash (stripped p)) (behind slash (stripped p)) (parameters ps))) (parameters_all t ps h.1)
+type_all t (p ∷ ps) h = subst (ValuesPass t) (sym (typed_params (before slash (stripped p)) (following slash (stripped p)) (parameters ps))) (parameters_all t ps h.1)
 
 param_all : (t : ℕ → Bool) (name bytes : List ℕ) (ps : List (List ℕ × List ℕ)) → ValuesPass t ps → param_of name ps ≡ Some bytes → Passes t bytes
 param_all t name bytes [] h e = absurd (none_some bytes e)

@@ -9,13 +9,13 @@ use Rattle.std.proofs.lemmas.List.{take_at, length-take-le}
 use Rattle.mk_line.proofs.Cuts.{text_append, text_apart, cut_rest, append_nil, length_cut}
 use Rattle.mk_head.specs.Split.{is_start, is_more, belongs, fields_from, rest_from}
 use Rattle.mk_head.specs.Fields.{continuations, name_of, field_text, fields_of, counted}
-pub use Rattle.mk_head.specs.Fields.{behind_more}
+pub use Rattle.mk_head.specs.Fields.{after_more}
 
-pub more_behind : (ls : List TextLine) → continuations ls ++ behind_more ls ≡ ls
-more_behind [] = refl
-more_behind (l ∷ ls) =
+pub more_after : (ls : List TextLine) → continuations ls ++ after_more ls ≡ ls
+more_after [] = refl
+more_after (l ∷ ls) =
     elim (cases_Bool (is_more l)) [
-      | inl h ↦ rw h (ap (λ xs. l ∷ xs) (more_behind ls))
+      | inl h ↦ rw h (ap (λ xs. l ∷ xs) (more_after ls))
       | inr h ↦ rw h refl
     ]
 
@@ -40,7 +40,7 @@ or_true true = refl
 or_true false = refl
 
 -- inside a field, the fields are its continuations and the fields after them
-pub fields_inside : (ls : List TextLine) → fields_from true ls ≡ continuations ls ++ fields_from false (behind_more ls)
+pub fields_inside : (ls : List TextLine) → fields_from true ls ≡ continuations ls ++ fields_from false (after_more ls)
 fields_inside [] = refl
 fields_inside (l ∷ ls) =
     elim (cases_Bool (is_more l)) [
@@ -48,7 +48,7 @@ fields_inside (l ∷ ls) =
       | inr h ↦ rw h refl
     ]
 
-pub rest_inside : (ls : List TextLine) → rest_from true ls ≡ rest_from false (behind_more ls)
+pub rest_inside : (ls : List TextLine) → rest_from true ls ≡ rest_from false (after_more ls)
 rest_inside [] = refl
 rest_inside (l ∷ ls) =
     elim (cases_Bool (is_more l)) [
@@ -81,18 +81,18 @@ text_first : (l : TextLine) (ls : List TextLine) → is_start l ≡ true → fie
 text_first l ls h = rw h refl
 
 -- the field at the start, and the fields after it
-pub first_fields : (l : TextLine) (ls : List TextLine) → is_start l ≡ true → fields_from false (l ∷ ls) ≡ l ∷ (continuations ls ++ fields_from false (behind_more ls))
+pub first_fields : (l : TextLine) (ls : List TextLine) → is_start l ≡ true → fields_from false (l ∷ ls) ≡ l ∷ (continuations ls ++ fields_from false (after_more ls))
 first_fields l ls h = rw h (ap (λ xs. l ∷ xs) (fields_inside ls))
 
-pub first_rest : (l : TextLine) (ls : List TextLine) → is_start l ≡ true → rest_from false (l ∷ ls) ≡ rest_from false (behind_more ls)
+pub first_rest : (l : TextLine) (ls : List TextLine) → is_start l ≡ true → rest_from false (l ∷ ls) ≡ rest_from false (after_more ls)
 first_rest l ls h = rw h (rest_inside ls)
 
-pub first_text : (l : TextLine) (ls : List TextLine) → is_start l ≡ true → fields_of (fields_from false (l ∷ ls)) ≡ field_text l (continuations ls) ∷ fields_of (fields_from false (behind_more ls))
+pub first_text : (l : TextLine) (ls : List TextLine) → is_start l ≡ true → fields_of (fields_from false (l ∷ ls)) ≡ field_text l (continuations ls) ∷ fields_of (fields_from false (after_more ls))
 first_text l ls h =
     ap fields_of (first_fields l ls h)
-    ∙ (text_first l (continuations ls ++ fields_from false (behind_more ls)) h
-    ∙ (ap (λ xs. field_text l xs ∷ fields_of (continuations ls ++ fields_from false (behind_more ls))) (ap continuations (sym (fields_inside ls)) ∙ continuations_inside ls)
-    ∙ ap (λ xs. field_text l (continuations ls) ∷ xs) (fields_more ls (fields_from false (behind_more ls)))))
+    ∙ (text_first l (continuations ls ++ fields_from false (after_more ls)) h
+    ∙ (ap (λ xs. field_text l xs ∷ fields_of (continuations ls ++ fields_from false (after_more ls))) (ap continuations (sym (fields_inside ls)) ∙ continuations_inside ls)
+    ∙ ap (λ xs. field_text l (continuations ls) ∷ xs) (fields_more ls (fields_from false (after_more ls)))))
 
 first_none : (l : TextLine) (ls : List TextLine) → is_start l ≡ false → fields_from false (l ∷ ls) ≡ []
 first_none l ls h = rw h refl
@@ -100,10 +100,10 @@ first_none l ls h = rw h refl
 -- what a text shows of the field at the start, n bytes long
 pub record FieldInFront (text : List ℕ) (l : TextLine) (ls : List TextLine) (n : ℕ) : Type 0 where
   pub first : length (printed_line l) ≤ length text
-  pub behind : cut (drop (length (printed_line l)) text) ≡ ls
+  pub following : cut (drop (length (printed_line l)) text) ≡ ls
   pub within : n ≤ length text
   pub raw : take n text ≡ text_of (l ∷ continuations ls)
-  pub rest : cut (drop n text) ≡ behind_more ls
+  pub rest : cut (drop n text) ≡ after_more ls
 
 sized : (text : List ℕ) (xs ys : List TextLine) → cut text ≡ xs ++ ys → length (text_of xs) ≤ length text
 sized text xs ys e = let h : length text ≡ length (text_of xs ++ text_of ys) = ap length (text_apart text xs ys e) in omega (arith, h, length-append (text_of xs) (text_of ys))
@@ -116,13 +116,13 @@ one_line l = ap length (append_nil (printed_line l))
 
 pub field_in_front : (text : List ℕ) (l : TextLine) (ls : List TextLine) (n : ℕ) → cut text ≡ l ∷ ls → n ≡ length (text_of (l ∷ continuations ls)) → FieldInFront text l ls n
 field_in_front text l ls n e p =
-    let q : cut text ≡ (l ∷ continuations ls) ++ behind_more ls = e ∙ ap (λ xs. l ∷ xs) (sym (more_behind ls)) in
+    let q : cut text ≡ (l ∷ continuations ls) ++ after_more ls = e ∙ ap (λ xs. l ∷ xs) (sym (more_after ls)) in
     record {
       first = let h = sized text (l ∷ []) ls e in omega (arith, h, one_line l);
-      behind = ap (λ k. cut (drop k text)) (sym (one_line l)) ∙ cut_rest text (l ∷ []) ls e;
-      within = let h = sized text (l ∷ continuations ls) (behind_more ls) q in omega (arith, h, p);
-      raw = ap (λ k. take k text) p ∙ taken text (l ∷ continuations ls) (behind_more ls) q;
-      rest = ap (λ k. cut (drop k text)) p ∙ cut_rest text (l ∷ continuations ls) (behind_more ls) q;
+      following = ap (λ k. cut (drop k text)) (sym (one_line l)) ∙ cut_rest text (l ∷ []) ls e;
+      within = let h = sized text (l ∷ continuations ls) (after_more ls) q in omega (arith, h, p);
+      raw = ap (λ k. take k text) p ∙ taken text (l ∷ continuations ls) (after_more ls) q;
+      rest = ap (λ k. cut (drop k text)) p ∙ cut_rest text (l ∷ continuations ls) (after_more ls) q;
     }
 
 some_same : (a b : ℕ) → ◌≡◌ {A = Option ℕ} (Some a) (Some b) → b ≡ a
@@ -140,9 +140,9 @@ started cs n e =
     ]
 
 -- the same of a size that was added up
-pub added_size : (text : List ℕ) (l : TextLine) (ls : List TextLine) (first more : ℕ) (behind : List ℕ) → cut text ≡ l ∷ ls → first ≡ length (printed_line l) → behind ≡ drop first text → more ≡ length (text_of (continuations (cut behind))) → FieldInFront text l ls (first + more)
-added_size text l ls first more behind e f b m =
-    let same : cut behind ≡ ls = ap cut b ∙ (ap (λ k. cut (drop k text)) f ∙ (field_in_front text l ls (length (text_of (l ∷ continuations ls))) e refl).behind) in
+pub added_size : (text : List ℕ) (l : TextLine) (ls : List TextLine) (first more : ℕ) (following : List ℕ) → cut text ≡ l ∷ ls → first ≡ length (printed_line l) → following ≡ drop first text → more ≡ length (text_of (continuations (cut following))) → FieldInFront text l ls (first + more)
+added_size text l ls first more following e f b m =
+    let same : cut following ≡ ls = ap cut b ∙ (ap (λ k. cut (drop k text)) f ∙ (field_in_front text l ls (length (text_of (l ∷ continuations ls))) e refl).following) in
     let size : more ≡ length (text_of (continuations ls)) = m ∙ ap (λ xs. length (text_of (continuations xs))) same in
     field_in_front text l ls (first + more) e (omega (arith, f, size, length-append (printed_line l) (text_of (continuations ls))))
 
@@ -165,8 +165,8 @@ pub front_size : (text : List ℕ) (l : TextLine) (ls : List TextLine) (n : ℕ)
     → length (text_of (fields_from false (cut text))) + length rest ≡ length text + length (text_of (fields_from false (cut rest)))
 front_size text l ls n rest e s h q =
     let all : text_of (fields_from false (cut text)) ≡ take n text ++ text_of (fields_from false (cut rest)) =
-    ap (λ xs. text_of (fields_from false xs)) e ∙ (ap text_of (first_fields l ls s) ∙ (text_append (l ∷ continuations ls) (fields_from false (behind_more ls))
-    ∙ (ap (λ xs. xs ++ text_of (fields_from false (behind_more ls))) (sym h.raw) ∙ ap (λ xs. take n text ++ text_of (fields_from false xs)) (sym (ap cut q ∙ h.rest))))) in
+    ap (λ xs. text_of (fields_from false xs)) e ∙ (ap text_of (first_fields l ls s) ∙ (text_append (l ∷ continuations ls) (fields_from false (after_more ls))
+    ∙ (ap (λ xs. xs ++ text_of (fields_from false (after_more ls))) (sym h.raw) ∙ ap (λ xs. take n text ++ text_of (fields_from false xs)) (sym (ap cut q ∙ h.rest))))) in
     let size : length (text_of (fields_from false (cut text))) ≡ length (take n text ++ text_of (fields_from false (cut rest))) = ap length all in
     let left : length rest ≡ length (drop n text) = ap length q in
     omega (arith, size, left, length-append (take n text) (text_of (fields_from false (cut rest))), length-take-le n text h.within, length-drop n text, h.within)

@@ -14,9 +14,9 @@ use Rattle.mk_line.specs.declared.cutting.Ending.{Ending}
 use Rattle.mk_line.specs.declared.cutting.Ending.TheVariants.{Crlf, Lf, Missing}
 use Rattle.mk_line.proofs.Cuts.{cut_other}
 use Rattle.mk_line.specs.Marks.{trimmed}
-use Rattle.mk_line.specs.Parting.{before, behind, behind as stands_behind}
+use Rattle.mk_line.specs.Parting.{before, following, following as stands_after}
 use Rattle.mk_head.specs.Values.{Scan, Plain, scan, is_plain, pieces, push_first, unled, stripped, parameters, parameter_before, typed_as, type_of_pieces}
-use Rattle.mk_head.specs.Depths.{first_piece, other_pieces, pieces_behind}
+use Rattle.mk_head.specs.Depths.{first_piece, other_pieces, pieces_after}
 use Rattle.mk_head.specs.Unfolding.{contents, or_nothing, value_in}
 use Rattle.mk_head.specs.Boundaries.{ends_in_space}
 
@@ -56,7 +56,7 @@ last_space [] = refl
 last_space (b ∷ bytes) = last_at b bytes (length (b ∷ bytes) - 1) (omega arith)
 
 -- after the colon of a field's lines
-with_contents : (b : ℕ) (content : List ℕ) (e : Ending) (ls : List TextLine) → (b == 58) ≡ false → behind 58 (contents (with_byte b (text_line content e) ∷ ls)) ≡ behind 58 (contents (text_line content e ∷ ls))
+with_contents : (b : ℕ) (content : List ℕ) (e : Ending) (ls : List TextLine) → (b == 58) ≡ false → following 58 (contents (with_byte b (text_line content e) ∷ ls)) ≡ following 58 (contents (text_line content e ∷ ls))
 with_contents b content Crlf ls h = rw h refl
 with_contents b [] Lf ls h =
     elim (cases_Bool (b == 13)) [
@@ -66,39 +66,39 @@ with_contents b [] Lf ls h =
 with_contents b (c ∷ content) Lf ls h = rw h refl
 with_contents b content Missing ls h = rw h refl
 
-onto_contents : (b : ℕ) (ls : List TextLine) → (b == 58) ≡ false → behind 58 (contents (onto_first b ls)) ≡ behind 58 (contents ls)
+onto_contents : (b : ℕ) (ls : List TextLine) → (b == 58) ≡ false → following 58 (contents (onto_first b ls)) ≡ following 58 (contents ls)
 onto_contents b [] h = rw h refl
 onto_contents b (l ∷ ls) h = with_contents b l.content l.ending ls h
 
-colon_line : (content : List ℕ) (e : Ending) (ls : List TextLine) → behind 58 (contents (with_byte 58 (text_line content e) ∷ ls)) ≡ Some (contents (text_line content e ∷ ls))
+colon_line : (content : List ℕ) (e : Ending) (ls : List TextLine) → following 58 (contents (with_byte 58 (text_line content e) ∷ ls)) ≡ Some (contents (text_line content e ∷ ls))
 colon_line content Crlf ls = refl
 colon_line [] Lf ls = refl
 colon_line (c ∷ content) Lf ls = refl
 colon_line content Missing ls = refl
 
-colon_contents : (ls : List TextLine) → behind 58 (contents (onto_first 58 ls)) ≡ Some (contents ls)
+colon_contents : (ls : List TextLine) → following 58 (contents (onto_first 58 ls)) ≡ Some (contents ls)
 colon_contents [] = refl
 colon_contents (l ∷ ls) = colon_line l.content l.ending ls
 
-pub behind_contents : (text : List ℕ) → behind 58 (contents (cut text)) ≡ option_map (λ rest. contents (cut rest)) (behind 58 text)
-behind_contents [] = refl
-behind_contents (b ∷ text) =
+pub after_contents : (text : List ℕ) → following 58 (contents (cut text)) ≡ option_map (λ rest. contents (cut rest)) (following 58 text)
+after_contents [] = refl
+after_contents (b ∷ text) =
     elim (eqb_tells b 58) [
       | inl h ↦ rw h.1 (colon_contents (cut text))
       | inr h ↦
           elim (cases_Bool (b == 10)) [
-            | inl f ↦ rw (f, h.0) (behind_contents text)
-            | inr f ↦ rw (cut_other b text f, h.0) (onto_contents b (cut text) h.0 ∙ behind_contents text)
+            | inl f ↦ rw (f, h.0) (after_contents text)
+            | inr f ↦ rw (cut_other b text f, h.0) (onto_contents b (cut text) h.0 ∙ after_contents text)
           ]
     ]
 
-pub value_some : (raw rest : List ℕ) → behind 58 raw ≡ Some rest → contents (cut rest) ≡ value_in (cut raw)
-value_some raw rest e = sym (ap or_nothing (behind_contents raw ∙ ap (option_map (λ r. contents (cut r))) e))
+pub value_some : (raw rest : List ℕ) → following 58 raw ≡ Some rest → contents (cut rest) ≡ value_in (cut raw)
+value_some raw rest e = sym (ap or_nothing (after_contents raw ∙ ap (option_map (λ r. contents (cut r))) e))
 
-pub unfolded_none : (raw : List ℕ) → behind 58 raw ≡ None → [] ≡ value_in (cut raw)
-unfolded_none raw e = sym (ap or_nothing (behind_contents raw ∙ ap (option_map (λ r. contents (cut r))) e))
+pub unfolded_none : (raw : List ℕ) → following 58 raw ≡ None → [] ≡ value_in (cut raw)
+unfolded_none raw e = sym (ap or_nothing (after_contents raw ∙ ap (option_map (λ r. contents (cut r))) e))
 
-pub unfolded_some : {V : Type 0} (raw rest : List ℕ) (r : Result (Vec ℕ) V) → behind 58 raw ≡ Some rest → IfOk r (λ v. v.items ≡ contents (cut rest)) → IfOk r (λ v. v.items ≡ value_in (cut raw))
+pub unfolded_some : {V : Type 0} (raw rest : List ℕ) (r : Result (Vec ℕ) V) → following 58 raw ≡ Some rest → IfOk r (λ v. v.items ≡ contents (cut rest)) → IfOk r (λ v. v.items ≡ value_in (cut raw))
 unfolded_some raw rest r e h = IfOk-weaker r (λ v. v.items ≡ contents (cut rest)) (λ v. v.items ≡ value_in (cut raw)) (λ v p. p ∙ value_some raw rest e) h
 
 -- a list with no element, and one with some
@@ -107,30 +107,30 @@ some_token [] h = cc
 some_token (b ∷ text) h = refl
 
 -- the pieces after a semicolon
-pub behind_parts : (rest behind others : List ℕ) (end : ℕ) (b : ℕ) → rest ≡ b ∷ behind → other_pieces Plain behind ≡ pieces_behind (drop end behind) → others ≡ drop end behind → pieces_behind rest ≡ first_piece Plain behind ∷ pieces_behind others
-behind_parts rest behind others end b e o q = ap pieces_behind e ∙ (pieces_parts Plain behind ∙ ap (λ ps. first_piece Plain behind ∷ ps) (o ∙ ap pieces_behind (sym q)))
+pub after_parts : (rest following others : List ℕ) (end : ℕ) (b : ℕ) → rest ≡ b ∷ following → other_pieces Plain following ≡ pieces_after (drop end following) → others ≡ drop end following → pieces_after rest ≡ first_piece Plain following ∷ pieces_after others
+after_parts rest following others end b e o q = ap pieces_after e ∙ (pieces_parts Plain following ∙ ap (λ ps. first_piece Plain following ∷ ps) (o ∙ ap pieces_after (sym q)))
 
 parameter_append : (name : List ℕ) (value : Option (List ℕ)) (others : List (List ℕ × List ℕ)) → parameter_before name value others ≡ parameter_before name value [] ++ others
 parameter_append name None others = refl
 parameter_append name (Some value) others = refl
 
 -- one parameter more
-pub parameters_next : (params more all : List (List ℕ × List ℕ)) (rest behind others piece : List ℕ) (end b : ℕ) → rest ≡ b ∷ behind → other_pieces Plain behind ≡ pieces_behind (drop end behind) → others ≡ drop end behind
-    → first_piece Plain behind ≡ take end behind → piece ≡ take end behind → more ≡ params ++ parameter_before (before equals_sign piece) (stands_behind equals_sign piece) []
-    → params ++ parameters (pieces_behind rest) ≡ all → more ++ parameters (pieces_behind others) ≡ all
-parameters_next params more all rest behind others piece end b e o q f p m t =
-    let named : piece ≡ first_piece Plain behind = p ∙ sym f in
-    ap (λ xs. xs ++ parameters (pieces_behind others)) m
-    ∙ (append_assoc params (parameter_before (before equals_sign piece) (stands_behind equals_sign piece) []) (parameters (pieces_behind others))
-    ∙ (ap (λ xs. params ++ xs) (sym (parameter_append (before equals_sign piece) (stands_behind equals_sign piece) (parameters (pieces_behind others))))
-    ∙ (ap (λ x. params ++ parameter_before (before equals_sign x) (stands_behind equals_sign x) (parameters (pieces_behind others))) named
-    ∙ (ap (λ ps. params ++ parameters ps) (sym (behind_parts rest behind others end b e o q)) ∙ t))))
+pub parameters_next : (params more all : List (List ℕ × List ℕ)) (rest following others piece : List ℕ) (end b : ℕ) → rest ≡ b ∷ following → other_pieces Plain following ≡ pieces_after (drop end following) → others ≡ drop end following
+    → first_piece Plain following ≡ take end following → piece ≡ take end following → more ≡ params ++ parameter_before (before equals_sign piece) (stands_after equals_sign piece) []
+    → params ++ parameters (pieces_after rest) ≡ all → more ++ parameters (pieces_after others) ≡ all
+parameters_next params more all rest following others piece end b e o q f p m t =
+    let named : piece ≡ first_piece Plain following = p ∙ sym f in
+    ap (λ xs. xs ++ parameters (pieces_after others)) m
+    ∙ (append_assoc params (parameter_before (before equals_sign piece) (stands_after equals_sign piece) []) (parameters (pieces_after others))
+    ∙ (ap (λ xs. params ++ xs) (sym (parameter_append (before equals_sign piece) (stands_after equals_sign piece) (parameters (pieces_after others))))
+    ∙ (ap (λ x. params ++ parameter_before (before equals_sign x) (stands_after equals_sign x) (parameters (pieces_after others))) named
+    ∙ (ap (λ ps. params ++ parameters ps) (sym (after_parts rest following others end b e o q)) ∙ t))))
 
 -- the content type of its pieces
-pub typed_parts : (text first others : List ℕ) (end : ℕ) → first_piece Plain text ≡ take end text → other_pieces Plain text ≡ pieces_behind (drop end text) → first ≡ take end text → others ≡ drop end text
-    → typed_as (before slash (stripped first)) (stands_behind slash (stripped first)) (parameters (pieces_behind others)) ≡ type_of_pieces (pieces Plain text)
+pub typed_parts : (text first others : List ℕ) (end : ℕ) → first_piece Plain text ≡ take end text → other_pieces Plain text ≡ pieces_after (drop end text) → first ≡ take end text → others ≡ drop end text
+    → typed_as (before slash (stripped first)) (stands_after slash (stripped first)) (parameters (pieces_after others)) ≡ type_of_pieces (pieces Plain text)
 typed_parts text first others end f o p q =
     let named : first ≡ first_piece Plain text = p ∙ sym f in
-    ap (λ x. typed_as (before slash (stripped x)) (stands_behind slash (stripped x)) (parameters (pieces_behind others))) named
-    ∙ (ap (λ ps. typed_as (before slash (stripped (first_piece Plain text))) (stands_behind slash (stripped (first_piece Plain text))) (parameters ps)) (ap pieces_behind q ∙ sym o)
+    ap (λ x. typed_as (before slash (stripped x)) (stands_after slash (stripped x)) (parameters (pieces_after others))) named
+    ∙ (ap (λ ps. typed_as (before slash (stripped (first_piece Plain text))) (stands_after slash (stripped (first_piece Plain text))) (parameters ps)) (ap pieces_after q ∙ sym o)
     ∙ ap type_of_pieces (sym (pieces_parts Plain text)))

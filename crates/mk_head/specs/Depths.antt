@@ -22,6 +22,6 @@ other_pieces s [] = []
 other_pieces s (byte ∷ bytes) = if is_plain s && byte == semicolon then pieces s bytes else other_pieces (scan s byte) bytes
 
 -- the pieces after a semicolon, where a text begins with it
-abbrev pub pieces_behind : List ℕ → List (List ℕ)
-pieces_behind [] = []
-pieces_behind (byte ∷ bytes) = pieces Plain bytes
+abbrev pub pieces_after : List ℕ → List (List ℕ)
+pieces_after [] = []
+pieces_after (byte ∷ bytes) = pieces Plain bytes

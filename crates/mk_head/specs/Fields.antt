@@ -17,9 +17,9 @@ continuations [] = []
 continuations (l ∷ ls) = if is_more l then l ∷ continuations ls else []
 
 -- the lines after them
-abbrev pub behind_more : List TextLine → List TextLine
-behind_more [] = []
-behind_more (l ∷ ls) = if is_more l then behind_more ls else l ∷ ls
+abbrev pub after_more : List TextLine → List TextLine
+after_more [] = []
+after_more (l ∷ ls) = if is_more l then after_more ls else l ∷ ls
 
 -- the name that a field start begins with
 abbrev pub name_of : TextLine → List ℕ
@@ -61,13 +61,13 @@ pub record HeaderView : Type 0 where
   pub body : ℕ
 
 -- where the separator begins, in bytes: after the fields
-abbrev pub place_behind : List TextLine → Option TextLine → Option ℕ
-place_behind fields None = None
-place_behind fields (Some l) = Some (length (text_of fields))
+abbrev pub place_after : List TextLine → Option TextLine → Option ℕ
+place_after fields None = None
+place_after fields (Some l) = Some (length (text_of fields))
 
 -- a head as its fields and places
 abbrev pub header_view : Head → HeaderView
-header_view h = record { fields = fields_of h.fields; separator = place_behind h.fields h.separator; body = length (text_of (head_lines h)) }
+header_view h = record { fields = fields_of h.fields; separator = place_after h.fields h.separator; body = length (text_of (head_lines h)) }
 
 -- a text begins with a field, a field start and the continuations directly after it, and these bytes stand after the field
 pub record BeginsField (text rest : List ℕ) : Type 0 where
@@ -75,4 +75,4 @@ pub record BeginsField (text rest : List ℕ) : Type 0 where
   pub more : List TextLine
   pub lines : cut text ≡ start ∷ more
   pub starts : is_start start ≡ true
-  pub behind : cut rest ≡ behind_more more
+  pub following : cut rest ≡ after_more more

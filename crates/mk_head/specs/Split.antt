@@ -49,8 +49,8 @@ abbrev pub head_of : List TextLine → Head
 head_of ls = record { fields = fields_from false ls; separator = separator_of (rest_from false ls) }
 
 -- the body after it
-abbrev pub behind_head : List TextLine → List TextLine
-behind_head ls = body_of (rest_from false ls)
+abbrev pub after_head : List TextLine → List TextLine
+after_head ls = body_of (rest_from false ls)
 
 -- a line, where there is one
 abbrev pub option_line : Option TextLine → List TextLine

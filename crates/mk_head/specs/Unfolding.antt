@@ -2,7 +2,7 @@
 use Rattle.std.specs.Prelude.{◌++◌, ℕ, Option, None, Some, List, [], ◌∷◌}
 use Rattle.mk_line.specs.Ascii.{colon}
 use Rattle.mk_line.specs.Lines.{TextLine}
-use Rattle.mk_line.specs.Parting.{behind}
+use Rattle.mk_line.specs.Parting.{following}
 
 -- the contents of lines, joined
 abbrev pub contents : List TextLine → List ℕ
@@ -16,4 +16,4 @@ or_nothing (Some bytes) = bytes
 
 -- what follows the first colon
 abbrev pub value_in : List TextLine → List ℕ
-value_in ls = or_nothing (behind colon (contents ls))
+value_in ls = or_nothing (following colon (contents ls))

@@ -5,7 +5,7 @@ use Rattle.std.specs.Str.{bytes_eq, str_to_ascii_lowercase}
 use Rattle.mk_line.specs.Ascii.{backslash, closing, equals_sign, is_blank, opening, quote, semicolon, slash}
 use Rattle.mk_line.specs.Lines.{is_nil}
 use Rattle.mk_line.specs.Marks.{trimmed}
-use Rattle.mk_line.specs.Parting.{before, behind}
+use Rattle.mk_line.specs.Parting.{before, following}
 
 -- where a byte of a value stands: outside, in a quoted string, or in a comment with so many comments around it; after
 -- a backslash a byte is escaped
@@ -92,7 +92,7 @@ parameter_before name (Some value) others = (lowered (stripped name), parameter_
 -- the pieces with a `=` as names and values, the others left out
 abbrev pub parameters : List (List ℕ) → List (List ℕ × List ℕ)
 parameters [] = []
-parameters (piece ∷ pieces) = parameter_before (before equals_sign piece) (behind equals_sign piece) (parameters pieces)
+parameters (piece ∷ pieces) = parameter_before (before equals_sign piece) (following equals_sign piece) (parameters pieces)
 
 -- a byte of a token: 33 to 126, and none of these
 abbrev pub is_token_byte : ℕ → Bool
@@ -120,7 +120,7 @@ typed_as main (Some sub) params = if is_token main && is_token sub then media_ty
 -- the first piece says the type, the others the parameters; without a piece it is text/plain
 abbrev pub type_of_pieces : List (List ℕ) → MediaType
 type_of_pieces [] = media_type (codes "text") (codes "plain") []
-type_of_pieces (piece ∷ pieces) = typed_as (before slash (stripped piece)) (behind slash (stripped piece)) (parameters pieces)
+type_of_pieces (piece ∷ pieces) = typed_as (before slash (stripped piece)) (following slash (stripped piece)) (parameters pieces)
 
 -- the content type that a value says
 abbrev pub content_type_of : List ℕ → MediaType

@@ -2,9 +2,9 @@
 ghost use Rattle.std.specs.Prelude.{◌≡◌, ◌++◌, [], map, IfOk, OnOk};
 ghost use Rattle.std.specs.List.{list_all};
 ghost use Rattle.mk_line.specs.Ascii.{equals_sign, slash};
-ghost use Rattle.mk_line.specs.Parting.{before, behind};
+ghost use Rattle.mk_line.specs.Parting.{before, following};
 ghost use Rattle.mk_head.specs.Values.{content_type_of, is_token as token, is_token_byte as token_byte, lowered, media_type, parameter_before, parameter_value as value_of_parameter, parameters as parameters_of, stripped, typed_as};
-ghost use Rattle.mk_head.specs.Depths.{pieces_behind};
+ghost use Rattle.mk_head.specs.Depths.{pieces_after};
 ghost use Rattle.mk_head.specs.ValueViews.{media_type_of, parameter_of};
 
 use crate::scanning::{QUOTE, piece_end, uncomment, unquote};
@@ -88,7 +88,7 @@ fn typed(
     piece: &[u8],
     params: Vec<(Vec<u8>, Vec<u8>)>,
 ) -> Result<ContentType, AllocError>
-    ensures { IfOk result (λ t. media_type_of t ≡ typed_as (before slash (stripped piece.now)) (behind slash (stripped piece.now)) (map parameter_of params.items)) }
+    ensures { IfOk result (λ t. media_type_of t ≡ typed_as (before slash (stripped piece.now)) (following slash (stripped piece.now)) (map parameter_of params.items)) }
 {
     let (main, sub) = names(strip(piece));
     let main = lowercase(alloc, main)?;
@@ -98,7 +98,7 @@ fn typed(
 
 // The type and the subtype of a text, as they are spelt, and those of plain text where it is no type.
 fn names(text: &[u8]) -> (&[u8], &[u8])
-    ensures { media_type (lowered result.0.now) (lowered result.1.now) [] ≡ typed_as (before slash text.now) (behind slash text.now) [] }
+    ensures { media_type (lowered result.0.now) (lowered result.1.now) [] ≡ typed_as (before slash text.now) (following slash text.now) [] }
 {
     if let Some((main, sub)) = split_at_first(text, SLASH) {
         if is_token(main) && is_token(sub) {
@@ -110,12 +110,12 @@ fn names(text: &[u8]) -> (&[u8], &[u8])
 
 // The parameters of pieces, each of which a semicolon stands before.
 fn parameters(alloc: Global, text: &[u8]) -> Result<Vec<(Vec<u8>, Vec<u8>)>, AllocError>
-    ensures { IfOk result (λ ps. map parameter_of ps.items ≡ parameters_of (pieces_behind text.now)) }
+    ensures { IfOk result (λ ps. map parameter_of ps.items ≡ parameters_of (pieces_after text.now)) }
 {
     let mut params = Vec::new(alloc);
     let mut rest = text;
-    'each: while let [_, behind @ ..] = rest {
-        let (piece, others) = behind.split_at(piece_end(behind));
+    'each: while let [_, following @ ..] = rest {
+        let (piece, others) = following.split_at(piece_end(following));
         push_parameter(alloc, &mut params, piece)?;
         rest = others;
     }
@@ -128,7 +128,7 @@ fn push_parameter(
     params: &mut Vec<(Vec<u8>, Vec<u8>)>,
     piece: &[u8],
 ) -> Result<(), AllocError>
-    ensures { OnOk result (map parameter_of params.new.items ≡ map parameter_of params.old.items ++ parameter_before (before equals_sign piece.now) (behind equals_sign piece.now) []) }
+    ensures { OnOk result (map parameter_of params.new.items ≡ map parameter_of params.old.items ++ parameter_before (before equals_sign piece.now) (following equals_sign piece.now) []) }
 {
     if let Some((name, value)) = split_at_first(piece, EQUALS) {
         let name = lowercase(alloc, strip(name))?;

@@ -88,11 +88,11 @@ fn last_folded(text: &[u8]) -> usize
     ensures within { result ≤ length text.now }
 {
     let mut rest = text;
-    'each: while let Some((byte, behind)) = rest.split_first() {
-        if *byte == LINE_FEED && !is_continuation(behind) {
-            return text.len() - behind.len();
+    'each: while let Some((byte, following)) = rest.split_first() {
+        if *byte == LINE_FEED && !is_continuation(following) {
+            return text.len() - following.len();
         }
-        rest = behind;
+        rest = following;
     }
     text.len()
 }

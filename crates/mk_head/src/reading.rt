@@ -18,9 +18,9 @@ pub fn header(alloc: Global, text: &[u8]) -> Result<Header<'_>, AllocError>
 {
     let mut fields = Vec::new(alloc);
     let mut rest = text;
-    'each: while let Some((field, behind)) = first_field(rest) {
+    'each: while let Some((field, following)) = first_field(rest) {
         fields.push(field)?;
-        rest = behind;
+        rest = following;
     }
     let end = text.len() - rest.len();
     match separator_size(rest) {

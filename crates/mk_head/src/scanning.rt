@@ -2,7 +2,7 @@
 ghost use Rattle.std.specs.Prelude.{◌≡◌, ◌+◌, ◌^◌, ◌<◌, ◌≤◌, length, take, drop, false, IfOk};
 ghost use Rattle.mk_head.specs.Values.{Plain, Quoted, Comment, out_of, scan as scanned, uncommented, unquoted};
 ghost use Rattle.mk_head.specs.ValueViews.{scan_of};
-ghost use Rattle.mk_head.specs.Depths.{depth_of, first_piece, other_pieces, pieces_behind};
+ghost use Rattle.mk_head.specs.Depths.{depth_of, first_piece, other_pieces, pieces_after};
 
 use memchr::memchr;
 use std::alloc::{AllocError, Global};
@@ -144,7 +144,7 @@ fn without_comments(alloc: Global, value: &[u8]) -> Result<Vec<u8>, AllocError>
 pub fn piece_end(text: &[u8]) -> usize
     ensures within { result ≤ length text.now }
     ensures front { first_piece Plain text.now ≡ take result text.now }
-    ensures rest { other_pieces Plain text.now ≡ pieces_behind (drop result text.now) }
+    ensures rest { other_pieces Plain text.now ≡ pieces_after (drop result text.now) }
 {
     let mut scan = Scan::Plain;
     for (place, byte) in text.iter().enumerate() {

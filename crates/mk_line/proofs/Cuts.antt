@@ -196,9 +196,9 @@ cut_unfound text l h o e =
     ∙ (ap (λ m. m ∷ []) (sym e) ∙ ap (λ xs. l ∷ cut xs) (sym (take_rest text (length text) ∙ drop-length text)))
 
 -- lines after lines of a text
-pub lines_behind : (xs ys : List TextLine) → AreLines (xs ++ ys) → AreLines ys
-lines_behind [] ys h = h
-lines_behind (x ∷ xs) ys h = lines_behind xs ys h.2
+pub lines_following : (xs ys : List TextLine) → AreLines (xs ++ ys) → AreLines ys
+lines_following [] ys h = h
+lines_following (x ∷ xs) ys h = lines_following xs ys h.2
 
 pub text_append : (xs ys : List TextLine) → text_of (xs ++ ys) ≡ text_of xs ++ text_of ys
 text_append [] ys = refl
@@ -216,7 +216,7 @@ pub drop_lines : (text : List ℕ) (xs ys : List TextLine) → cut text ≡ xs +
 drop_lines text xs ys e = ap (drop (length (text_of xs))) (text_apart text xs ys e) ∙ drop_front (text_of xs) (text_of ys)
 
 pub cut_rest : (text : List ℕ) (xs ys : List TextLine) → cut text ≡ xs ++ ys → cut (drop (length (text_of xs)) text) ≡ ys
-cut_rest text xs ys e = ap cut (drop_lines text xs ys e) ∙ cut_text ys (lines_behind xs ys (subst AreLines e (lines_cut text)))
+cut_rest text xs ys e = ap cut (drop_lines text xs ys e) ∙ cut_text ys (lines_following xs ys (subst AreLines e (lines_cut text)))
 
 -- a line feed ends a line that isn't the last
 feed_at : (xs ys : List ℕ) → slice_index (xs ++ 10 ∷ ys) (length xs) ≡ 10
@@ -248,13 +248,13 @@ feed_place text front rest place e p =
     ap (λ t. slice_index t (place - 1)) (e ∙ append_assoc front (10 ∷ []) rest)
     ∙ (ap (slice_index (front ++ (10 ∷ rest))) (place_less front place p) ∙ feed_at front rest)
 
-begins_behind : (text : List ℕ) (xs ys : List TextLine) → cut text ≡ xs ++ ys → 0 < length (text_of xs) → length (text_of xs) < length text → slice_index text (length (text_of xs) - 1) ≡ 10
-begins_behind text [] ys e o l = let none : 0 < 0 = o in absurd (omega (arith, none))
-begins_behind text (x ∷ xs) [] e o l =
+begins_after : (text : List ℕ) (xs ys : List TextLine) → cut text ≡ xs ++ ys → 0 < length (text_of xs) → length (text_of xs) < length text → slice_index text (length (text_of xs) - 1) ≡ 10
+begins_after text [] ys e o l = let none : 0 < 0 = o in absurd (omega (arith, none))
+begins_after text (x ∷ xs) [] e o l =
     let whole : text ≡ text_of (x ∷ xs) ++ [] = text_apart text (x ∷ xs) [] e in
     let size : length text ≡ length (text_of (x ∷ xs)) = ap length (whole ∙ append_nil (text_of (x ∷ xs))) in
     absurd (omega (arith, size, l))
-begins_behind text (x ∷ xs) (y ∷ ys) e o l =
+begins_after text (x ∷ xs) (y ∷ ys) e o l =
     let f = feed_before (x ∷ xs) y ys (subst AreLines e (lines_cut text)) (some_nil x xs) in
     feed_place text f.0 (text_of (y ∷ ys)) (length (text_of (x ∷ xs))) (text_apart text (x ∷ xs) (y ∷ ys) e ∙ ap (λ t. t ++ text_of (y ∷ ys)) f.1) (ap length f.1)
 
@@ -262,7 +262,7 @@ begins_behind text (x ∷ xs) (y ∷ ys) e o l =
 pub begins_line : (text : List ℕ) (xs ys : List TextLine) → cut text ≡ xs ++ ys → BeginsLine text (length (text_of xs))
 begins_line text xs ys e = record {
   within = let size : length text ≡ length (text_of xs ++ text_of ys) = ap length (text_apart text xs ys e) in omega (arith, size, length-append (text_of xs) (text_of ys));
-  behind_feed = begins_behind text xs ys e;
+  after_feed = begins_after text xs ys e;
 }
 
 -- a first line and the rest make up the text

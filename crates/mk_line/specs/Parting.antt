@@ -12,6 +12,6 @@ before mark [] = []
 before mark (byte ∷ bytes) = if byte == mark then [] else byte ∷ before mark bytes
 
 -- what follows it, where it is there
-abbrev pub behind : ℕ → List ℕ → Option (List ℕ)
-behind mark [] = None
-behind mark (byte ∷ bytes) = if byte == mark then Some bytes else behind mark bytes
+abbrev pub following : ℕ → List ℕ → Option (List ℕ)
+following mark [] = None
+following mark (byte ∷ bytes) = if byte == mark then Some bytes else following mark bytes

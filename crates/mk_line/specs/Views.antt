@@ -11,4 +11,4 @@ line_of l = text_line l.content.now l.ending
 -- a line begins at the place, or the text ends there
 pub record BeginsLine (text : List ℕ) (place : ℕ) : Type 0 where
   pub within : place ≤ length text
-  pub behind_feed : 0 < place → place < length text → slice_index text (place - 1) ≡ line_feed
+  pub after_feed : 0 < place → place < length text → slice_index text (place - 1) ≡ line_feed

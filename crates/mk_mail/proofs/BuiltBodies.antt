@@ -31,17 +31,17 @@ abbrev AreFreeBehind : List TextLine → Type 0
 AreFreeBehind [] = Unit {0}
 AreFreeBehind (l ∷ ls) = AreFree ls
 
-behind_of : (ls : List TextLine) → AreFree ls → AreFreeBehind ls
-behind_of [] h = tt
-behind_of (l ∷ ls) h = h.1
+after_of : (ls : List TextLine) → AreFree ls → AreFreeBehind ls
+after_of [] h = tt
+after_of (l ∷ ls) h = h.1
 
-onto_behind : (byte : ℕ) (ls : List TextLine) → AreFreeBehind ls → AreFreeBehind (onto_first byte ls)
-onto_behind byte [] h = tt
-onto_behind byte (l ∷ ls) h = h
+onto_after : (byte : ℕ) (ls : List TextLine) → AreFreeBehind ls → AreFreeBehind (onto_first byte ls)
+onto_after byte [] h = tt
+onto_after byte (l ∷ ls) h = h
 
-behind_onto : (byte : ℕ) (ls : List TextLine) → AreFreeBehind (onto_first byte ls) → AreFreeBehind ls
-behind_onto byte [] h = tt
-behind_onto byte (l ∷ ls) h = h
+after_onto : (byte : ℕ) (ls : List TextLine) → AreFreeBehind (onto_first byte ls) → AreFreeBehind ls
+after_onto byte [] h = tt
+after_onto byte (l ∷ ls) h = h
 
 first_by : (t : Bool) (byte : ℕ) (l : TextLine) → (byte == 45) ≡ false → begins_hyphen (if t then text_line [] Crlf else text_line (byte ∷ l.content) l.ending).content ≡ false
 first_by true byte l h = refl
@@ -70,17 +70,17 @@ mutual
         | inl feed ↦ rw feed (refl, free_ended text e c (rw feed at h).1)
         | inr other ↦
             let now = rw other at h in
-            rw other (onto_free byte (cut (text ++ ending_bytes e)) (first_free byte (cut text) now) (behind_ended text e c (behind_onto byte (cut text) (behind_of (onto_first byte (cut text)) now))))
+            rw other (onto_free byte (cut (text ++ ending_bytes e)) (first_free byte (cut text) now) (after_ended text e c (after_onto byte (cut text) (after_of (onto_first byte (cut text)) now))))
       ]
 
-  behind_ended : (text : List ℕ) (e : Ending) → is_open e ≡ false → AreFreeBehind (cut text) → AreFreeBehind (cut (text ++ ending_bytes e))
-  behind_ended [] Crlf c h = tt
-  behind_ended [] Lf c h = tt
-  behind_ended [] Missing c h = absurd cc
-  behind_ended (byte ∷ text) e c h =
+  after_ended : (text : List ℕ) (e : Ending) → is_open e ≡ false → AreFreeBehind (cut text) → AreFreeBehind (cut (text ++ ending_bytes e))
+  after_ended [] Crlf c h = tt
+  after_ended [] Lf c h = tt
+  after_ended [] Missing c h = absurd cc
+  after_ended (byte ∷ text) e c h =
       elim (cases_Bool (byte == 10)) [
         | inl feed ↦ rw feed (free_ended text e c (rw feed at h))
-        | inr other ↦ rw other (onto_behind byte (cut (text ++ ending_bytes e)) (behind_ended text e c (behind_onto byte (cut text) (rw other at h))))
+        | inr other ↦ rw other (onto_after byte (cut (text ++ ending_bytes e)) (after_ended text e c (after_onto byte (cut text) (rw other at h))))
       ]
 
 safe_first : (content : List ℕ) → IsSafe content → begins_hyphen content ≡ false

@@ -18,7 +18,7 @@ use Rattle.mk_head.specs.Values.{lowered}
 use Rattle.mk_head.proofs.FieldRuns.{more_start}
 use Rattle.mk_build.specs.Building.{closed_field, is_free_field, is_free_start, is_made_name}
 use Rattle.mk_mail.proofs.BuiltLines.{AreClosed, AreSome, closed_joined, cut_ended, lines_joined, one_more, some_closed}
-use Rattle.mk_mail.proofs.FieldLines.{first_content, name_behind, name_first, name_in, start_behind, start_first}
+use Rattle.mk_mail.proofs.FieldLines.{first_content, name_after, name_first, name_in, start_after, start_first}
 use Rattle.mk_mail.proofs.PartTypes.{both}
 
 not_true : (t : Bool) → not t ≡ true → t ≡ false
@@ -39,9 +39,9 @@ abbrev AreMoreBehind : List TextLine → Type 0
 AreMoreBehind [] = Unit {0}
 AreMoreBehind (l ∷ ls) = AreMore ls
 
-more_behind_of : (ls : List TextLine) → AreMore ls → AreMoreBehind ls
-more_behind_of [] h = tt
-more_behind_of (l ∷ ls) h = h.1
+more_after_of : (ls : List TextLine) → AreMore ls → AreMoreBehind ls
+more_after_of [] h = tt
+more_after_of (l ∷ ls) h = h.1
 
 more_onto : (byte : ℕ) (ls : List TextLine) → AreMoreBehind ls → AreMoreBehind (onto_first byte ls)
 more_onto byte [] h = tt
@@ -99,23 +99,23 @@ mutual
         | inl feed ↦ let now = rw feed at h in let bad : false ≡ true = now.0 in absurd cc
         | inr other ↦
             let now = rw other at h in
-            rw other (blank_onto byte (cut (bytes ++ ending_bytes e)) (onto_blank byte (cut bytes) now) (ended_behind bytes e c (fed_rest byte bytes f) (onto_more byte (cut bytes) (more_behind_of (onto_first byte (cut bytes)) now))))
+            rw other (blank_onto byte (cut (bytes ++ ending_bytes e)) (onto_blank byte (cut bytes) now) (ended_after bytes e c (fed_rest byte bytes f) (onto_more byte (cut bytes) (more_after_of (onto_first byte (cut bytes)) now))))
       ]
 
   -- but for the first line
-  ended_behind : (text : List ℕ) (e : Ending) → is_open e ≡ false → ends_fed text ≡ false → AreMoreBehind (cut text) → AreMoreBehind (cut (text ++ ending_bytes e))
-  ended_behind [] Crlf c f h = tt
-  ended_behind [] Lf c f h = tt
-  ended_behind [] Missing c f h = absurd cc
-  ended_behind (byte ∷ []) e c f h =
+  ended_after : (text : List ℕ) (e : Ending) → is_open e ≡ false → ends_fed text ≡ false → AreMoreBehind (cut text) → AreMoreBehind (cut (text ++ ending_bytes e))
+  ended_after [] Crlf c f h = tt
+  ended_after [] Lf c f h = tt
+  ended_after [] Missing c f h = absurd cc
+  ended_after (byte ∷ []) e c f h =
       elim (cases_Bool (byte == 10)) [
         | inl feed ↦ fed_feed byte feed f
-        | inr other ↦ rw other (more_onto byte (cut (ending_bytes e)) (ended_behind [] e c refl tt))
+        | inr other ↦ rw other (more_onto byte (cut (ending_bytes e)) (ended_after [] e c refl tt))
       ]
-  ended_behind (byte ∷ next ∷ bytes) e c f h =
+  ended_after (byte ∷ next ∷ bytes) e c f h =
       elim (cases_Bool (byte == 10)) [
         | inl feed ↦ rw feed (more_ended (next ∷ bytes) e c refl f (rw feed at h))
-        | inr other ↦ rw other (more_onto byte (cut ((next ∷ bytes) ++ ending_bytes e)) (ended_behind (next ∷ bytes) e c f (onto_more byte (cut (next ∷ bytes)) (rw other at h))))
+        | inr other ↦ rw other (more_onto byte (cut ((next ∷ bytes) ++ ending_bytes e)) (ended_after (next ∷ bytes) e c f (onto_more byte (cut (next ∷ bytes)) (rw other at h))))
       ]
 
 -- a text that ends so has no open line
@@ -157,8 +157,8 @@ some_lines l ls field eol (m ∷ ms) e s n here some more =
       first = m;
       more = ms;
       lines_are = refl;
-      start = new.0 ∙ start_behind field (ending_bytes eol) begins;
-      free = ap is_made_name (new.1 ∙ (name_behind field (ending_bytes eol) begins ∙ sym old.1)) ∙ n;
+      start = new.0 ∙ start_after field (ending_bytes eol) begins;
+      free = ap is_made_name (new.1 ∙ (name_after field (ending_bytes eol) begins ∙ sym old.1)) ∙ n;
       continues = more;
       closed = some;
     }
@@ -169,7 +169,7 @@ of_open eol field [] c e h k f = absurd cc
 of_open eol field (l ∷ ls) c e h k f =
     let one = both (is_start l) (list_all is_more ls) h in
     let free = both (is_start l) (not (is_made_name (name_of l))) k in
-    let more = ended_behind field eol c f (subst AreMoreBehind (sym e) (all_more ls one.1)) in
+    let more = ended_after field eol c f (subst AreMoreBehind (sym e) (all_more ls one.1)) in
     some_lines l ls field eol (cut (field ++ ending_bytes eol)) e one.0 (not_true (is_made_name (name_of l)) free.1) refl (cut_ended field eol c) more
 
 -- a field whose last line isn't

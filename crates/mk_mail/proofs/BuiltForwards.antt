@@ -22,7 +22,7 @@ use Rattle.mk_head.specs.Types.{field_value, header_encoding, type_by, type_line
 use Rattle.mk_head.specs.Unfolding.{or_nothing}
 use Rattle.mk_head.specs.Values.{is_token, lowered}
 use Rattle.mk_head.specs.Boundaries.{is_boundary}
-use Rattle.mk_line.specs.Parting.{behind}
+use Rattle.mk_line.specs.Parting.{following}
 use Rattle.mk_tree.specs.Cutting.{Unmarked}
 use Rattle.mk_tree.specs.Documents.{Document, document_of, levels, tree}
 use Rattle.mk_tree.specs.Kinds.{Message, Multi, is_digest, kind, kind_of}
@@ -351,8 +351,8 @@ says_type : (eol : Ending) (fields : List (List ℕ)) (sub b : List ℕ) (wide :
 says_type eol fields sub b wide c h = skip_fields (codes "Content-Type") eol fields (made eol sub b wide) refl c h ∙ by_line wide
   where
     by_line : (t : Bool) → field_value (codes "Content-Type") (made eol sub b t) ≡ Some (made_value sub b)
-    by_line true = ap (λ cs. Some (or_nothing (behind 58 cs))) (append_nil (codes "Content-Type: multipart/" ++ (sub ++ (codes "; boundary=\"" ++ (b ++ codes "\"")))))
-    by_line false = ap (λ cs. Some (or_nothing (behind 58 cs))) (append_nil (codes "Content-Type: multipart/" ++ (sub ++ (codes "; boundary=\"" ++ (b ++ codes "\"")))))
+    by_line true = ap (λ cs. Some (or_nothing (following 58 cs))) (append_nil (codes "Content-Type: multipart/" ++ (sub ++ (codes "; boundary=\"" ++ (b ++ codes "\"")))))
+    by_line false = ap (λ cs. Some (or_nothing (following 58 cs))) (append_nil (codes "Content-Type: multipart/" ++ (sub ++ (codes "; boundary=\"" ++ (b ++ codes "\"")))))
 
 root_kind : (eol : Ending) (fields : List (List ℕ)) (sub b : List ℕ) (wide : Bool) → is_open eol ≡ false → is_token sub ≡ true → MayBound b → AreFreeFields fields → kind (root_lines eol fields sub b wide) false ≡ Multi b (bytes_eq (lowered sub) (codes "digest"))
 unfolding kind

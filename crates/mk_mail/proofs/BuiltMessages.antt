@@ -16,7 +16,7 @@ use Rattle.mk_head.specs.Split.{Head, is_start}
 use Rattle.mk_head.specs.Splits.{IsRun}
 use Rattle.mk_head.specs.Types.{field_value, header_encoding, type_by}
 use Rattle.mk_head.specs.Unfolding.{or_nothing}
-use Rattle.mk_line.specs.Parting.{behind}
+use Rattle.mk_line.specs.Parting.{following}
 use Rattle.mk_tree.specs.Documents.{Document, document_of, levels, tree}
 use Rattle.mk_tree.specs.Kinds.{Multi, is_digest, kind, kind_of}
 use Rattle.mk_tree.specs.Locality.{BeginsPlain}
@@ -110,7 +110,7 @@ root_full eol fields sub b list c k m h g =
 says_type : (eol : Ending) (fields : List (List ℕ)) (sub b : List ℕ) → is_open eol ≡ false → AreFreeFields fields → field_value (codes "Content-Type") (root_fields eol fields sub b) ≡ Some (made_value sub b)
 says_type eol fields sub b c h =
     skip_fields (codes "Content-Type") eol fields (version eol ∷ multi_line eol sub b ∷ []) refl c h
-    ∙ ap (λ cs. Some (or_nothing (behind 58 cs))) (append_nil (codes "Content-Type: multipart/" ++ (sub ++ (codes "; boundary=\"" ++ (b ++ codes "\"")))))
+    ∙ ap (λ cs. Some (or_nothing (following 58 cs))) (append_nil (codes "Content-Type: multipart/" ++ (sub ++ (codes "; boundary=\"" ++ (b ++ codes "\"")))))
 
 root_kind : (eol : Ending) (fields : List (List ℕ)) (sub b : List ℕ) → is_open eol ≡ false → is_token sub ≡ true → MayBound b → AreFreeFields fields → kind (root_fields eol fields sub b) false ≡ Multi b (bytes_eq (lowered sub) (codes "digest"))
 unfolding kind

@@ -4,7 +4,7 @@ use Rattle.std.specs.List.{list_all}
 use Rattle.std.specs.Option.{option_map, option_or}
 use Rattle.std.specs.Str.{is_utf8}
 use Rattle.mk_line.specs.declared.cutting.Ending.{Ending}
-use Rattle.mk_line.specs.Parting.{behind}
+use Rattle.mk_line.specs.Parting.{following}
 use Rattle.mk_line.proofs.Cuts.{append_nil}
 use Rattle.mk_head.specs.Fields.{counted}
 use Rattle.mk_head.specs.Types.{field_value}
@@ -27,7 +27,7 @@ use Rattle.std.specs.Prelude.{option_and_then}
 
 -- the value of the disposition of a part
 disposition_value : (eol : Ending) (media name said : List ℕ) (base64 : Bool) → field_value (codes "Content-Disposition") (part_fields eol media (Some name) (Some said) base64) ≡ Some (value_of name (percent_encoded said))
-disposition_value eol media name said base64 = ap (λ cs. Some (or_nothing (behind 58 cs))) (append_nil (codes "Content-Disposition:" ++ value_of name (percent_encoded said)))
+disposition_value eol media name said base64 = ap (λ cs. Some (or_nothing (following 58 cs))) (append_nil (codes "Content-Disposition:" ++ value_of name (percent_encoded said)))
 
 -- what its fields say
 part_says : (eol : Ending) (a : Attached) (name said : List ℕ) (p : Placed) → p.entity ≡ part_entity eol a → a.name ≡ Some name → a.said ≡ Some said → InQuotes name

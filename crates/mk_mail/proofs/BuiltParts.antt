@@ -13,7 +13,7 @@ use Rattle.mk_head.specs.Splits.{IsRun}
 use Rattle.mk_head.specs.Types.{field_value, header_encoding, type_by}
 use Rattle.mk_head.specs.Unfolding.{or_nothing}
 use Rattle.mk_head.specs.Values.{is_token, is_token_byte}
-use Rattle.mk_line.specs.Parting.{before, behind}
+use Rattle.mk_line.specs.Parting.{before, following}
 use Rattle.mk_code.specs.Contents.{IsContent}
 use Rattle.mk_code.specs.Base64Text.{base64_encoded}
 use Rattle.mk_code.specs.QuotedPrintable.{hex_digit, qp_encoded}
@@ -118,15 +118,15 @@ inner_line eol content c h = made_line eol content c (inner_feed content h) (inn
 -- the bytes of a media type and of a name
 media_inner : (media : List ℕ) → is_media media ≡ true → list_all is_inner media ≡ true
 media_inner media h =
-    let p = both (nat_le (length media) longest) (is_token (before 47 media) && (is_subtype (behind 47 media) && is_single (before 47 media))) h in
-    let q = both (is_token (before 47 media)) (is_subtype (behind 47 media) && is_single (before 47 media)) p.1 in
-    let r = both (is_subtype (behind 47 media)) (is_single (before 47 media)) q.1 in
-    by_subtype (behind 47 media) refl (token_inner (before 47 media) q.0) r.0
+    let p = both (nat_le (length media) longest) (is_token (before 47 media) && (is_subtype (following 47 media) && is_single (before 47 media))) h in
+    let q = both (is_token (before 47 media)) (is_subtype (following 47 media) && is_single (before 47 media)) p.1 in
+    let r = both (is_subtype (following 47 media)) (is_single (before 47 media)) q.1 in
+    by_subtype (following 47 media) refl (token_inner (before 47 media) q.0) r.0
   where
     token_inner : (bytes : List ℕ) → is_token bytes ≡ true → list_all is_inner bytes ≡ true
     token_inner bytes t = inner_all is_token_byte bytes refl refl (both (not (is_nil bytes)) (list_all is_token_byte bytes) t).1
 
-    by_subtype : (o : Option (List ℕ)) → behind 47 media ≡ o → list_all is_inner (before 47 media) ≡ true → is_subtype o ≡ true → list_all is_inner media ≡ true
+    by_subtype : (o : Option (List ℕ)) → following 47 media ≡ o → list_all is_inner (before 47 media) ≡ true → is_subtype o ≡ true → list_all is_inner media ≡ true
     by_subtype None e t s = absurd cc
     by_subtype (Some sub) e t s = ap (list_all is_inner) (parted media sub e) ∙ inner_join (before 47 media) (47 ∷ sub) t (token_inner sub s)
 
@@ -232,8 +232,8 @@ part_free b eol a c small =
 
 -- what its fields say
 type_value : (eol : Ending) (media : List ℕ) (name said : Option (List ℕ)) (base64 : Bool) → field_value (codes "Content-Type") (part_fields eol media name said base64) ≡ Some (32 ∷ (media ++ name_param name))
-type_value eol media None said base64 = ap (λ cs. Some (or_nothing (behind 58 cs))) (append_nil (codes "Content-Type: " ++ (media ++ name_param None)))
-type_value eol media (Some name) said base64 = ap (λ cs. Some (or_nothing (behind 58 cs))) (append_nil (codes "Content-Type: " ++ (media ++ name_param (Some name))))
+type_value eol media None said base64 = ap (λ cs. Some (or_nothing (following 58 cs))) (append_nil (codes "Content-Type: " ++ (media ++ name_param None)))
+type_value eol media (Some name) said base64 = ap (λ cs. Some (or_nothing (following 58 cs))) (append_nil (codes "Content-Type: " ++ (media ++ name_param (Some name))))
 
 -- the encoding that is named
 abbrev coding : Bool → Encoding

@@ -95,9 +95,9 @@ after_more (byte ∷ bytes) y h =
       | inr n ↦ rw n (past_more (byte ∷ bytes) y (rw n at h))
     ]
 
-pub start_behind : (x y : List ℕ) → is_field_start x ≡ true → is_field_start (x ++ y) ≡ true
-start_behind [] y h = absurd cc
-start_behind (byte ∷ bytes) y h = let p = both (is_name_byte byte) (is_after_name bytes) h in rw (p.0, after_more bytes y p.1) refl
+pub start_after : (x y : List ℕ) → is_field_start x ≡ true → is_field_start (x ++ y) ≡ true
+start_after [] y h = absurd cc
+start_after (byte ∷ bytes) y h = let p = both (is_name_byte byte) (is_after_name bytes) h in rw (p.0, after_more bytes y p.1) refl
 
 name_more : (x y : List ℕ) → is_after_name x ≡ true → name_in (x ++ y) ≡ name_in x
 name_more [] y h = absurd cc
@@ -107,8 +107,8 @@ name_more (byte ∷ bytes) y h =
       | inr n ↦ name_one byte (bytes ++ y) ∙ (rw n refl ∙ sym (name_one byte bytes))
     ]
 
-pub name_behind : (x y : List ℕ) → is_field_start x ≡ true → name_in (x ++ y) ≡ name_in x
-name_behind [] y h = absurd cc
-name_behind (byte ∷ bytes) y h =
+pub name_after : (x y : List ℕ) → is_field_start x ≡ true → name_in (x ++ y) ≡ name_in x
+name_after [] y h = absurd cc
+name_after (byte ∷ bytes) y h =
     let p = both (is_name_byte byte) (is_after_name bytes) h in
     name_one byte (bytes ++ y) ∙ (ap (λ ns. if is_name_byte byte then byte ∷ ns else []) (name_more bytes y p.1) ∙ sym (name_one byte bytes))

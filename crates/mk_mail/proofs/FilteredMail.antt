@@ -15,14 +15,14 @@ use Rattle.mk_tree.specs.Documents.{Document, document_lines, document_of, envel
 use Rattle.mk_tree.specs.Places.{put}
 use Rattle.mk_tree.specs.Sections.{root_of}
 use Rattle.mk_tree.specs.Tree.{Entity, leaf, message, multi, field_lines, with_fields}
-use Rattle.mk_tree.proofs.HeadChanged.{behind_fields, changed_lines, entity_lines}
+use Rattle.mk_tree.proofs.HeadChanged.{after_fields, changed_lines, entity_lines}
 use Rattle.mk_tree.proofs.Kept.{lines_kept}
 use Rattle.mk_tree.proofs.OwnFields.{fields_are}
 use Rattle.mk_decide.specs.EditLaws.{IsJudged}
 use Rattle.mk_decide.specs.Edits.{PlainEdit, AddField, RemoveField, RenameField, SetField, SetBody, SetSection, InsertPart, RemovePart, Wrap, Refusal, BadField, BadName}
 use Rattle.mk_decide.specs.EditSplices.{splices_of}
 use Rattle.mk_decide.specs.FieldEdits.{field_at, renamed}
-use Rattle.mk_edit.specs.Groups.{Together, behind, made_on, together}
+use Rattle.mk_edit.specs.Groups.{Together, following, made_on, together}
 use Rattle.mk_decide.specs.Outcomes.{edited, judged_by}
 use Rattle.mk_decide.specs.Plans.{Plan, add_plan, change_plan, drop_plan, plan_at, plan_of, place_of, planned, rename_plan, unless, with_place}
 use Rattle.mk_decide.specs.Reasons.{added as with_added}
@@ -213,13 +213,13 @@ abbrev FieldedBy : Document → Together → Type 0
 FieldedBy t (Ok q) = IsFielded t q.0
 FieldedBy t (Err q) = Unit {0}
 
-behind_fielded : (t u : Document) (ss : List Splice) (r : Together) → IsFielded t u → FieldedBy u r → FieldedBy t (behind 1 ss r)
-behind_fielded t u ss (Ok q) a b = fielded_on t u q.0 a b
-behind_fielded t u ss (Err q) a b = tt
+after_fielded : (t u : Document) (ss : List Splice) (r : Together) → IsFielded t u → FieldedBy u r → FieldedBy t (following 1 ss r)
+after_fielded t u ss (Ok q) a b = fielded_on t u q.0 a b
+after_fielded t u ss (Err q) a b = tt
 
 made_fielded : (t : Document) (ss : List Splice) (es : List PlainEdit) (r : Result Document Refusal) → ((u : Document) → r ≡ Ok u → IsFielded t u)
     → ((u : Document) → FieldedBy u (together es u)) → FieldedBy t (made_on ss (together es) r)
-made_fielded t ss es (Ok u) k others = behind_fielded t u ss (together es u) (k u refl) (others u)
+made_fielded t ss es (Ok u) k others = after_fielded t u ss (together es u) (k u refl) (others u)
 made_fielded t ss es (Err e) k others = tt
 
 as_it_was : (t : Document) → IsFielded t t
@@ -288,24 +288,24 @@ root_run text =
 
 -- ---- such lines change nothing of what follows them
 
-whole_behind : (way : FromLines) (ls rest : List TextLine) → AreSomeLines ls → IsWhole way false rest → IsWhole way false (ls ++ rest)
-whole_behind way [] rest h w = w
-whole_behind way (l ∷ ls) rest h w = (refl, subst (λ e. IsWhole way e (ls ++ rest)) (sym h.0) (whole_behind way ls rest h.1 w))
+whole_after : (way : FromLines) (ls rest : List TextLine) → AreSomeLines ls → IsWhole way false rest → IsWhole way false (ls ++ rest)
+whole_after way [] rest h w = w
+whole_after way (l ∷ ls) rest h w = (refl, subst (λ e. IsWhole way e (ls ++ rest)) (sym h.0) (whole_after way ls rest h.1 w))
 
 whole_rest : (way : FromLines) (ls rest : List TextLine) → AreSomeLines ls → IsWhole way false (ls ++ rest) → IsWhole way false rest
 whole_rest way [] rest h w = w
 whole_rest way (l ∷ ls) rest h w = whole_rest way ls rest h.1 (subst (λ e. IsWhole way e (ls ++ rest)) h.0 w.1)
 
-ends_behind : (ls rest : List TextLine) → AreSomeLines ls → ends_empty false (ls ++ rest) ≡ ends_empty false rest
-ends_behind [] rest h = refl
-ends_behind (l ∷ ls) rest h = ap (λ e. ends_empty e (ls ++ rest)) h.0 ∙ ends_behind ls rest h.1
+ends_after : (ls rest : List TextLine) → AreSomeLines ls → ends_empty false (ls ++ rest) ≡ ends_empty false rest
+ends_after [] rest h = refl
+ends_after (l ∷ ls) rest h = ap (λ e. ends_empty e (ls ++ rest)) h.0 ∙ ends_after ls rest h.1
 
 -- lines with the same rest after others that aren't empty
 same_rest : (way : FromLines) (old new front other rest : List TextLine) → old ≡ front ++ rest → new ≡ other ++ rest → AreSomeLines front → AreSomeLines other
     → (begins_from way old ≡ true → begins_from way new ≡ true) → IsWhole way false old → IsKept way old new
 same_rest way old new front other rest o n f g b w = record {
-  whole = subst (IsWhole way false) (sym n) (whole_behind way other rest g (whole_rest way front rest f (subst (IsWhole way false) o w)));
-  ends = λ h. ap (ends_empty false) n ∙ (ends_behind other rest g ∙ (sym (ends_behind front rest f) ∙ (sym (ap (ends_empty false) o) ∙ h)));
+  whole = subst (IsWhole way false) (sym n) (whole_after way other rest g (whole_rest way front rest f (subst (IsWhole way false) o w)));
+  ends = λ h. ap (ends_empty false) n ∙ (ends_after other rest g ∙ (sym (ends_after front rest f) ∙ (sym (ap (ends_empty false) o) ∙ h)));
   begins = b;
 }
 
@@ -315,7 +315,7 @@ fielded_kept : (way : FromLines) (text : List ℕ) (u : Document) → needs_fiel
 fielded_kept way text u n a stable w =
     let t = tree text in
     let front = option_line t.envelope in
-    let rest = behind_fields t.root in
+    let rest = after_fields t.root in
     let old_lines : cut text ≡ front ++ (field_lines t.root ++ rest) = sym (lines_kept text) ∙ ap (λ ls. front ++ ls) (entity_lines t.root) in
     let new_lines : cut (printed u) ≡ front ++ (a.fields ++ rest) =
     sym (lines_kept (printed u)) ∙ (ap document_lines (stable ∙ a.same) ∙ ap (λ ls. front ++ ls) (changed_lines a.fields t.root)) in

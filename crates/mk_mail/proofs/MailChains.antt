@@ -104,10 +104,10 @@ closed_empty l ms h n m = absurd (no_empty l.ending l.content h m n)
 lines_joined : (e : Bool) (ls ms : List TextLine) → AreLines ls → ends_empty e ls ≡ true → AreLines ms → AreLines (ls ++ ms)
 lines_joined e [] ms h t g = g
 lines_joined e (l ∷ []) ms h t g = (h.0, closed_empty l ms h.0 t, g)
-lines_joined e (l ∷ m ∷ ls) ms h t g = (h.0, (λ o. absurd (some_behind m ls (h.1 o))), lines_joined (is_nil l.content) (m ∷ ls) ms h.2 t g)
+lines_joined e (l ∷ m ∷ ls) ms h t g = (h.0, (λ o. absurd (some_after m ls (h.1 o))), lines_joined (is_nil l.content) (m ∷ ls) ms h.2 t g)
   where
-    some_behind : (m : TextLine) (ls : List TextLine) → m ∷ ls ≡ [] → ⊥
-    some_behind m ls q = cc
+    some_after : (m : TextLine) (ls : List TextLine) → m ∷ ls ≡ [] → ⊥
+    some_after m ls q = cc
 
 -- texts of which the first ends with an empty line
 cut_joined : (p rest : List ℕ) → ends_empty false (cut p) ≡ true → cut (p ++ rest) ≡ cut p ++ cut rest

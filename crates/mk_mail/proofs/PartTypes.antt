@@ -8,7 +8,7 @@ use Rattle.mk_line.specs.Lines.{is_nil}
 use Rattle.mk_line.specs.Marks.{trimmed_before, trimmed}
 use Rattle.mk_line.proofs.Cuts.{append_nil}
 use Rattle.mk_head.specs.declared.encodings.Encoding.{Encoding}
-use Rattle.mk_line.specs.Parting.{before, behind}
+use Rattle.mk_line.specs.Parting.{before, following}
 use Rattle.mk_head.specs.Types.{type_by}
 use Rattle.mk_head.specs.Values.{Plain, Quoted, uncommented, push_first, pieces, unled, stripped, lowered, parameters, is_token_byte, is_token, MediaType, media_type, typed_as, type_of_pieces, content_type_of}
 use Rattle.mk_tree.specs.Kinds.{Leaf, kind_of}
@@ -80,15 +80,15 @@ quoted_name name = codes "; name=\"" ++ (name ++ codes "\"")
 name_kept : (name : List ℕ) → InQuotes name → uncommented Plain (codes "; name=\"" ++ (name ++ codes "\"")) ≡ codes "; name=\"" ++ (name ++ codes "\"")
 name_kept name h = ap (λ xs. codes "; name=\"" ++ xs) (quoted_uncommented name h)
 
-behind_type : (name : Option (List ℕ)) → is_name_or_none name ≡ true → IsBehind (name_param name)
-behind_type None h = record { kept = refl; others = []; apart = refl }
-behind_type (Some name) h =
+after_type : (name : Option (List ℕ)) → is_name_or_none name ≡ true → IsBehind (name_param name)
+after_type None h = record { kept = refl; others = []; apart = refl }
+after_type (Some name) h =
     let p = both (not (is_nil name)) (nat_le (length name) longest && list_all is_name_byte name) h in
     let q = both (nat_le (length name) longest) (list_all is_name_byte name) p.1 in
     record { kept = name_kept name (name_quotes name q.1); others = pieces Plain (codes " name=\"" ++ (name ++ codes "\"")); apart = refl }
 
 -- a media type is its type, a slash, and its subtype
-pub parted : (media sub : List ℕ) → behind 47 media ≡ Some sub → media ≡ before 47 media ++ 47 ∷ sub
+pub parted : (media sub : List ℕ) → following 47 media ≡ Some sub → media ≡ before 47 media ++ 47 ∷ sub
 parted [] sub h = absurd cc
 parted (c ∷ cs) sub h = elim (cases_Bool (c == 47)) [
   | inl e ↦
@@ -113,13 +113,13 @@ slash_kept : (sub : List ℕ) → Simple sub → trimmed (47 ∷ sub) ≡ 47 ∷
 slash_kept [] h = refl
 slash_kept (c ∷ cs) h = kept_front 47 (c ∷ cs) refl (simple_trimmed (c ∷ cs) h)
 
-some_behind : (m xs : List ℕ) → is_nil (m ++ 47 ∷ xs) ≡ false
-some_behind [] xs = refl
-some_behind (c ∷ m) xs = refl
+some_after : (m xs : List ℕ) → is_nil (m ++ 47 ∷ xs) ≡ false
+some_after [] xs = refl
+some_after (c ∷ m) xs = refl
 
 type_kept : (m sub : List ℕ) → Simple sub → trimmed (m ++ 47 ∷ sub) ≡ m ++ 47 ∷ sub
 type_kept [] sub h = slash_kept sub h
-type_kept (c ∷ m) sub h = kept_front c (m ++ 47 ∷ sub) (some_behind m sub) (type_kept m sub h)
+type_kept (c ∷ m) sub h = kept_front c (m ++ 47 ∷ sub) (some_after m sub) (type_kept m sub h)
 
 type_stripped : (m sub : List ℕ) → is_nil m ≡ false → Simple m → Simple sub → stripped (32 ∷ (m ++ 47 ∷ sub)) ≡ m ++ 47 ∷ sub
 type_stripped [] sub n h k = absurd cc
@@ -131,9 +131,9 @@ type_before : (m sub : List ℕ) → Simple m → before 47 (m ++ 47 ∷ sub) �
 type_before [] sub h = refl
 type_before (c ∷ m) sub h = rw h.3 (ap (λ xs. c ∷ xs) (type_before m sub h.5))
 
-type_behind : (m sub : List ℕ) → Simple m → behind 47 (m ++ 47 ∷ sub) ≡ Some sub
-type_behind [] sub h = refl
-type_behind (c ∷ m) sub h = rw h.3 (type_behind m sub h.5)
+type_after : (m sub : List ℕ) → Simple m → following 47 (m ++ 47 ∷ sub) ≡ Some sub
+type_after [] sub h = refl
+type_after (c ∷ m) sub h = rw h.3 (type_after m sub h.5)
 
 -- the value after the colon, of a type and a subtype
 made_uncommented : (m sub tail : List ℕ) → Simple m → Simple sub → IsBehind tail → uncommented Plain (32 ∷ (m ++ 47 ∷ (sub ++ tail))) ≡ 32 ∷ (m ++ 47 ∷ (sub ++ tail))
@@ -162,8 +162,8 @@ made_main m sub tail h k b =
     let some : is_nil m ≡ false = not_true (is_nil m) p.0 in
     ap (λ v. (type_of_pieces (pieces Plain v)).main) (made_uncommented m sub tail sm ss b)
     ∙ (ap (λ ps. (type_of_pieces ps).main) (made_pieces m sub tail sm ss b)
-    ∙ (ap (λ v. (typed_as (before 47 v) (behind 47 v) (parameters b.others)).main) (type_stripped m sub some sm ss)
-    ∙ ((λ i. (typed_as (type_before m sub sm i) (type_behind m sub sm i) (parameters b.others)).main)
+    ∙ (ap (λ v. (typed_as (before 47 v) (following 47 v) (parameters b.others)).main) (type_stripped m sub some sm ss)
+    ∙ ((λ i. (typed_as (type_before m sub sm i) (type_after m sub sm i) (parameters b.others)).main)
     ∙ typed_main (is_token m && is_token sub) m sub (parameters b.others) (both_true (is_token m) (is_token sub) h k))))
   where
     not_true : (t : Bool) → not t ≡ true → t ≡ false
@@ -173,17 +173,17 @@ made_main m sub tail h k b =
 -- the type that a part's value says
 pub part_main : (media : List ℕ) (name : Option (List ℕ)) → is_media media ≡ true → is_name_or_none name ≡ true → (content_type_of (32 ∷ (media ++ name_param name))).main ≡ lowered (before 47 media)
 part_main media name h n =
-    let p = both (nat_le (length media) longest) (is_token (before 47 media) && (is_subtype (behind 47 media) && is_single (before 47 media))) h in
-    let q = both (is_token (before 47 media)) (is_subtype (behind 47 media) && is_single (before 47 media)) p.1 in
-    let r = both (is_subtype (behind 47 media)) (is_single (before 47 media)) q.1 in
-    by_subtype (behind 47 media) refl q.0 r.0
+    let p = both (nat_le (length media) longest) (is_token (before 47 media) && (is_subtype (following 47 media) && is_single (before 47 media))) h in
+    let q = both (is_token (before 47 media)) (is_subtype (following 47 media) && is_single (before 47 media)) p.1 in
+    let r = both (is_subtype (following 47 media)) (is_single (before 47 media)) q.1 in
+    by_subtype (following 47 media) refl q.0 r.0
   where
-    by_subtype : (o : Option (List ℕ)) → behind 47 media ≡ o → is_token (before 47 media) ≡ true → is_subtype o ≡ true → (content_type_of (32 ∷ (media ++ name_param name))).main ≡ lowered (before 47 media)
+    by_subtype : (o : Option (List ℕ)) → following 47 media ≡ o → is_token (before 47 media) ≡ true → is_subtype o ≡ true → (content_type_of (32 ∷ (media ++ name_param name))).main ≡ lowered (before 47 media)
     by_subtype None e t s = absurd cc
     by_subtype (Some sub) e t s =
         let same = parted media sub e in
         ap (λ v. (content_type_of (32 ∷ v)).main) (ap (λ v. v ++ name_param name) same ∙ append_assoc (before 47 media) (47 ∷ sub) (name_param name))
-        ∙ made_main (before 47 media) sub (name_param name) t s (behind_type name n)
+        ∙ made_main (before 47 media) sub (name_param name) t s (after_type name n)
 
 single_kind : (t : MediaType) (e : Encoding) (m : List ℕ) → t.main ≡ lowered m → is_single m ≡ true → kind_of t e ≡ Leaf
 single_kind t e m h s =
@@ -199,7 +199,7 @@ single_kind t e m h s =
 -- a part is a leaf
 pub part_kind : (digest : Bool) (e : Encoding) (media : List ℕ) (name : Option (List ℕ)) → is_media media ≡ true → is_name_or_none name ≡ true → kind_of (type_by digest (Some (32 ∷ (media ++ name_param name)))) e ≡ Leaf
 part_kind digest e media name h n =
-    let p = both (nat_le (length media) longest) (is_token (before 47 media) && (is_subtype (behind 47 media) && is_single (before 47 media))) h in
-    let q = both (is_token (before 47 media)) (is_subtype (behind 47 media) && is_single (before 47 media)) p.1 in
-    let r = both (is_subtype (behind 47 media)) (is_single (before 47 media)) q.1 in
+    let p = both (nat_le (length media) longest) (is_token (before 47 media) && (is_subtype (following 47 media) && is_single (before 47 media))) h in
+    let q = both (is_token (before 47 media)) (is_subtype (following 47 media) && is_single (before 47 media)) p.1 in
+    let r = both (is_subtype (following 47 media)) (is_single (before 47 media)) q.1 in
     single_kind (content_type_of (32 ∷ (media ++ name_param name))) e (before 47 media) (part_main media name h n) r.1

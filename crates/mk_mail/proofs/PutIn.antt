@@ -4,20 +4,20 @@ use Rattle.std.specs.List.{list_all, prefix_len}
 use Rattle.std.proofs.lemmas.Bool.{cases_Bool}
 use Rattle.std.proofs.lemmas.List.{take-append-drop, take_all}
 use Rattle.mk_line.specs.Ascii.{colon, is_blank}
-use Rattle.mk_line.specs.Parting.{behind}
+use Rattle.mk_line.specs.Parting.{following}
 use Rattle.mk_mail.specs.Prepended.{PrependedFieldsKeepTheirBytes, is_white, said_at, text_before, text_place, value_of}
 
 -- what follows the first byte of a kind is no longer than the whole
-behind_short : (field v : List ℕ) → behind colon field ≡ Some v → length v ≤ length field
-behind_short [] v h = cc
-behind_short (byte ∷ bytes) v h =
+after_short : (field v : List ℕ) → following colon field ≡ Some v → length v ≤ length field
+after_short [] v h = cc
+after_short (byte ∷ bytes) v h =
     elim (cases_Bool (byte == colon)) [
       | inl t ↦ let e : Some bytes ≡ Some v = rw t at h in omega (arith, ap (λ o. length (unwrap_or o [])) e)
-      | inr n ↦ let e : behind colon bytes ≡ Some v = rw n at h in omega (arith, behind_short bytes v e)
+      | inr n ↦ let e : following colon bytes ≡ Some v = rw n at h in omega (arith, after_short bytes v e)
     ]
 
 -- what follows the colon in a front of a field that goes past it
-front_value : (field v : List ℕ) (m : ℕ) → behind colon field ≡ Some v → m ≤ length v → behind colon (take (length field - length v + m) field) ≡ Some (take m v)
+front_value : (field v : List ℕ) (m : ℕ) → following colon field ≡ Some v → m ≤ length v → following colon (take (length field - length v + m) field) ≡ Some (take m v)
 front_value [] v m h l = cc
 front_value (byte ∷ bytes) v m h l =
     elim (cases_Bool (byte == colon)) [
@@ -25,11 +25,11 @@ front_value (byte ∷ bytes) v m h l =
           let e : Some bytes ≡ Some v = rw t at h in
           let same : bytes ≡ v = ap (λ o. unwrap_or o []) e in
           let n : length (byte ∷ bytes) - length v + m ≡ suc m = omega (arith, ap length same) in
-          ap (λ k. behind colon (take k (byte ∷ bytes))) n ∙ (rw t (ap (λ xs. Some (take m xs)) same))
+          ap (λ k. following colon (take k (byte ∷ bytes))) n ∙ (rw t (ap (λ xs. Some (take m xs)) same))
       | inr n ↦
-          let e : behind colon bytes ≡ Some v = rw n at h in
-          let k : length (byte ∷ bytes) - length v + m ≡ suc (length bytes - length v + m) = omega (arith, behind_short bytes v e) in
-          ap (λ k. behind colon (take k (byte ∷ bytes))) k ∙ (rw n (front_value bytes v m e l))
+          let e : following colon bytes ≡ Some v = rw n at h in
+          let k : length (byte ∷ bytes) - length v + m ≡ suc (length bytes - length v + m) = omega (arith, after_short bytes v e) in
+          ap (λ k. following colon (take k (byte ∷ bytes))) k ∙ (rw n (front_value bytes v m e l))
     ]
 
 front_passes : (p q : ℕ → Bool) (xs : List ℕ) → ((x : ℕ) → p x ≡ true → q x ≡ true) → list_all q (take (prefix_len p xs) xs) ≡ true
@@ -61,7 +61,7 @@ either_short : (t : Bool) (v : List ℕ) → (if t then prefix_len is_blank v el
 either_short true v = front_short is_blank v
 either_short false v = front_short is_white v
 
-white_front : (field : List ℕ) (o : Option (List ℕ)) → behind colon field ≡ o → list_all is_white (unwrap_or (behind colon (take (length field - length (unwrap_or o []) + said_at (unwrap_or o [])) field)) []) ≡ true
+white_front : (field : List ℕ) (o : Option (List ℕ)) → following colon field ≡ o → list_all is_white (unwrap_or (following colon (take (length field - length (unwrap_or o []) + said_at (unwrap_or o [])) field)) []) ≡ true
 white_front field (Some v) h =
     ap (λ w. list_all is_white (unwrap_or w [])) (front_value field v (said_at v) h (either_short (prefix_len is_white v == length v) v)) ∙ either_white (prefix_len is_white v == length v) v
 white_front field None h =
@@ -76,5 +76,5 @@ put_in eol text field = record {
   back = drop (text_place field) field;
   was = sym (take-append-drop (text_place field) field);
   is = refl;
-  white = white_front field (behind colon field) refl;
+  white = white_front field (following colon field) refl;
 }

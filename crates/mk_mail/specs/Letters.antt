@@ -6,7 +6,7 @@ use Rattle.mk_line.specs.declared.cutting.Ending.{Ending}
 use Rattle.mk_line.specs.Ascii.{colon, is_blank, is_name_byte}
 use Rattle.mk_line.specs.Lines.{cut, ending_bytes, eol_of}
 use Rattle.mk_head.specs.Fields.{FieldText, is_named, is_one_field}
-use Rattle.mk_line.specs.Parting.{behind}
+use Rattle.mk_line.specs.Parting.{following}
 use Rattle.mk_tree.specs.Documents.{tree}
 use Rattle.mk_tree.specs.Sections.{Placed, section_at, section_fields}
 use Rattle.mk_decide.specs.Edits.{PlainEdit, AddField, RemoveField, RenameField, SetField}
@@ -50,7 +50,7 @@ is_given_field text = is_one_field (cut text) && ends_open text
 
 -- only blanks stand after the first colon; a line feed is none
 abbrev pub is_bare : List ℕ → Bool
-is_bare text = list_all is_blank (unwrap_or (behind colon text) [])
+is_bare text = list_all is_blank (unwrap_or (following colon text) [])
 
 -- a field that may be added by itself
 abbrev pub is_full_field : List ℕ → Bool

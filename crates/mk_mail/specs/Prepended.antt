@@ -7,7 +7,7 @@ use Rattle.mk_line.specs.Ascii.{carriage_return, colon, equals_sign, is_blank, l
 use Rattle.mk_line.specs.Kinds.{is_name}
 use Rattle.mk_line.specs.Lines.{is_nil}
 use Rattle.mk_line.specs.Marks.{trimmed}
-use Rattle.mk_line.specs.Parting.{behind}
+use Rattle.mk_line.specs.Parting.{following}
 use Rattle.mk_code.specs.EncodedWords.{has_pair, is_shown, words_encoded}
 
 -- a text that goes before what the fields of a name say
@@ -45,7 +45,7 @@ said_at value = if prefix_len is_white value == length value then prefix_len is_
 
 -- what follows the colon of a field
 abbrev pub value_of : List ℕ → List ℕ
-value_of field = unwrap_or (behind colon field) []
+value_of field = unwrap_or (following colon field) []
 
 -- where a field begins to say something
 abbrev pub text_place : List ℕ → ℕ

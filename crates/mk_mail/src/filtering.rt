@@ -269,7 +269,7 @@ fn make_old<'a>(
     let mut list = Vec::with_capacity(alloc, names.len())?;
     for own in names {
         if is_same(name, &own) {
-            let old = behind_old(alloc, &own)?;
+            let old = after_old(alloc, &own)?;
             edits.push(renaming(alloc, path, name, 1, &old)?)?;
             list.push(CowSlice::Owned(old))?;
         } else {
@@ -365,7 +365,7 @@ fn addition(alloc: Global, path: &[u32], field: &[u8], eol: Ending) -> Result<Ed
 }
 
 // A name after `Old-`.
-fn behind_old(alloc: Global, name: &[u8]) -> Result<Vec<u8>, AllocError>
+fn after_old(alloc: Global, name: &[u8]) -> Result<Vec<u8>, AllocError>
     ensures { IfOk result (λ old. old.items ≡ old_name name.now) }
 {
     let mut old = Vec::from_slice(alloc, OLD)?;

@@ -81,7 +81,7 @@ kept_gathered i e = ap (λ rest. i.gathered.bytes.items ++ rest) (unread_none i.
 
 -- and while its last line is open, no message of it is known to be whole
 pub kept_unknown : (i : Intake) → IsIntake i → i.at ≡ i.filled → has_line_feed (drop i.gathered.line i.gathered.bytes.items) ≡ false → IsKnownWhole i.gathered.from_lines (kept_by i) → ⊥
-kept_unknown i w e h k = gathered_unknown i.gathered.from_lines i.gathered.bytes.items i.gathered.start i.gathered.line i.gathered.behind_empty w.gathered h (subst (IsKnownWhole i.gathered.from_lines) (kept_gathered i e) k)
+kept_unknown i w e h k = gathered_unknown i.gathered.from_lines i.gathered.bytes.items i.gathered.start i.gathered.line i.gathered.after_empty w.gathered h (subst (IsKnownWhole i.gathered.from_lines) (kept_gathered i e) k)
 
 -- the same bytes, cut at the same From-lines
 pub known_on : (way old : FromLines) (now text : List ℕ) → way ≡ old → now ≡ text → IsKnownWhole old text → IsKnownWhole way now

@@ -33,7 +33,7 @@ parts_of way bytes start line e g =
       line_is = omega (arith, to_line, sum, length-append (take start bytes) (drop start (take line bytes)));
       one = g.before;
       waiting = g.between;
-      one_line = g.behind;
+      one_line = g.following;
       some = λ t. let some = g.some t in omega (arith, some, to_start);
     }
 
@@ -49,7 +49,7 @@ gathered_of way bytes start line e g =
       within = omega (arith, g.line_is, size, sum, length-append g.from g.last);
       before = subst (λ x. IsOnePiece way x e) (sym (front_is way bytes start line e g)) g.one;
       between = subst (IsWaiting way e) (sym between) g.waiting;
-      behind = subst IsOneLine (sym (last_is way bytes start line e g)) g.one_line;
+      following = subst IsOneLine (sym (last_is way bytes start line e g)) g.one_line;
       some = λ t. let some = g.some t in omega (arith, some, g.start_is);
     }
 

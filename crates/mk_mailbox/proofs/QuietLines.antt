@@ -115,7 +115,7 @@ stretch_on way bytes lines start line e g between q some =
       within = omega arith;
       before = subst (λ text. IsOnePiece way text (ends_empty false (cut lines))) (sym (take-length (bytes ++ lines))) over;
       between = inl (ap (drop (length (bytes ++ lines))) (take-length (bytes ++ lines)) ∙ drop-length (bytes ++ lines));
-      behind = inl (ap has_line_feed (drop-length (bytes ++ lines)));
+      following = inl (ap has_line_feed (drop-length (bytes ++ lines)));
       some = λ _. omega (arith, some, length-append bytes lines);
     }
 

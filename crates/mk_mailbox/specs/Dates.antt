@@ -4,7 +4,7 @@ use Rattle.std.specs.Char.{is_ascii_alphabetic, is_ascii_digit}
 use Rattle.std.specs.List.{list_all, starts_with}
 use Rattle.mk_line.specs.Ascii.{colon, hyphen, is_blank, space}
 use Rattle.mk_line.specs.Lines.{is_nil}
-use Rattle.mk_line.specs.Parting.{before, behind}
+use Rattle.mk_line.specs.Parting.{before, following}
 
 -- b'+'
 abbrev pub plus_sign : ℕ
@@ -84,7 +84,7 @@ are_year_and_zone first (Some last) = are_four_digits first && is_zone last || i
 
 -- a year, with a zone or without one
 abbrev pub is_year : List ℕ → Bool
-is_year text = are_year_and_zone (before space text) (behind space text)
+is_year text = are_year_and_zone (before space text) (following space text)
 
 -- a day and its time come first, and a space
 abbrev pub begins_with_moment : List ℕ → Bool

@@ -12,11 +12,11 @@ use Rattle.mk_mailbox.specs.Pieces.{front, later, mailbox_pieces, may_begin, nee
 
 -- the bytes of a text that still belong to a message, and the messages after them
 abbrev pub front_of : FromLines → Bool → List ℕ → List ℕ
-front_of way behind_empty text = text_of (front way behind_empty (cut text))
+front_of way after_empty text = text_of (front way after_empty (cut text))
 
 -- the messages after the one that a text goes on with
 abbrev pub later_of : FromLines → Bool → List ℕ → List (List ℕ)
-later_of way behind_empty text = map text_of (later way behind_empty (cut text))
+later_of way after_empty text = map text_of (later way after_empty (cut text))
 
 -- no byte but the last is a line feed
 abbrev pub IsOneLine : List ℕ → Type 0
@@ -31,7 +31,7 @@ pub record IsWholeLine (line content : List ℕ) : Type 0 where
 
 -- these whole lines belong to one message, whatever follows; the flag tells whether the last of them is empty
 abbrev pub IsOnePiece : FromLines → List ℕ → Bool → Type 0
-IsOnePiece way text behind_empty = (more : List ℕ) → (front_of way false (text ++ more) ≡ text ++ front_of way behind_empty more) × (later_of way false (text ++ more) ≡ later_of way behind_empty more)
+IsOnePiece way text after_empty = (more : List ℕ) → (front_of way false (text ++ more) ≡ text ++ front_of way after_empty more) × (later_of way false (text ++ more) ≡ later_of way after_empty more)
 
 -- a line feed, and the first bytes of a From-line
 abbrev pub feed_and_from : List ℕ
@@ -48,22 +48,22 @@ pub record AreQuiet (text : List ℕ) : Type 0 where
 
 -- a line that begins a message where a field follows it; or none
 abbrev pub IsWaiting : FromLines → Bool → List ℕ → Type 0
-IsWaiting way behind_empty line = (line ≡ []) ⊎ ((content : List ℕ) × IsWholeLine line content × (may_begin way behind_empty content ≡ true) × (needs_field way ≡ true))
+IsWaiting way after_empty line = (line ≡ []) ⊎ ((content : List ℕ) × IsWholeLine line content × (may_begin way after_empty content ≡ true) × (needs_field way ≡ true))
 
 -- the bytes before a place are whole lines of one message; after it stands a line that waits for the next one, or none, and then
 -- at most one line
-pub record IsGathered (way : FromLines) (bytes : List ℕ) (start line : ℕ) (behind_empty : Bool) : Type 0 where
+pub record IsGathered (way : FromLines) (bytes : List ℕ) (start line : ℕ) (after_empty : Bool) : Type 0 where
   pub ordered : start ≤ line
   pub within : line ≤ length bytes
-  pub before : IsOnePiece way (take start bytes) behind_empty
-  pub between : IsWaiting way behind_empty (drop start (take line bytes))
-  pub behind : IsOneLine (drop line bytes)
-  pub some : behind_empty ≡ true → 0 < start
+  pub before : IsOnePiece way (take start bytes) after_empty
+  pub between : IsWaiting way after_empty (drop start (take line bytes))
+  pub following : IsOneLine (drop line bytes)
+  pub some : after_empty ≡ true → 0 < start
 
 -- what the next line tells of a message, where a line waits for it or not
 abbrev pub told_by : FromLines → Bool → Bool → List ℕ → Told
-told_by way true behind_empty content = if is_field_start content then Begins else Belongs
-told_by way false behind_empty content = if may_begin way behind_empty content then (if needs_field way then Waits else Begins) else Belongs
+told_by way true after_empty content = if is_field_start content then Begins else Belongs
+told_by way false after_empty content = if may_begin way after_empty content then (if needs_field way then Waits else Begins) else Belongs
 
 -- a piece is a whole message, whatever follows, and the rest begins the next one
 pub record IsSplit (way : FromLines) (piece old new : List ℕ) : Type 0 where

@@ -14,5 +14,5 @@ held_of i = record { kept = kept_by i; ended = i.ended; from_lines = i.gathered.
 
 -- what is gathered is one message so far, and the chunk is filled up to a place
 pub record IsIntake (i : Intake) : Type 0 where
-  pub gathered : IsGathered i.gathered.from_lines i.gathered.bytes.items i.gathered.start i.gathered.line i.gathered.behind_empty
+  pub gathered : IsGathered i.gathered.from_lines i.gathered.bytes.items i.gathered.start i.gathered.line i.gathered.after_empty
   pub chunk : IsChunk i.chunk.items i.at i.filled

@@ -37,22 +37,22 @@ is_left_alone Fielded text = list_all (λ l. is_nil l.content) (cut text)
 
 -- a From-line that directly follows an empty line begins a message, if the lines after it let it count
 abbrev pub may_begin : FromLines → Bool → List ℕ → Bool
-may_begin way behind_empty content = behind_empty && is_mail_start way content
+may_begin way after_empty content = after_empty && is_mail_start way content
 
 -- a message begins at a From-line that counts and directly follows an empty line
 abbrev pub is_first : FromLines → Bool → List ℕ → List TextLine → Bool
-is_first way behind_empty content ls = may_begin way behind_empty content && is_followed way ls
+is_first way after_empty content ls = may_begin way after_empty content && is_followed way ls
 
 -- the lines that still belong to a message, after an empty line or another one
 abbrev pub front : FromLines → Bool → List TextLine → List TextLine
-front way behind_empty [] = []
-front way behind_empty (l ∷ ls) = if is_first way behind_empty l.content ls then [] else l ∷ front way (is_nil l.content) ls
+front way after_empty [] = []
+front way after_empty (l ∷ ls) = if is_first way after_empty l.content ls then [] else l ∷ front way (is_nil l.content) ls
 
 -- the messages after these lines
 abbrev pub later : FromLines → Bool → List TextLine → List (List TextLine)
-later way behind_empty [] = []
-later way behind_empty (l ∷ ls) =
-    if is_first way behind_empty l.content ls then (l ∷ front way (is_nil l.content) ls) ∷ later way (is_nil l.content) ls
+later way after_empty [] = []
+later way after_empty (l ∷ ls) =
+    if is_first way after_empty l.content ls then (l ∷ front way (is_nil l.content) ls) ∷ later way (is_nil l.content) ls
     else later way (is_nil l.content) ls
 
 -- lines, parted before each line that begins a message

@@ -32,11 +32,11 @@ pub(crate) fn ends_with_date(content: &[u8]) -> bool
     ensures { result ≡ dated content.now }
 {
     let mut rest = content;
-    'each: while let [byte, behind @ ..] = rest {
-        if is_blank(*byte) && is_date(behind) {
+    'each: while let [byte, following @ ..] = rest {
+        if is_blank(*byte) && is_date(following) {
             return true;
         }
-        rest = behind;
+        rest = following;
     }
     false
 }

@@ -25,7 +25,7 @@ pub(crate) struct Gathered {
     /// Where the last of these lines begins.
     pub(crate) line: usize,
     /// Whether the line before that place is empty.
-    pub(crate) behind_empty: bool,
+    pub(crate) after_empty: bool,
     /// Which lines begin a message.
     pub(crate) from_lines: FromLines,
 }
@@ -46,20 +46,20 @@ impl Gathered {
     pub(crate) fn new(alloc: Global, from_lines: FromLines) -> Gathered
         ensures bytes { result.bytes.items ≡ [] }
         ensures from_lines { result.from_lines ≡ from_lines }
-        ensures gathered { IsGathered from_lines result.bytes.items result.start result.line result.behind_empty }
+        ensures gathered { IsGathered from_lines result.bytes.items result.start result.line result.after_empty }
     {
         Gathered {
             bytes: Vec::new(alloc),
             start: 0,
             line: 0,
-            behind_empty: false,
+            after_empty: false,
             from_lines,
         }
     }
 
     // The last line, which isn't known yet.
     fn undecided(&self) -> &[u8]
-        requires { IsGathered self.now.from_lines self.now.bytes.items self.now.start self.now.line self.now.behind_empty }
+        requires { IsGathered self.now.from_lines self.now.bytes.items self.now.start self.now.line self.now.after_empty }
         ensures { result.now ≡ drop self.now.line self.now.bytes.items }
     {
         &self.bytes[self.line..]
@@ -67,7 +67,7 @@ impl Gathered {
 
     // All that isn't known yet.
     fn after_place(&self) -> &[u8]
-        requires { IsGathered self.now.from_lines self.now.bytes.items self.now.start self.now.line self.now.behind_empty }
+        requires { IsGathered self.now.from_lines self.now.bytes.items self.now.start self.now.line self.now.after_empty }
         ensures { result.now ≡ drop self.now.start self.now.bytes.items }
     {
         &self.bytes[self.start..]
@@ -75,10 +75,10 @@ impl Gathered {
 
     /// Puts more of that line after it.
     pub(crate) fn take(&mut self, bytes: &[u8]) -> Result<(), AllocError>
-        requires gathered { IsGathered self.old.from_lines self.old.bytes.items self.old.start self.old.line self.old.behind_empty }
+        requires gathered { IsGathered self.old.from_lines self.old.bytes.items self.old.start self.old.line self.old.after_empty }
         requires undecided { has_line_feed (drop self.old.line self.old.bytes.items) ≡ false }
         requires one_line { IsOneLine bytes.now }
-        ensures gathered { IsGathered self.new.from_lines self.new.bytes.items self.new.start self.new.line self.new.behind_empty }
+        ensures gathered { IsGathered self.new.from_lines self.new.bytes.items self.new.start self.new.line self.new.after_empty }
         ensures ok { OnOk result (self.new.bytes.items ≡ self.old.bytes.items ++ bytes.now) }
         ensures err { OnErr result (self.new.bytes.items ≡ self.old.bytes.items) }
         ensures same { self.new.from_lines ≡ self.old.from_lines }
@@ -95,11 +95,11 @@ impl Gathered {
 
     /// Takes whole lines to the message. None of them can begin another.
     pub(crate) fn take_stretch(&mut self, lines: &[u8]) -> Result<(), AllocError>
-        requires gathered { IsGathered self.old.from_lines self.old.bytes.items self.old.start self.old.line self.old.behind_empty }
+        requires gathered { IsGathered self.old.from_lines self.old.bytes.items self.old.start self.old.line self.old.after_empty }
         requires between { self.old.start ≡ length self.old.bytes.items }
         requires quiet { AreQuiet lines.now }
         requires some { 0 < length lines.now }
-        ensures gathered { IsGathered self.new.from_lines self.new.bytes.items self.new.start self.new.line self.new.behind_empty }
+        ensures gathered { IsGathered self.new.from_lines self.new.bytes.items self.new.start self.new.line self.new.after_empty }
         ensures undecided { OnOk result (has_line_feed (drop self.new.line self.new.bytes.items) ≡ false) }
         ensures ok { OnOk result (self.new.bytes.items ≡ self.old.bytes.items ++ lines.now) }
         ensures err { OnErr result (self.new.bytes.items ≡ self.old.bytes.items) }
@@ -108,16 +108,16 @@ impl Gathered {
         self.bytes.extend_from_slice(lines)?;
         self.start = self.bytes.len();
         self.line = self.start;
-        self.behind_empty = end_with_empty(lines);
+        self.after_empty = end_with_empty(lines);
         Ok(())
     }
 
     /// Where the line has come to its end: takes it to the message, or gives the message before it.
     pub(crate) fn decide(&mut self) -> Result<Option<Vec<u8>>, AllocError>
-        requires { IsGathered self.old.from_lines self.old.bytes.items self.old.start self.old.line self.old.behind_empty }
+        requires { IsGathered self.old.from_lines self.old.bytes.items self.old.start self.old.line self.old.after_empty }
         ensures piece { IfOk result (λ o. MatchOption o (self.new.bytes.items ≡ self.old.bytes.items) (λ piece. IsSplit self.old.from_lines piece.items self.old.bytes.items self.new.bytes.items)) }
         ensures undecided { IfOk result (λ o. IfNone o (has_line_feed (drop self.new.line self.new.bytes.items) ≡ false)) }
-        ensures gathered { IsGathered self.new.from_lines self.new.bytes.items self.new.start self.new.line self.new.behind_empty }
+        ensures gathered { IsGathered self.new.from_lines self.new.bytes.items self.new.start self.new.line self.new.after_empty }
         ensures err { OnErr result (self.new.bytes.items ≡ self.old.bytes.items) }
         ensures same { self.new.from_lines ≡ self.old.from_lines }
     {
@@ -132,7 +132,7 @@ impl Gathered {
                 Ok(None)
             }
             Told::Belongs => {
-                self.behind_empty = is_empty;
+                self.after_empty = is_empty;
                 self.start = self.bytes.len();
                 self.line = self.start;
                 Ok(None)
@@ -142,7 +142,7 @@ impl Gathered {
 
     // What the last line tells, by its content.
     fn told(&self, content: &[u8]) -> Told
-        ensures { result ≡ told_by self.now.from_lines (nat_lt self.now.start self.now.line) self.now.behind_empty content.now }
+        ensures { result ≡ told_by self.now.from_lines (nat_lt self.now.start self.now.line) self.now.after_empty content.now }
     {
         if self.start < self.line {
             if name_len(content).is_some() {
@@ -150,7 +150,7 @@ impl Gathered {
             }
             return Told::Belongs;
         }
-        if !begins_message(self.from_lines, self.behind_empty, content) {
+        if !begins_message(self.from_lines, self.after_empty, content) {
             return Told::Belongs;
         }
         if self.from_lines.needs_field() {
@@ -161,11 +161,11 @@ impl Gathered {
 
     /// Gives the first message of what was gathered, where the input has ended.
     pub(crate) fn last(&mut self) -> Result<Option<Vec<u8>>, AllocError>
-        requires gathered { IsGathered self.old.from_lines self.old.bytes.items self.old.start self.old.line self.old.behind_empty }
+        requires gathered { IsGathered self.old.from_lines self.old.bytes.items self.old.start self.old.line self.old.after_empty }
         requires undecided { has_line_feed (drop self.old.line self.old.bytes.items) ≡ false }
         ensures piece { IfOk result (λ o. MatchOption o (self.old.bytes.items ≡ []) (λ piece. IsLastSplit self.old.from_lines piece.items self.old.bytes.items self.new.bytes.items)) }
         ensures none { IfOk result (λ o. IfNone o (self.new.bytes.items ≡ [])) }
-        ensures gathered { IsGathered self.new.from_lines self.new.bytes.items self.new.start self.new.line self.new.behind_empty }
+        ensures gathered { IsGathered self.new.from_lines self.new.bytes.items self.new.start self.new.line self.new.after_empty }
         ensures err { OnErr result (self.new.bytes.items ≡ self.old.bytes.items) }
         ensures same { self.new.from_lines ≡ self.old.from_lines }
     {
@@ -180,10 +180,10 @@ impl Gathered {
 
     // Gives the bytes before the place, and begins a message with those after it, of which the last line isn't known then.
     fn split(&mut self) -> Result<Vec<u8>, AllocError>
-        requires { IsGathered self.old.from_lines self.old.bytes.items self.old.start self.old.line self.old.behind_empty }
+        requires { IsGathered self.old.from_lines self.old.bytes.items self.old.start self.old.line self.old.after_empty }
         ensures piece { IfOk result (λ piece. piece.items ≡ take self.old.start self.old.bytes.items) }
         ensures rest { OnOk result (self.new.bytes.items ≡ drop self.old.start self.old.bytes.items) }
-        ensures gathered { IsGathered self.new.from_lines self.new.bytes.items self.new.start self.new.line self.new.behind_empty }
+        ensures gathered { IsGathered self.new.from_lines self.new.bytes.items self.new.start self.new.line self.new.after_empty }
         ensures err { OnErr result (self.new.bytes.items ≡ self.old.bytes.items) }
         ensures same { self.new.from_lines ≡ self.old.from_lines }
     {
@@ -191,7 +191,7 @@ impl Gathered {
         self.bytes.truncate(self.start);
         self.line -= self.start;
         self.start = self.line;
-        self.behind_empty = false;
+        self.after_empty = false;
         Ok(mem::replace(&mut self.bytes, rest))
     }
 
@@ -200,12 +200,12 @@ impl Gathered {
         ensures all { result.items ≡ self.old.bytes.items }
         ensures none { self.new.bytes.items ≡ [] }
         ensures same { self.new.from_lines ≡ self.old.from_lines }
-        ensures gathered { IsGathered self.new.from_lines self.new.bytes.items self.new.start self.new.line self.new.behind_empty }
+        ensures gathered { IsGathered self.new.from_lines self.new.bytes.items self.new.start self.new.line self.new.after_empty }
     {
         let none = Vec::new(*self.bytes.allocator());
         self.start = 0;
         self.line = 0;
-        self.behind_empty = false;
+        self.after_empty = false;
         mem::replace(&mut self.bytes, none)
     }
 }
@@ -257,8 +257,8 @@ fn before_return(bytes: &[u8]) -> Option<&[u8]>
 }
 
 // Whether a line begins a message, by whether the line before it is empty, if what follows it lets it.
-fn begins_message(from_lines: FromLines, behind_empty: bool, content: &[u8]) -> bool
-    ensures { result ≡ may_begin from_lines behind_empty content.now }
+fn begins_message(from_lines: FromLines, after_empty: bool, content: &[u8]) -> bool
+    ensures { result ≡ may_begin from_lines after_empty content.now }
 {
-    behind_empty && from_lines.begin_with(content)
+    after_empty && from_lines.begin_with(content)
 }

@@ -194,10 +194,10 @@ fn take_stretch(
     filled: usize,
     stretches: &Stretches,
 ) -> Result<usize, AllocError>
-    requires gathered { IsGathered gathered.old.from_lines gathered.old.bytes.items gathered.old.start gathered.old.line gathered.old.behind_empty }
+    requires gathered { IsGathered gathered.old.from_lines gathered.old.bytes.items gathered.old.start gathered.old.line gathered.old.after_empty }
     requires undecided { has_line_feed (drop gathered.old.line gathered.old.bytes.items) ≡ false }
     requires chunk { IsChunk chunk.now at filled }
-    ensures gathered { IsGathered gathered.new.from_lines gathered.new.bytes.items gathered.new.start gathered.new.line gathered.new.behind_empty }
+    ensures gathered { IsGathered gathered.new.from_lines gathered.new.bytes.items gathered.new.start gathered.new.line gathered.new.after_empty }
     ensures undecided { OnOk result (has_line_feed (drop gathered.new.line gathered.new.bytes.items) ≡ false) }
     ensures ok { IfOk result (λ count. gathered.new.bytes.items ++ unread chunk.now (at + count) filled ≡ gathered.old.bytes.items ++ unread chunk.now at filled) }
     ensures within { IfOk result (λ count. at + count ≤ filled) }
@@ -223,11 +223,11 @@ fn take_from(
     at: usize,
     filled: usize,
 ) -> Result<usize, AllocError>
-    requires gathered { IsGathered gathered.old.from_lines gathered.old.bytes.items gathered.old.start gathered.old.line gathered.old.behind_empty }
+    requires gathered { IsGathered gathered.old.from_lines gathered.old.bytes.items gathered.old.start gathered.old.line gathered.old.after_empty }
     requires undecided { has_line_feed (drop gathered.old.line gathered.old.bytes.items) ≡ false }
     requires chunk { IsChunk chunk.now at filled }
     requires more { at < filled }
-    ensures gathered { IsGathered gathered.new.from_lines gathered.new.bytes.items gathered.new.start gathered.new.line gathered.new.behind_empty }
+    ensures gathered { IsGathered gathered.new.from_lines gathered.new.bytes.items gathered.new.start gathered.new.line gathered.new.after_empty }
     ensures ok { IfOk result (λ count. gathered.new.bytes.items ++ unread chunk.now (at + count) filled ≡ gathered.old.bytes.items ++ unread chunk.now at filled) }
     ensures some { IfOk result (λ count. 0 < count) }
     ensures within { IfOk result (λ count. at + count ≤ filled) }

@@ -73,12 +73,12 @@ fn is_uncut(from_lines: FromLines, text: &[u8]) -> bool
 {
     let mut after_empty = false;
     let mut rest = text;
-    'each: while let Some((line, behind)) = first_line(rest) {
-        if after_empty && from_lines.begin_before(line.content, behind) {
+    'each: while let Some((line, following)) = first_line(rest) {
+        if after_empty && from_lines.begin_before(line.content, following) {
             return false;
         }
         after_empty = line.content.is_empty();
-        rest = behind;
+        rest = following;
     }
     true
 }

@@ -10,7 +10,7 @@ use Rattle.mk_transfer.specs.declared.status.Cause.{Cause}
 use Rattle.mk_transfer.specs.declared.transfer.Stop.{Stop}
 use Rattle.mk_transfer.specs.declared.transfer.Stop.TheVariants.{Fault as Stopped, Memory as Wanting}
 use Rattle.mk_transfer.specs.RunClauses.{Counts, IsBlamed, cause_of_writing}
-use Rattle.mk_transfer.proofs.Fronts.{AppendsFront-behind, AppendsFront-none}
+use Rattle.mk_transfer.proofs.Fronts.{AppendsFront-following, AppendsFront-none}
 use Rattle.mk_messages.specs.MessageLines.{lines_from, mailbox_listing, message_line}
 use Rattle.mk_messages.proofs.Taken.{AreTaken, size_of}
 
@@ -56,14 +56,14 @@ line_out turn start m done out mid after t s a b =
 pub stopped_within : (way : FromLines) (turn start : ℕ) (text m : List ℕ) (done rest : List (List ℕ)) (out mid after : Option (List ℕ)) → turn ≡ length done → start ≡ size_of done → mailbox_pieces way text ≡ done ++ (m ∷ rest)
     → Appends out mid (lines_from 1 0 done) → AppendsFront mid after (message_line (turn + 1) start m) → AppendsFront out after (mailbox_listing way text)
 stopped_within way turn start text m done rest out mid after t s e a b =
-    AppendsFront-behind out mid after (lines_from 1 0 done) (message_line (turn + 1) start m) (lines_from (suc (1 + length done)) ((0 + size_of done) + length m) rest) (mailbox_listing way text) a b
+    AppendsFront-following out mid after (lines_from 1 0 done) (message_line (turn + 1) start m) (lines_from (suc (1 + length done)) ((0 + size_of done) + length m) rest) (mailbox_listing way text) a b
     (ap (lines_from 1 0) e ∙ lines_more turn start m done rest t s)
 
 -- the listing stopped between two lines
 pub stopped_between : (way : FromLines) (text : List ℕ) (done rest : List (List ℕ)) (out after : Option (List ℕ)) → mailbox_pieces way text ≡ done ++ rest
     → Appends out after (lines_from 1 0 done) → AppendsFront out after (mailbox_listing way text)
 stopped_between way text done rest out after e a =
-    AppendsFront-behind out after after (lines_from 1 0 done) [] (lines_from (1 + length done) (0 + size_of done) rest) (mailbox_listing way text) a (AppendsFront-none after [])
+    AppendsFront-following out after after (lines_from 1 0 done) [] (lines_from (1 + length done) (0 + size_of done) rest) (mailbox_listing way text) a (AppendsFront-none after [])
     (ap (lines_from 1 0) e ∙ lines_append 1 0 done rest)
 
 -- the same where nothing more was read

@@ -66,7 +66,7 @@ joined_none : (out : List ℕ) (segment : Segment) (others : List Segment) (all 
     → None ≡ all
 joined_none out segment others all h before = stop out (segment_bytes segment) (joined others) h ∙ before
 
--- the segments from a place on are the one there and those behind it
+-- the segments from a place on are the one there and those after it
 segments_at : (xs : List SegmentIn) (i : ℕ) (d : SegmentIn) → i < length xs → map segment_of (drop i xs) ≡ segment_of (get_or xs i d) ∷ map segment_of (drop (i + 1) xs)
 segments_at xs i d l = ap (map segment_of) (drop-cons xs i d l ∙ ap (λ n. get_or xs i d ∷ drop n xs) (sym (add-one i)))
 

@@ -51,7 +51,7 @@ pub some_mapped : {A B : Type 0} (f : A → B) (found : Option A) → is_some (o
 some_mapped f None = refl
 some_mapped f (Some x) = refl
 
--- the items from a place on are the one there and those behind it
+-- the items from a place on are the one there and those after it
 pub items_at : {A : Type 0} (xs : List A) (i : ℕ) (x : A) → i < length xs → x ≡ get_or xs i x → drop i xs ≡ x ∷ drop (i + 1) xs
 items_at xs i x l e = drop-cons xs i x l ∙ ap (λ y. y ∷ drop (suc i) xs) (sym e) ∙ ap (λ n. x ∷ drop n xs) (sym (add-one i))
 

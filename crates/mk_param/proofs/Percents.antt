@@ -10,13 +10,13 @@ use Rattle.mk_code.proofs.OutputCuts.{differs}
 use Rattle.mk_param.specs.Percents.{is_attribute_byte, percent_decoded, percent_encoded, percent_sign}
 
 -- a step of the loop over a text with percent signs
-behind_out : (out new : List ℕ) (byte : ℕ) (rest : Option (List ℕ)) → new ≡ out ++ byte ∷ [] → option_map (λ bytes. new ++ bytes) rest ≡ option_map (λ bytes. out ++ bytes) (put_before byte rest)
-behind_out out new byte None p = refl
-behind_out out new byte (Some bytes) p = ap Some (ap (λ xs. xs ++ bytes) p ∙ append_assoc out (byte ∷ []) bytes)
+after_out : (out new : List ℕ) (byte : ℕ) (rest : Option (List ℕ)) → new ≡ out ++ byte ∷ [] → option_map (λ bytes. new ++ bytes) rest ≡ option_map (λ bytes. out ++ bytes) (put_before byte rest)
+after_out out new byte None p = refl
+after_out out new byte (Some bytes) p = ap Some (ap (λ xs. xs ++ bytes) p ∙ append_assoc out (byte ∷ []) bytes)
 
-pub percent_step : (rest behind out new : List ℕ) (byte : ℕ) (all : Option (List ℕ)) → percent_decoded rest ≡ put_before byte (percent_decoded behind) → new ≡ out ++ byte ∷ [] → option_map (λ bytes. out ++ bytes) (percent_decoded rest) ≡ all
-    → option_map (λ bytes. new ++ bytes) (percent_decoded behind) ≡ all
-percent_step rest behind out new byte all e p h = behind_out out new byte (percent_decoded behind) p ∙ (ap (option_map (λ bytes. out ++ bytes)) (sym e) ∙ h)
+pub percent_step : (rest following out new : List ℕ) (byte : ℕ) (all : Option (List ℕ)) → percent_decoded rest ≡ put_before byte (percent_decoded following) → new ≡ out ++ byte ∷ [] → option_map (λ bytes. out ++ bytes) (percent_decoded rest) ≡ all
+    → option_map (λ bytes. new ++ bytes) (percent_decoded following) ≡ all
+percent_step rest following out new byte all e p h = after_out out new byte (percent_decoded following) p ∙ (ap (option_map (λ bytes. out ++ bytes)) (sym e) ∙ h)
 
 -- a byte other than a percent sign stands for itself
 decoded_other : (byte : ℕ) (bytes : List ℕ) → (byte == percent_sign) ≡ false → percent_decoded (byte ∷ bytes) ≡ put_before byte (percent_decoded bytes)

@@ -9,7 +9,7 @@ use Rattle.mk_head.specs.Values.{param_of}
 use Rattle.mk_code.specs.EncodedWords.{in_utf8, words_decoded}
 use Rattle.mk_param.specs.Percents.{apostrophe}
 use Rattle.mk_param.specs.Segments.{Segment, Plain, Encoded, encoded_name, segments_from}
-use Rattle.mk_param.specs.Extended.{as_text, behind_language, extended_text, joined, segments_text, text_in, when}
+use Rattle.mk_param.specs.Extended.{as_text, after_language, extended_text, joined, segments_text, text_in, when}
 use Rattle.mk_param.specs.Said.{plain_text, said_text}
 
 -- each text that may come out is UTF-8
@@ -39,7 +39,7 @@ segments_utf8 [] t h = absurd cc
 segments_utf8 (Plain value ∷ others) t h = and_then_utf8 as_text as_text_utf8 (joined (Plain value ∷ others)) t h
 segments_utf8 (Encoded value ∷ others) t h =
     and_then_utf8 (λ text. option_and_then (text_in (before apostrophe value)) (joined (Encoded text ∷ others)))
-    (λ text. and_then_utf8 (text_in (before apostrophe value)) (text_in_utf8 (before apostrophe value)) (joined (Encoded text ∷ others))) (behind_language value) t h
+    (λ text. and_then_utf8 (text_in (before apostrophe value)) (text_in_utf8 (before apostrophe value)) (joined (Encoded text ∷ others))) (after_language value) t h
 
 pub said_utf8 : (name : List ℕ) (params : List (List ℕ × List ℕ)) (t : List ℕ) → said_text name params ≡ Some t → IsUtf8 t
 unfolding said_text

@@ -2,7 +2,7 @@
 use Rattle.std.specs.Prelude.{◌++◌, ℕ, Bool, true, false, List, [], ◌∷◌, Option, Some, None, option_and_then}
 use Rattle.std.specs.Option.{option_map}
 use Rattle.std.specs.Str.{is_utf8, str_to_ascii_lowercase}
-use Rattle.mk_line.specs.Parting.{before, behind}
+use Rattle.mk_line.specs.Parting.{before, following}
 use Rattle.mk_code.specs.EncodedWords.{in_utf8}
 use Rattle.mk_param.specs.Percents.{apostrophe, percent_decoded}
 use Rattle.mk_param.specs.Segments.{Segment, Plain, Encoded}
@@ -21,8 +21,8 @@ abbrev pub text_in : List ℕ → List ℕ → Option (List ℕ)
 text_in charset bytes = option_and_then as_text (in_utf8 (str_to_ascii_lowercase charset) bytes)
 
 -- what follows the second apostrophe, which ends the language (RFC 2231, 4)
-abbrev pub behind_language : List ℕ → Option (List ℕ)
-behind_language value = option_and_then (behind apostrophe) (behind apostrophe value)
+abbrev pub after_language : List ℕ → Option (List ℕ)
+after_language value = option_and_then (following apostrophe) (following apostrophe value)
 
 -- the bytes of a segment, if they can be read
 abbrev pub segment_bytes : Segment → Option (List ℕ)
@@ -40,7 +40,7 @@ abbrev pub segments_text : List Segment → Option (List ℕ)
 segments_text [] = None
 segments_text (Plain value ∷ others) = option_and_then as_text (joined (Plain value ∷ others))
 segments_text (Encoded value ∷ others) =
-    option_and_then (λ text. option_and_then (text_in (before apostrophe value)) (joined (Encoded text ∷ others))) (behind_language value)
+    option_and_then (λ text. option_and_then (text_in (before apostrophe value)) (joined (Encoded text ∷ others))) (after_language value)
 
 -- the text of a value with a charset: it is the only segment (RFC 2231, 4)
 abbrev pub extended_text : List ℕ → Option (List ℕ)

@@ -32,11 +32,11 @@ pub(crate) fn push_decoded(out: &mut Vec<u8>, text: &[u8]) -> Result<bool, Alloc
 {
     let mut rest = text;
     while !rest.is_empty() {
-        let Some((byte, behind)) = first_byte(rest) else {
+        let Some((byte, following)) = first_byte(rest) else {
             return Ok(false);
         };
         out.push(byte)?;
-        rest = behind;
+        rest = following;
     }
     Ok(true)
 }
@@ -49,8 +49,8 @@ fn first_byte(text: &[u8]) -> Option<(u8, &[u8])>
     ensures less { IfSome result (λ p. length p.1.now < length text.now) }
 {
     match text {
-        [PERCENT, behind @ ..] => Some((pair(behind)?, &behind[DIGITS..])),
-        [byte, behind @ ..] => Some((*byte, behind)),
+        [PERCENT, following @ ..] => Some((pair(following)?, &following[DIGITS..])),
+        [byte, following @ ..] => Some((*byte, following)),
         [] => None,
     }
 }

@@ -24,17 +24,17 @@ reason_name NothingToRedo = codes "NothingToRedo"
 reason_name (Member index reason) = reason_name reason
 
 -- after the name stands the path of the multipart of which a line would be a mark: a front of the edit's path
-abbrev pub behind_name : List ℕ → Refusal → List ℕ
-behind_name path (HoldsBoundary level) = space ∷ path_text (take level path)
-behind_name path reason = []
+abbrev pub after_name : List ℕ → Refusal → List ℕ
+after_name path (HoldsBoundary level) = space ∷ path_text (take level path)
+after_name path reason = []
 
 -- the line that reports a refusal
 abbrev pub error_line : ℕ → List ℕ → Refusal → List ℕ
-error_line number path reason = codes "line " ++ (decimal number ++ (codes ": " ++ (reason_name reason ++ (behind_name path reason ++ line_feed ∷ []))))
+error_line number path reason = codes "line " ++ (decimal number ++ (codes ": " ++ (reason_name reason ++ (after_name path reason ++ line_feed ∷ []))))
 
 -- the line that reports a message for which an edit at a path is refused, by its number from 1 on
 abbrev pub message_line_at : List ℕ → ℕ → Refusal → List ℕ
-message_line_at path number reason = codes "message " ++ (decimal number ++ (codes ": " ++ (reason_name reason ++ (behind_name path reason ++ line_feed ∷ []))))
+message_line_at path number reason = codes "message " ++ (decimal number ++ (codes ": " ++ (reason_name reason ++ (after_name path reason ++ line_feed ∷ []))))
 
 -- the same of an edit at the root
 abbrev pub message_line : ℕ → Refusal → List ℕ

@@ -2,7 +2,7 @@
 
 ghost use Rattle.std.specs.Prelude.{◌≡◌, ◌++◌, IfOk, OnOk, IfSome};
 ghost use Rattle.mk_decide.specs.Answers.{refusal_of};
-ghost use Rattle.mk_report.specs.Reports.{reason_name as name_of, behind_name, error_line, message_line as line_of_message, message_line_at};
+ghost use Rattle.mk_report.specs.Reports.{reason_name as name_of, after_name, error_line, message_line as line_of_message, message_line_at};
 ghost use Rattle.mk_transfer.specs.RunClauses.{Sends};
 
 use mk_decide::EditError;
@@ -99,7 +99,7 @@ fn message_line(
 
 // Writes what follows the name: the path of the multipart of which a line would be a delimiter.
 fn push_place(line: &mut Vec<u8>, path: &[u32], reason: EditError) -> Result<(), AllocError>
-    ensures { OnOk result (IfSome (refusal_of reason) (λ refusal. line.new.items ≡ line.old.items ++ behind_name path.now refusal)) }
+    ensures { OnOk result (IfSome (refusal_of reason) (λ refusal. line.new.items ≡ line.old.items ++ after_name path.now refusal)) }
 {
     if let EditError::HoldsBoundary { level } = reason {
         line.push(SPACE)?;

@@ -10,7 +10,7 @@ use Rattle.mk_splice.specs.Splices.{Splice}
 use Rattle.mk_decide.specs.Edits.{PlainEdit, AddField, RemoveField, RenameField, SetField, SetBody, SetSection, InsertPart, RemovePart, Wrap, Refusal}
 use Rattle.mk_decide.specs.EditSplices.{splices_of}
 use Rattle.mk_decide.specs.Outcomes.{edited}
-use Rattle.mk_edit.specs.Groups.{Together, behind, made_on, together}
+use Rattle.mk_edit.specs.Groups.{Together, following, made_on, together}
 use Rattle.mk_edit.specs.History.{History}
 use Rattle.mk_edit.specs.Histories.{text_now}
 use Rattle.mk_expand.specs.Meanings.{Meaning}
@@ -78,13 +78,13 @@ told numbers es (Err q) = Err (EditRefused (slice_index_or numbers q.0 0) (path_
 one_more : (k : ℕ) → 1 + k ≡ suc k
 one_more k = omega arith
 
-told_behind : (ss : List Splice) (number : ℕ) (numbers : List ℕ) (e : PlainEdit) (es : List PlainEdit) (r : Together) → after_splices (ss ++ []) (told numbers es r) ≡ told (number ∷ numbers) (e ∷ es) (behind 1 ss r)
-told_behind ss number numbers e es (Ok p) = ap (λ rs. Ok (p.0, rs ++ p.1)) (append-nil ss)
-told_behind ss number numbers e es (Err q) = sym (ap (λ k. Err (EditRefused (slice_index_or (number ∷ numbers) k 0) (path_in (e ∷ es) k) q.1)) (one_more q.0))
+told_after : (ss : List Splice) (number : ℕ) (numbers : List ℕ) (e : PlainEdit) (es : List PlainEdit) (r : Together) → after_splices (ss ++ []) (told numbers es r) ≡ told (number ∷ numbers) (e ∷ es) (following 1 ss r)
+told_after ss number numbers e es (Ok p) = ap (λ rs. Ok (p.0, rs ++ p.1)) (append-nil ss)
+told_after ss number numbers e es (Err q) = sym (ap (λ k. Err (EditRefused (slice_index_or (number ∷ numbers) k 0) (path_in (e ∷ es) k) q.1)) (one_more q.0))
 
 told_next : (ss : List Splice) (number : ℕ) (numbers : List ℕ) (e : PlainEdit) (es : List PlainEdit) (f : Document → Made) (r : Result Document Refusal) → ((u : Document) → f u ≡ told numbers es (together es u))
     → then_make (edits_made number (e ∷ []) (made_on ss (together []) r)) f ≡ told (number ∷ numbers) (e ∷ es) (made_on ss (together es) r)
-told_next ss number numbers e es f (Ok u) later = ap (after_splices (ss ++ [])) (later u) ∙ told_behind ss number numbers e es (together es u)
+told_next ss number numbers e es f (Ok u) later = ap (after_splices (ss ++ [])) (later u) ∙ told_after ss number numbers e es (together es u)
 told_next ss number numbers e es f (Err x) later = refl
 
 -- words that stand for one edit each make what these edits make

@@ -12,7 +12,7 @@ use Rattle.mk_decide.specs.Answers.{IsRefusedBy}
 use Rattle.mk_decide.specs.Edits.{PlainEdit, path_of, Refusal, Do, Group}
 use Rattle.mk_decide.specs.EditSplices.{splices_of}
 use Rattle.mk_decide.specs.Outcomes.{edited}
-use Rattle.mk_edit.specs.Groups.{Together, behind, made_on, together}
+use Rattle.mk_edit.specs.Groups.{Together, following, made_on, together}
 use Rattle.mk_edit.specs.History.{History}
 use Rattle.mk_edit.specs.Histories.{AreLinked, IsHistory, edited_by, grouped_by, left_by, step, text_now, with_step}
 use Rattle.mk_edit.proofs.GroupFacts.{groups_read_back_lem}
@@ -32,18 +32,18 @@ use Rattle.mk_run.specs.inner.Making.{MadeSo, fault_in, path_in}
 
 -- ---- edits after edits
 
-behind_ok : (ss : List Splice) (r : Together) (p : Document × List Splice) → behind 1 ss r ≡ Ok p → (q : Document × List Splice) × (r ≡ Ok q) × (p ≡ (q.0, ss ++ q.1))
-behind_ok ss (Ok q) p e = (q, refl, let same : p ≡ (q.0, ss ++ q.1) = cc in same)
-behind_ok ss (Err q) p e = absurd (let bad : ◌≡◌ {A = Together} (Err (1 + q.0, q.1)) (Ok p) = e in cc)
+after_ok : (ss : List Splice) (r : Together) (p : Document × List Splice) → following 1 ss r ≡ Ok p → (q : Document × List Splice) × (r ≡ Ok q) × (p ≡ (q.0, ss ++ q.1))
+after_ok ss (Ok q) p e = (q, refl, let same : p ≡ (q.0, ss ++ q.1) = cc in same)
+after_ok ss (Err q) p e = absurd (let bad : ◌≡◌ {A = Together} (Err (1 + q.0, q.1)) (Ok p) = e in cc)
 
 made_append : (ss : List Splice) (es fs : List PlainEdit) (r : Result Document Refusal) (p q : Document × List Splice)
     → ((u : Document) (s : Document × List Splice) → together es u ≡ Ok s → together fs s.0 ≡ Ok q → together (es ++ fs) u ≡ Ok (q.0, s.1 ++ q.1))
     → made_on ss (together es) r ≡ Ok p → together fs p.0 ≡ Ok q → made_on ss (together (es ++ fs)) r ≡ Ok (q.0, p.1 ++ q.1)
 made_append ss es fs (Err x) p q ih one two = absurd (let bad : ◌≡◌ {A = Together} (Err (0, x)) (Ok p) = one in cc)
 made_append ss es fs (Ok u) p q ih one two =
-    let b = behind_ok ss (together es u) p one in
+    let b = after_ok ss (together es u) p one in
     let next : together fs b.0.0 ≡ Ok q = subst (λ (r : Document × List Splice). together fs r.0 ≡ Ok q) b.2 two in
-    ap (behind 1 ss) (ih u b.0 b.1 next) ∙ (ap (λ l. Ok (q.0, l)) (sym (append_assoc ss b.0.1 q.1)) ∙ ap (λ (r : Document × List Splice). Ok (q.0, r.1 ++ q.1)) (sym b.2))
+    ap (following 1 ss) (ih u b.0 b.1 next) ∙ (ap (λ l. Ok (q.0, l)) (sym (append_assoc ss b.0.1 q.1)) ∙ ap (λ (r : Document × List Splice). Ok (q.0, r.1 ++ q.1)) (sym b.2))
 
 -- edits that are made after others are made with them
 pub together_append : (es fs : List PlainEdit) (t : Document) (p q : Document × List Splice) → together es t ≡ Ok p → together fs p.0 ≡ Ok q → together (es ++ fs) t ≡ Ok (q.0, p.1 ++ q.1)

@@ -8,7 +8,7 @@ use Rattle.std.specs.Fmt.{decimal}
 use Rattle.std.specs.List.{list_all}
 use Rattle.std.specs.Char.{digit_value, is_digit}
 use Rattle.std.specs.Str.Parse.{AllDigits, digits_value}
-use Rattle.mk_script.specs.Paths.{number_of, number_behind, zero_digit}
+use Rattle.mk_script.specs.Paths.{number_of, number_after, zero_digit}
 
 pub some_same : {A : Type 0} {a b : A} → Some a ≡ Some b → a ≡ b
 some_same e = cc
@@ -38,9 +38,9 @@ positive_from zero byte bytes first e =
 positive_from (suc n) byte bytes first e = omega arith
 
 -- a number that is read was written in decimal digits
-number_behind-decimal : (n byte : ℕ) (bytes : List ℕ) → byte ≢ zero_digit → number_behind 0 (byte ∷ bytes) ≡ Some n
+number_after-decimal : (n byte : ℕ) (bytes : List ℕ) → byte ≢ zero_digit → number_after 0 (byte ∷ bytes) ≡ Some n
     → (0 < n) × (n < 2 ^ 32) × (byte ∷ bytes ≡ decimal n)
-number_behind-decimal n byte bytes first e =
+number_after-decimal n byte bytes first e =
     let text = byte ∷ bytes in
     let value = digits_value 10 text in
     elim (cases_Bool (list_all (λ b. is_digit b 10) text)) [
@@ -60,7 +60,7 @@ pub number_of-decimal : (text : List ℕ) (n : ℕ) → number_of text ≡ Some 
 number_of-decimal [] n e = absurd (none_some e)
 number_of-decimal (byte ∷ bytes) n e = elim (eqb_tells byte zero_digit) [
   | inl h ↦ absurd (none_some (rw h.0 at e))
-  | inr h ↦ number_behind-decimal n byte bytes h.1 (rw h.0 at e)
+  | inr h ↦ number_after-decimal n byte bytes h.1 (rw h.0 at e)
 ]
 
 number_of-text : (text : List ℕ) (n : ℕ) → text ≡ decimal n → 0 < n → n < 2 ^ 32 → number_of text ≡ Some n

@@ -6,7 +6,7 @@ use Rattle.std.proofs.lemmas.List.{drop_all}
 use Rattle.std.specs.List.{list_all, position_or_len}
 use Rattle.std.specs.Char.{digit_value, is_digit}
 use Rattle.std.specs.Str.Parse.{digits_value_after}
-use Rattle.mk_script.specs.Paths.{number_behind, pieces_of, parted, onto_first_piece}
+use Rattle.mk_script.specs.Paths.{number_after, pieces_of, parted, onto_first_piece}
 
 -- more digits make no smaller number
 digits_value_after-ge : (n : ℕ) (digits : List ℕ) → n ≤ digits_value_after 10 n digits
@@ -15,23 +15,23 @@ digits_value_after-ge n (d ∷ ds) =
     let rest : n * 10 + digit_value d ≤ digits_value_after 10 (n * 10 + digit_value d) ds = digits_value_after-ge (n * 10 + digit_value d) ds in
     omega arith
 
-number_behind-large : (n : ℕ) (digits : List ℕ) → 2 ^ 32 ≤ digits_value_after 10 n digits → number_behind n digits ≡ None
-number_behind-large n digits h =
+number_after-large : (n : ℕ) (digits : List ℕ) → 2 ^ 32 ≤ digits_value_after 10 n digits → number_after n digits ≡ None
+number_after-large n digits h =
     let large : nat_lt (digits_value_after 10 n digits) (2 ^ 32) ≡ false = le-ltb _ _ h in
     elim (cases_Bool (list_all (λ byte. is_digit byte 10) digits)) [ inl t ↦ rw (t, large) refl | inr f ↦ rw f refl ]
 
 -- a number that no longer fits with the digit at a place
-pub number_behind-overflow : (n : ℕ) (text : List ℕ) (place digit : ℕ) → place < length text → digit ≤ digit_value (get_or text place 0)
-    → 2 ^ 32 ≤ n * 10 + digit → number_behind n (drop place text) ≡ None
-number_behind-overflow n text place digit within least large =
+pub number_after-overflow : (n : ℕ) (text : List ℕ) (place digit : ℕ) → place < length text → digit ≤ digit_value (get_or text place 0)
+    → 2 ^ 32 ≤ n * 10 + digit → number_after n (drop place text) ≡ None
+number_after-overflow n text place digit within least large =
     let value = digit_value (get_or text place 0) in
     let rest = drop (suc place) text in
     let more : n * 10 + value ≤ digits_value_after 10 (n * 10 + value) rest = digits_value_after-ge (n * 10 + value) rest in
-    rw (drop-cons text place 0 within) (number_behind-large n (get_or text place 0 ∷ rest) (omega arith))
+    rw (drop-cons text place 0 within) (number_after-large n (get_or text place 0 ∷ rest) (omega arith))
 
 -- with no digit left the number is read
-pub number_behind-done : (n : ℕ) (text : List ℕ) (place : ℕ) → n < 2 ^ 32 → length text ≤ place → number_behind n (drop place text) ≡ Some n
-number_behind-done n text place small past =
+pub number_after-done : (n : ℕ) (text : List ℕ) (place : ℕ) → n < 2 ^ 32 → length text ≤ place → number_after n (drop place text) ≡ Some n
+number_after-done n text place small past =
     let fits : nat_lt n (2 ^ 32) ≡ true = lt-ltb _ _ small in
     rw (drop_all place text past, fits) refl
 

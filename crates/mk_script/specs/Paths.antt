@@ -32,20 +32,20 @@ pieces_of separator [] = [] ∷ []
 pieces_of separator (byte ∷ bytes) = if byte == separator then [] ∷ pieces_of separator bytes else onto_first_piece byte (pieces_of separator bytes)
 
 -- the pieces of the text after a separator, where there was one
-abbrev pub pieces_behind : ℕ → Option (List ℕ) → List (List ℕ)
-pieces_behind separator None = []
-pieces_behind separator (Some text) = pieces_of separator text
+abbrev pub pieces_after : ℕ → Option (List ℕ) → List (List ℕ)
+pieces_after separator None = []
+pieces_after separator (Some text) = pieces_of separator text
 
 -- the number that digits write after those of a number, where it fits 32 bits
-abbrev pub number_behind : ℕ → List ℕ → Option ℕ
-number_behind before digits =
+abbrev pub number_after : ℕ → List ℕ → Option ℕ
+number_after before digits =
     let number = digits_value_after 10 before digits in
     if list_all (λ byte. is_digit byte 10) digits && nat_lt number (2 ^ 32) then Some number else None
 
 -- the number that a text writes, from 1 on and without leading zeros
 abbrev pub number_of : List ℕ → Option ℕ
 number_of [] = None
-number_of (byte ∷ bytes) = if byte == zero_digit then None else number_behind 0 (byte ∷ bytes)
+number_of (byte ∷ bytes) = if byte == zero_digit then None else number_after 0 (byte ∷ bytes)
 
 -- a number before others, where all are there
 abbrev pub with_number : Option ℕ → Option (List ℕ) → Option (List ℕ)

@@ -26,16 +26,16 @@ is_fault inside ended (Some Begins) = inside || not ended
 is_fault inside ended (Some Ends) = not inside
 
 -- whether the line after is inside a group
-abbrev pub inside_behind : Bool → Option ScriptLine → Bool
-inside_behind inside (Some Begins) = true
-inside_behind inside (Some Ends) = false
-inside_behind inside said = inside
+abbrev pub inside_after : Bool → Option ScriptLine → Bool
+inside_after inside (Some Begins) = true
+inside_after inside (Some Ends) = false
+inside_after inside said = inside
 
 -- the number of the first fault
 abbrev pub first_fault : Bool → List NumberedLine → Option ℕ
 first_fault inside [] = None
 first_fault inside (line ∷ lines) =
-    if is_fault inside (has_end lines) line.1 then Some line.0 else first_fault (inside_behind inside line.1) lines
+    if is_fault inside (has_end lines) line.1 then Some line.0 else first_fault (inside_after inside line.1) lines
 
 -- the steps that end with a line, where this group is open or none: an edit outside a group; the group at its `end`
 abbrev pub steps_at : ℕ → Option ScriptLine → Option (List (ℕ × ScriptWord)) → List ScriptStep
@@ -49,19 +49,19 @@ steps_at number (Some Ends) None = []
 steps_at number (Some Ends) (Some words) = Groups words ∷ []
 
 -- the group that is open after a line
-abbrev pub group_behind : ℕ → Option ScriptLine → Option (List (ℕ × ScriptWord)) → Option (List (ℕ × ScriptWord))
-group_behind number None group = group
-group_behind number (Some (Edits word)) None = None
-group_behind number (Some (Edits word)) (Some words) = Some (words ++ (number, word) ∷ [])
-group_behind number (Some Undoes) group = group
-group_behind number (Some Redoes) group = group
-group_behind number (Some Begins) group = Some []
-group_behind number (Some Ends) group = None
+abbrev pub group_after : ℕ → Option ScriptLine → Option (List (ℕ × ScriptWord)) → Option (List (ℕ × ScriptWord))
+group_after number None group = group
+group_after number (Some (Edits word)) None = None
+group_after number (Some (Edits word)) (Some words) = Some (words ++ (number, word) ∷ [])
+group_after number (Some Undoes) group = group
+group_after number (Some Redoes) group = group
+group_after number (Some Begins) group = Some []
+group_after number (Some Ends) group = None
 
 -- the steps of lines
 abbrev pub steps_from : Option (List (ℕ × ScriptWord)) → List NumberedLine → List ScriptStep
 steps_from group [] = []
-steps_from group (line ∷ lines) = steps_at line.0 line.1 group ++ steps_from (group_behind line.0 line.1 group) lines
+steps_from group (line ∷ lines) = steps_at line.0 line.1 group ++ steps_from (group_after line.0 line.1 group) lines
 
 -- steps, where there is no fault
 abbrev pub unless_fault : Option ℕ → List ScriptStep → Result (List ScriptStep) ℕ

@@ -60,8 +60,8 @@ fn first_fault(lines: &[NumberedLine]) -> Option<usize>
 {
     let mut rest = lines;
     let mut inside = false;
-    while let Some((line, behind)) = rest.split_first() {
-        if is_fault(line, inside, behind) {
+    while let Some((line, following)) = rest.split_first() {
+        if is_fault(line, inside, following) {
             return Some(line.number);
         }
         inside = match line.said {
@@ -69,19 +69,19 @@ fn first_fault(lines: &[NumberedLine]) -> Option<usize>
             Some(Said::End) => false,
             _ => inside,
         };
-        rest = behind;
+        rest = following;
     }
     None
 }
 
 // Whether a line is a fault, inside a group or outside, with these lines after it.
-fn is_fault(line: &NumberedLine, inside: bool, behind: &[NumberedLine]) -> bool
-    ensures { result ≡ faulty inside (ends (map line_in behind.now)) (option_map line_by line.now.said) }
+fn is_fault(line: &NumberedLine, inside: bool, following: &[NumberedLine]) -> bool
+    ensures { result ≡ faulty inside (ends (map line_in following.now)) (option_map line_by line.now.said) }
 {
     match line.said {
         Some(Said::Edit(_)) => false,
         Some(Said::Undo | Said::Redo) => inside,
-        Some(Said::Begin) => inside || !has_end(behind),
+        Some(Said::Begin) => inside || !has_end(following),
         Some(Said::End) => !inside,
         None => true,
     }

@@ -3,7 +3,7 @@
 ghost use Rattle.std.specs.Prelude.{◌≡◌, ◌<◌, ◌==◌, ◌∷◌, length, option_copied, IfOk, IfSome};
 ghost use Rattle.std.specs.List.{position};
 ghost use Rattle.std.specs.Option.{option_map};
-ghost use Rattle.mk_script.specs.Paths.{dot, parted as parted_at, pieces_of, pieces_behind, number_of, numbers_of, path_of};
+ghost use Rattle.mk_script.specs.Paths.{dot, parted as parted_at, pieces_of, pieces_after, number_of, numbers_of, path_of};
 ghost use Rattle.mk_script.specs.Targets.{count_of};
 
 use std::alloc::{AllocError, Global};
@@ -61,20 +61,20 @@ pub fn numbers(alloc: Global, text: &[u8]) -> Result<Option<Vec<u32>>, AllocErro
             return Ok(None);
         };
         numbers.push(number)?;
-        let Some(behind) = more else {
+        let Some(following) = more else {
             return Ok(Some(numbers));
         };
-        rest = behind;
+        rest = following;
     }
 }
 
 /// The text before the first separator, and the text after it.
 pub(crate) fn first_piece(text: &[u8], separator: u8) -> (&[u8], Option<&[u8]>)
-    ensures pieces { pieces_of separator text.now ≡ result.0.now ∷ pieces_behind separator (option_copied result.1) }
+    ensures pieces { pieces_of separator text.now ≡ result.0.now ∷ pieces_after separator (option_copied result.1) }
     ensures less { IfSome result.1 (λ rest. length rest.now < length text.now) }
 {
     match parted(text, separator) {
-        Some((piece, behind)) => (piece, Some(behind)),
+        Some((piece, following)) => (piece, Some(following)),
         None => (text, None),
     }
 }

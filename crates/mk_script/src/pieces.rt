@@ -136,10 +136,10 @@ fn paths(alloc: Global, text: &[u8]) -> Result<Option<Vec<Vec<u32>>>, AllocError
             return Ok(None);
         };
         all.push(path)?;
-        let Some(behind) = more else {
+        let Some(following) = more else {
             return Ok(Some(all));
         };
-        rest = behind;
+        rest = following;
     }
 }
 

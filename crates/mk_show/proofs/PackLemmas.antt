@@ -5,7 +5,7 @@ use Rattle.std.specs.Option.{option_map, unwrap_or}
 use Rattle.mk_line.specs.declared.cutting.Ending.{Ending}
 use Rattle.mk_line.specs.Lines.{TextLine, cut, eol_of, text_of}
 use Rattle.mk_line.proofs.Cuts.{cut_rest, text_apart}
-use Rattle.mk_head.specs.Split.{behind_head, head_lines, head_of}
+use Rattle.mk_head.specs.Split.{after_head, head_lines, head_of}
 use Rattle.mk_head.specs.Fields.{HeaderView, header_view}
 use Rattle.mk_head.specs.Splits.{has_line}
 use Rattle.mk_head.proofs.Splits.{head_body}
@@ -26,8 +26,8 @@ last_more : (piece : List ℕ) (pieces : List (List ℕ)) → HasFirst pieces �
 last_more piece [] h = absurd h
 last_more piece (next ∷ pieces) h = refl
 
-pub last_behind : (separator : ℕ) (text : List ℕ) (p : List ℕ × List ℕ) → parted separator text ≡ Some p → last_of (pieces_of separator text) ≡ last_of (pieces_of separator p.1)
-last_behind separator text p e = ap last_of (pieces_of-parted separator text p e) ∙ last_more p.0 (pieces_of separator p.1) (pieces_of-some separator p.1)
+pub last_after : (separator : ℕ) (text : List ℕ) (p : List ℕ × List ℕ) → parted separator text ≡ Some p → last_of (pieces_of separator text) ≡ last_of (pieces_of separator p.1)
+last_after separator text p e = ap last_of (pieces_of-parted separator text p e) ∙ last_more p.0 (pieces_of separator p.1) (pieces_of-some separator p.1)
 
 pub last_whole : {A : Type 0} (f : A → List ℕ × List ℕ) (separator : ℕ) (text : List ℕ) (found : Option A) → option_map f found ≡ parted separator text → ((p : A) → found ≢ Some p) → last_of (pieces_of separator text) ≡ text
 last_whole f separator text None e n = ap last_of (pieces_of-whole separator text (sym e))
@@ -49,7 +49,7 @@ pub body_told : (text : List ℕ) (h : HeaderView) (body : ℕ) → h ≡ header
 body_told text h body e b =
     let apart = head_body (cut text) in
     ap (λ n. nat_lt n (length text)) (b ∙ ap (λ v. v.body) e)
-    ∙ goes_on text (head_lines (head_of (cut text))) (behind_head (cut text)) (sym apart)
+    ∙ goes_on text (head_lines (head_of (cut text))) (after_head (cut text)) (sym apart)
 
 -- what goes out where there is no reason against it
 pub packed_well : (boundary : List ℕ) (parts : List Attached) (text : List ℕ) (fields : List (List ℕ)) (output errors : List ℕ) (eol : Ending)
@@ -65,16 +65,16 @@ more_or None n = refl
 more_or (Some k) n = refl
 
 -- after others one fails
-failing_behind : {X : Type 0} (test : X → Bool) (xs : List X) (y : X) → test y ≡ false → first_failing test (xs ++ y ∷ []) ≡ Some (unwrap_or (first_failing test xs) (length xs))
-failing_behind test [] y h = rw h refl
-failing_behind test (x ∷ xs) y h = elim (cases_Bool (test x)) [
-  | inl t ↦ rw t (ap (option_map suc) (failing_behind test xs y h) ∙ ap (λ n. Some n) (sym (more_or (first_failing test xs) (length xs))))
+failing_after : {X : Type 0} (test : X → Bool) (xs : List X) (y : X) → test y ≡ false → first_failing test (xs ++ y ∷ []) ≡ Some (unwrap_or (first_failing test xs) (length xs))
+failing_after test [] y h = rw h refl
+failing_after test (x ∷ xs) y h = elim (cases_Bool (test x)) [
+  | inl t ↦ rw t (ap (option_map suc) (failing_after test xs y h) ∙ ap (λ n. Some n) (sym (more_or (first_failing test xs) (length xs))))
   | inr f ↦ rw f refl
 ]
 
 pub body_refused : (text : List ℕ) (parts : List Attached) (boundary : List ℕ) → has_body (cut text) ≡ true
     → build_refusal (fields_given (cut text)) parts boundary ≡ Some (refused.BadField (unwrap_or (first_failing is_free_field (fields_in_front (cut text))) (length (fields_in_front (cut text)))))
-body_refused text parts boundary has = rw (has, failing_behind is_free_field (fields_in_front (cut text)) [] refl) refl
+body_refused text parts boundary has = rw (has, failing_after is_free_field (fields_in_front (cut text)) [] refl) refl
 
 -- without messages the boundary and the message are those of the fields and the parts
 same_boundary : (given : Option (List ℕ)) (fields : List (List ℕ)) (parts : List Attached) → boundary_with given fields parts [] ≡ boundary_for given fields parts

@@ -19,32 +19,32 @@ use Rattle.mk_show.specs.Folders.{Files}
 use Rattle.mk_transfer.specs.RunClauses.{Held, held, Reason, status_of}
 use Rattle.mk_show.specs.Chosen.{Asked, AreAsked, missing_lines}
 use Rattle.mk_show.specs.Unpacking.{Unpacks, UnpacksLeaf, report_line, exists_line}
-use Rattle.mk_transfer.specs.Said.{Said, silence, said_behind, shown}
+use Rattle.mk_transfer.specs.Said.{Said, silence, said_after, shown}
 use Rattle.mk_show.specs.Shown.{extract_line, is_wanting}
 use Rattle.mk_show.specs.UnpackClauses.{Written, written, GetsNext, PutsText, PutsNone, PutsFront, UnpackedAll, UnpackedAllAfter, UnpackedSome, UnpackedSomeAfter, IsUnpacked, IsBrokenOff, Stores, StoresSoFar}
-use Rattle.mk_transfer.proofs.Fronts.{AppendsFront-behind, not-is_nil-append, AppendsFront-none}
+use Rattle.mk_transfer.proofs.Fronts.{AppendsFront-following, not-is_nil-append, AppendsFront-none}
 
-behind-silence : (s : Said) → s ≡ said_behind s silence
-behind-silence s = rw (append-nil s.output, append-nil s.errors) refl
+following-silence : (s : Said) → s ≡ said_after s silence
+following-silence s = rw (append-nil s.output, append-nil s.errors) refl
 
-behind-behind : (a b c : Said) → said_behind (said_behind a b) c ≡ said_behind a (said_behind b c)
-behind-behind a b c = rw (append_assoc a.output b.output c.output, append_assoc a.errors b.errors c.errors) refl
+following-following : (a b c : Said) → said_after (said_after a b) c ≡ said_after a (said_after b c)
+following-following a b c = rw (append_assoc a.output b.output c.output, append_assoc a.errors b.errors c.errors) refl
 
 Unpacks-append : (manner : Manner) (t : Document) (xs ys : List Named) (first more : Said) (a b c : Option Files)
-    → Unpacks manner t xs first a b → Unpacks manner t ys more b c → Unpacks manner t (xs ++ ys) (said_behind first more) a c
+    → Unpacks manner t xs first a b → Unpacks manner t ys more b c → Unpacks manner t (xs ++ ys) (said_after first more) a c
 Unpacks-append manner t [] ys first more a b c u v = rw u.0 (subst (λ o. Unpacks manner t ys more o c) u.1 v)
 Unpacks-append manner t (x ∷ xs) ys first more a b c u v = (
   u.0,
-  said_behind u.1 more,
+  said_after u.1 more,
   u.2,
   u.3,
   Unpacks-append manner t xs ys u.1 more u.2 b c u.4 v,
-  ap (λ s. said_behind s more) u.5 ∙ behind-behind u.0 u.1 more,
+  ap (λ s. said_after s more) u.5 ∙ following-following u.0 u.1 more,
 )
 
 Unpacks-one : (manner : Manner) (t : Document) (leaf : Named) (said : Said) (old new : Option Files) → UnpacksLeaf manner t leaf said old new
     → Unpacks manner t (leaf ∷ []) said old new
-Unpacks-one manner t leaf said old new u = (said, silence, new, u, (refl, refl), behind-silence said)
+Unpacks-one manner t leaf said old new u = (said, silence, new, u, (refl, refl), following-silence said)
 
 -- no leaf was unpacked, and all is as it was
 pub UnpackedAll-none : (manner : Manner) (t : Document) (out err : Option (List ℕ)) (files : Option Files) → Appends out out [] → Appends err err []
@@ -92,10 +92,10 @@ UnpackedSome-none manner t leaf out err old new next = record {
 }
 
 -- leaves were unpacked, and then others
-pub UnpackedAll-behind : (manner : Manner) (t : Document) (xs ys : List Named) (refused more : Bool) (a b c : Written) → UnpackedAll manner t xs refused a b
+pub UnpackedAll-following : (manner : Manner) (t : Document) (xs ys : List Named) (refused more : Bool) (a b c : Written) → UnpackedAll manner t xs refused a b
     → UnpackedAll manner t ys more b c → UnpackedAll manner t (xs ++ ys) (refused || more) a c
-UnpackedAll-behind manner t xs ys refused more a b c u v = record {
-  said = said_behind u.said v.said;
+UnpackedAll-following manner t xs ys refused more a b c u v = record {
+  said = said_after u.said v.said;
   unpacks = Unpacks-append manner t xs ys u.said v.said a.files b.files c.files u.unpacks v.unpacks;
   output = Appends-trans a.output b.output c.output u.said.output v.said.output u.output v.output;
   errors = Appends-trans a.errors b.errors c.errors u.said.errors v.said.errors u.errors v.errors;
@@ -111,18 +111,18 @@ leaves_apart : (xs done rest more : List Named) → xs ++ ((done ++ rest) ++ mor
 leaves_apart xs done rest more = simp append_assoc
 
 -- leaves were unpacked, and then some of others, after which stand more
-pub UnpackedSome-behind : (manner : Manner) (t : Document) (xs ys more leaves : List Named) (refused : Bool) (a b c : Written) → UnpackedAll manner t xs refused a b
+pub UnpackedSome-following : (manner : Manner) (t : Document) (xs ys more leaves : List Named) (refused : Bool) (a b c : Written) → UnpackedAll manner t xs refused a b
     → UnpackedSome manner t ys b c → leaves ≡ xs ++ (ys ++ more) → UnpackedSome manner t leaves a c
-UnpackedSome-behind manner t xs ys more leaves refused a b c u v e = record {
+UnpackedSome-following manner t xs ys more leaves refused a b c u v e = record {
   done = xs ++ v.done;
   rest = v.rest ++ more;
   leaves_are = e ∙ ap (λ zs. xs ++ (zs ++ more)) v.leaves_are ∙ leaves_apart xs v.done v.rest more;
-  said = said_behind u.said v.said;
+  said = said_after u.said v.said;
   between = v.between;
   unpacks = Unpacks-append manner t xs v.done u.said v.said a.files b.files v.between u.unpacks v.unpacks;
   next = GetsNext-more manner.over t v.rest more v.between c.files v.next;
-  output = AppendsFront-behind a.output b.output c.output u.said.output v.said.output [] _ u.output v.output (ap (λ l. u.said.output ++ l) (sym (append-nil v.said.output)));
-  errors = AppendsFront-behind a.errors b.errors c.errors u.said.errors v.said.errors [] _ u.errors v.errors (ap (λ l. u.said.errors ++ l) (sym (append-nil v.said.errors)));
+  output = AppendsFront-following a.output b.output c.output u.said.output v.said.output [] _ u.output v.output (ap (λ l. u.said.output ++ l) (sym (append-nil v.said.output)));
+  errors = AppendsFront-following a.errors b.errors c.errors u.said.errors v.said.errors [] _ u.errors v.errors (ap (λ l. u.said.errors ++ l) (sym (append-nil v.said.errors)));
 }
 
 -- lines went out, and then leaves were unpacked
@@ -150,7 +150,7 @@ UnpackedSome-after lines manner t leaves out err between out_after err_after old
   unpacks = u.unpacks;
   next = u.next;
   output = u.output;
-  errors = AppendsFront-behind err between err_after lines u.said.errors [] _ sent u.errors (ap (λ l. lines ++ l) (sym (append-nil u.said.errors)));
+  errors = AppendsFront-following err between err_after lines u.said.errors [] _ sent u.errors (ap (λ l. lines ++ l) (sym (append-nil u.said.errors)));
 }
 
 GetsNext-none : (over : Bool) (t : Document) (leaves : List Named) (files : Option Files) → GetsNext over t leaves files files

@@ -3,7 +3,7 @@ use Rattle.std.specs.Option.{option_map}
 use Rattle.std.specs.Prelude.{◌≡◌, ◌++◌, if◌then◌else◌, ℕ, Bool, true, false, Option, None, Some, unwrap_or, List, [], ◌∷◌, codes, decimal, length, map}
 use Rattle.mk_line.specs.Ascii.{line_feed, space}
 use Rattle.mk_line.specs.Lines.{TextLine, cut, eol_of}
-use Rattle.mk_head.specs.Split.{behind_head, fields_from}
+use Rattle.mk_head.specs.Split.{after_head, fields_from}
 use Rattle.mk_head.specs.Splits.{has_line}
 use Rattle.mk_head.specs.Fields.{fields_of}
 use Rattle.mk_line.specs.declared.cutting.Ending.{Ending}
@@ -29,7 +29,7 @@ fields_in_front ls = map (λ f. f.raw) (fields_of (fields_from false ls))
 
 -- more than a separator stands after the fields
 abbrev pub has_body : List TextLine → Bool
-has_body ls = has_line (behind_head ls)
+has_body ls = has_line (after_head ls)
 
 -- what lines give for fields: those at the start and, where they have a body, an empty text for it, which is no field
 abbrev pub fields_given : List TextLine → List (List ℕ)
@@ -58,13 +58,13 @@ index_of (refused.HoldsBoundary index) = Some index
 index_of refused.Memory = None
 
 -- an index after a name, where there is one
-abbrev pub behind_name : Option ℕ → List ℕ
-behind_name None = []
-behind_name (Some index) = space ∷ decimal index
+abbrev pub after_name : Option ℕ → List ℕ
+after_name None = []
+after_name (Some index) = space ∷ decimal index
 
 -- the line that reports why no message is built
 abbrev pub pack_line : BuildError → List ℕ
-pack_line error = codes "pack: " ++ (build_name error ++ (behind_name (index_of error) ++ line_feed ∷ []))
+pack_line error = codes "pack: " ++ (build_name error ++ (after_name (index_of error) ++ line_feed ∷ []))
 
 -- the message goes out where there is no reason against it, and else the reason to the errors
 abbrev pub told : List ℕ → Option BuildError → Run

@@ -10,7 +10,7 @@ use Rattle.mk_view.specs.TextNames.{all_stored_in}
 use Rattle.mk_view.specs.declared.text_names.NameForm.{NameForm}
 use Rattle.mk_view.specs.GivenNames.{AreGiven, numbered}
 use Rattle.mk_view.specs.Listing.{path_text, type_of, type_text}
-use Rattle.mk_transfer.specs.Said.{Said, silence, said_behind}
+use Rattle.mk_transfer.specs.Said.{Said, silence, said_after}
 use Rattle.mk_show.specs.declared.unpacking.Manner.{Manner}
 use Rattle.mk_show.specs.declared.unpacking.Report.{Report}
 use Rattle.mk_show.specs.declared.unpacking.Report.TheVariants.{Nothing, Names, Paths}
@@ -95,7 +95,7 @@ Unpacks manner t (leaf ∷ leaves) said old new =
     (first : Said) × (more : Said) × (between : Option Files)
     × UnpacksLeaf manner t leaf first old between
     × Unpacks manner t leaves more between new
-    × (said ≡ said_behind first more)
+    × (said ≡ said_after first more)
 
 -- the leaves of a document that are stored, each with its name in a form
 abbrev pub AreLeaves : NameForm → Bool → Document → List Named → Type 0

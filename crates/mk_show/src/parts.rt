@@ -77,8 +77,8 @@ fn file_name(path: &[u8]) -> &[u8]
     ensures { result.now ≡ name_of_file path.now }
 {
     let mut name = path;
-    'each: while let Some((_, behind)) = parted(name, SLASH) {
-        name = behind;
+    'each: while let Some((_, following)) = parted(name, SLASH) {
+        name = following;
     }
     name
 }

@@ -16,8 +16,8 @@ before_spliced place n new x h = take_at (take place x) (new ++ drop (place + n)
 front_size : (place : ℕ) (new x : List ℕ) → place ≤ length x → place + length new ≡ length (take place x ++ new)
 front_size place new x h = omega (arith, length-append (take place x) new, length-take-le place x h)
 
-behind_spliced : (place n : ℕ) (new x : List ℕ) → place ≤ length x → drop (place + length new) (spliced place n new x) ≡ drop (place + n) x
-behind_spliced place n new x h =
+after_spliced : (place n : ℕ) (new x : List ℕ) → place ≤ length x → drop (place + length new) (spliced place n new x) ≡ drop (place + n) x
+after_spliced place n new x h =
     ap (drop (place + length new)) (sym (append_assoc (take place x) new (drop (place + n) x)))
     ∙ drop_at (take place x ++ new) (drop (place + n) x) (place + length new) (sym (front_size place new x h))
 
@@ -26,7 +26,7 @@ pub put_again : (place : ℕ) (old new x : List ℕ) → Stands place old x → 
 put_again place old new x h =
     let within : place ≤ length x = omega (arith, h.within) in
     ap (λ xs. xs ++ (old ++ drop (place + length new) (spliced place (length old) new x))) (before_spliced place (length old) new x within)
-    ∙ (ap (λ xs. take place x ++ (old ++ xs)) (behind_spliced place (length old) new x within) ∙ h.same)
+    ∙ (ap (λ xs. take place x ++ (old ++ xs)) (after_spliced place (length old) new x within) ∙ h.same)
 
 pub put_stands : (place : ℕ) (old new x : List ℕ) → Stands place old x → Stands place new (spliced place (length old) new x)
 put_stands place old new x h =
@@ -35,7 +35,7 @@ put_stands place old new x h =
       within = omega (arith, h.within, length-spliced place (length old) new x h.within);
       same =
           ap (λ xs. xs ++ (new ++ drop (place + length new) (spliced place (length old) new x))) (before_spliced place (length old) new x within)
-          ∙ ap (λ xs. take place x ++ (new ++ xs)) (behind_spliced place (length old) new x within);
+          ∙ ap (λ xs. take place x ++ (new ++ xs)) (after_spliced place (length old) new x within);
     }
 
 -- a step made can be taken back, and gives what was before

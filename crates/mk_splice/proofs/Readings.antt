@@ -52,11 +52,11 @@ module _ (A X M : Type 0) (f : X → M) (g : A → M) (r : List ℕ → Result (
   named_onto vs a (Ok p) = ap (λ k. given (List A) (Ok (k, p.1))) (sym (append_assoc vs (a ∷ []) p.0))
   named_onto vs a (Err e) = refl
 
-  pub one_more : (left : ℕ) (rest behind : List ℕ) (xs : List X) (a : A) (x : X) → SoFar A X M f g r total bytes (suc left) rest xs → r rest ≡ Ok (a, behind) → f x ≡ g a → SoFar A X M f g r total bytes left behind (xs ++ x ∷ [])
-  one_more left rest behind xs a x s h e = record {
+  pub one_more : (left : ℕ) (rest following : List ℕ) (xs : List X) (a : A) (x : X) → SoFar A X M f g r total bytes (suc left) rest xs → r rest ≡ Ok (a, following) → f x ≡ g a → SoFar A X M f g r total bytes left following (xs ++ x ∷ [])
+  one_more left rest following xs a x s h e = record {
     values = s.values ++ a ∷ [];
     same = map-append f xs (x ∷ []) ∙ (ap (λ k. k ++ f x ∷ []) s.same ∙ (ap (λ k. map g s.values ++ k ∷ []) e ∙ sym (map-append g s.values (a ∷ []))));
-    read = s.read ∙ (ap (λ k. named (λ ys. s.values ++ ys) (named onto (and_then k (λ y. read_times left r)))) h ∙ named_onto s.values a (read_times left r behind));
+    read = s.read ∙ (ap (λ k. named (λ ys. s.values ++ ys) (named onto (and_then k (λ y. read_times left r)))) h ∙ named_onto s.values a (read_times left r following));
   }
 
   pub one_fails : (left : ℕ) (rest : List ℕ) (xs : List X) (e : Stop) → SoFar A X M f g r total bytes (suc left) rest xs → StopsAt {A = A} e (r rest) → StopsAt {A = List A} e (read_times total r bytes)
@@ -65,10 +65,10 @@ module _ (A X M : Type 0) (f : X → M) (g : A → M) (r : List ℕ → Result (
       (named_fails (List A) (List A) (λ ys. s.values ++ ys) (read_times (suc left) r rest) e
       (named_fails (A × List A) (List A) onto (and_then (r rest) (λ y. read_times left r)) e (first_fails A (List A) (r rest) (λ y. read_times left r) e h)))
 
-  pub one_more_at : (more left : ℕ) (rest behind : List ℕ) (xs ys : List X) (a : A) (x : X) → more ≡ left + 1 → ys ≡ xs ++ x ∷ [] → SoFar A X M f g r total bytes more rest xs → r rest ≡ Ok (a, behind) → f x ≡ g a → SoFar A X M f g r total bytes left behind ys
-  one_more_at more left rest behind xs ys a x size e s h k =
+  pub one_more_at : (more left : ℕ) (rest following : List ℕ) (xs ys : List X) (a : A) (x : X) → more ≡ left + 1 → ys ≡ xs ++ x ∷ [] → SoFar A X M f g r total bytes more rest xs → r rest ≡ Ok (a, following) → f x ≡ g a → SoFar A X M f g r total bytes left following ys
+  one_more_at more left rest following xs ys a x size e s h k =
       let next : more ≡ suc left = omega (arith, size) in
-      subst (λ zs. SoFar A X M f g r total bytes left behind zs) (sym e) (one_more left rest behind xs a x (subst (λ n. SoFar A X M f g r total bytes n rest xs) next s) h k)
+      subst (λ zs. SoFar A X M f g r total bytes left following zs) (sym e) (one_more left rest following xs a x (subst (λ n. SoFar A X M f g r total bytes n rest xs) next s) h k)
 
   pub one_fails_at : (more left : ℕ) (rest : List ℕ) (xs : List X) (e : Stop) → more ≡ left + 1 → SoFar A X M f g r total bytes more rest xs → StopsAt {A = A} e (r rest) → StopsAt {A = List A} e (read_times total r bytes)
   one_fails_at more left rest xs e size s h =

@@ -29,7 +29,7 @@ pub fn known_journals()
     ensures unknown_version { journal (codes "mimejournal 3\n") ≡ Err 12 }
     ensures leading_zero { journal (codes "mimejournal 1\n01 0\n") ≡ Err 15 }
     ensures too_many_digits { journal (codes "mimejournal 1\n123456789012345678901 0\n") ≡ Err 34 }
-    ensures byte_behind { journal (codes "mimejournal 1\n0 0\nx") ≡ Err 18 }
+    ensures byte_after { journal (codes "mimejournal 1\n0 0\nx") ≡ Err 18 }
     ensures no_steps { IsOk (journal (codes "mimejournal 1\n0 0\n")) }
     ensures entry_cut_short { journal (codes "mimejournal 1\n1 0\n5 0 6\nabc") ≡ Err 27 }
     ensures step_of_no_entries { IsOk (journal (codes "mimejournal 2\n" ++ (empty_digest ++ codes "\n1 0\n0\n"))) }

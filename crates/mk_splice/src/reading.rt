@@ -107,9 +107,9 @@ fn read_hex(bytes: &[u8]) -> Result<([u8; 64], &[u8]), Stop>
     let mut digits = [0; 64];
     let mut rest = bytes;
     for i in 0..64 {
-        let (digit, behind) = read_hex_digit(rest)?;
+        let (digit, following) = read_hex_digit(rest)?;
         digits[i] = digit;
-        rest = behind;
+        rest = following;
     }
     Ok((digits, rest))
 }
@@ -197,9 +197,9 @@ fn read_entries(alloc: Global, bytes: &[u8], count: usize) -> Result<(Vec<Splice
     let mut entries = Vec::new(alloc);
     let mut rest = bytes;
     for _ in 0..count {
-        let (entry, behind) = read_entry(alloc, rest)?;
+        let (entry, following) = read_entry(alloc, rest)?;
         entries.push(entry)?;
-        rest = behind;
+        rest = following;
     }
     Ok((entries, rest))
 }
@@ -234,9 +234,9 @@ pub fn read_steps(
     let mut steps = Vec::new(alloc);
     let mut rest = bytes;
     for _ in 0..count {
-        let (step, behind) = read_step(alloc, version, rest)?;
+        let (step, following) = read_step(alloc, version, rest)?;
         steps.push(step)?;
-        rest = behind;
+        rest = following;
     }
     Ok((steps, rest))
 }

@@ -25,9 +25,9 @@ pub AppendsFront-whole : (old new : Option (List ℕ)) (bytes : List ℕ) → Ap
 AppendsFront-whole old new bytes h = (bytes, [], sym (append-nil bytes), h)
 
 -- a front of further bytes, after bytes that went out
-pub AppendsFront-behind : (a b c : Option (List ℕ)) (front bytes more all : List ℕ) → Appends a b front → AppendsFront b c bytes
+pub AppendsFront-following : (a b c : Option (List ℕ)) (front bytes more all : List ℕ) → Appends a b front → AppendsFront b c bytes
     → all ≡ front ++ (bytes ++ more) → AppendsFront a c all
-AppendsFront-behind a b c front bytes more all sent part e = (
+AppendsFront-following a b c front bytes more all sent part e = (
   front ++ part.0,
   part.1 ++ more,
   e ∙ ap (λ l. front ++ (l ++ more)) part.2 ∙ ap (λ l. front ++ l) (append_assoc part.0 part.1 more) ∙ sym (append_assoc front part.0 (part.1 ++ more)),

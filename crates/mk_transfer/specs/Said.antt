@@ -14,8 +14,8 @@ abbrev pub silence : Said
 silence = record { output = []; errors = [] }
 
 -- what is said, and what is said after it
-abbrev pub said_behind : Said → Said → Said
-said_behind first more = record { output = first.output ++ more.output; errors = first.errors ++ more.errors }
+abbrev pub said_after : Said → Said → Said
+said_after first more = record { output = first.output ++ more.output; errors = first.errors ++ more.errors }
 
 -- what a run writes to the output and to the errors, and its status
 pub record Run : Type 0 where

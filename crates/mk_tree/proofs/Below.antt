@@ -4,7 +4,7 @@ use Rattle.std.proofs.lemmas.Bool.{eqb-true, false_from_ne_true}
 use Rattle.std.proofs.lemmas.List.{length-map}
 use Rattle.mk_line.specs.Lines.{TextLine, cut}
 use Rattle.mk_line.proofs.Cuts.{cut_rest}
-use Rattle.mk_head.specs.Split.{Head, head_of, head_lines, behind_head}
+use Rattle.mk_head.specs.Split.{Head, head_of, head_lines, after_head}
 use Rattle.mk_tree.specs.Cutting.{cut_by, parts_lines, tail_lines}
 use Rattle.mk_tree.specs.Kinds.{Kind, Leaf, Message, Multi, kind, is_digest}
 use Rattle.mk_tree.specs.Tree.{Entity, leaf, message, multi, Parts, no_parts, part, parts_by, entity_by, read, print, entity_head}
@@ -14,11 +14,11 @@ use Rattle.mk_tree.specs.declared.node.Node.{Node}
 use Rattle.mk_tree.specs.declared.node.Node.TheViews.{out-Node}
 use Rattle.mk_tree.specs.Forms.{form_preamble, has_sizes, form_digest, form_closed, form_in, spans_in}
 use Rattle.mk_tree.specs.Sections.{Placed, has_part, has_tail, parts_placed, children_of, children, preamble_lines}
-use Rattle.mk_tree.specs.Layouts.{delimiter_of, whole_of, has_span, placed_over, IsSpanOver, first_text, text_behind, placed_along, AreSpansOver}
+use Rattle.mk_tree.specs.Layouts.{delimiter_of, whole_of, has_span, placed_over, IsSpanOver, first_text, text_after, placed_along, AreSpansOver}
 use Rattle.mk_tree.proofs.Kept.{print_read, print_parts_by}
 use Rattle.mk_tree.proofs.Descent.{size_append}
 use Rattle.mk_tree.proofs.Slices.{front_within, middle_cut, end_cut, middle_within}
-use Rattle.mk_tree.proofs.SectionViews.{opens, span_list, Keeps, behind_preamble, body_front, raw_head, head_size, preamble_size}
+use Rattle.mk_tree.proofs.SectionViews.{opens, span_list, Keeps, after_preamble, body_front, raw_head, head_size, preamble_size}
 
 pub delimiter_span : (d : Bool) (n : ℕ) (e : Entity) → delimiter_of (span_of d n e) ≡ n
 delimiter_span d n (leaf h ls) = refl
@@ -46,8 +46,8 @@ first_cut : (n : ℕ) (d : Bool) (text : List ℕ) (xs ls rest : List TextLine) 
 first_cut n d text xs ls rest e =
     (λ i. cut (take (whole_read n d xs ls i) (drop (delimiter_span d (size xs) (read n d ls) i) text))) ∙ middle_cut text xs ls rest e
 
-behind_cut : (n : ℕ) (d : Bool) (text : List ℕ) (xs ls rest : List TextLine) → cut text ≡ xs ++ (ls ++ rest) → cut (text_behind (front_span n d xs ls) text) ≡ rest
-behind_cut n d text xs ls rest e =
+after_cut : (n : ℕ) (d : Bool) (text : List ℕ) (xs ls rest : List TextLine) → cut text ≡ xs ++ (ls ++ rest) → cut (text_after (front_span n d xs ls) text) ≡ rest
+after_cut n d text xs ls rest e =
     (λ i. cut (drop (whole_read n d xs ls i) (drop (delimiter_span d (size xs) (read n d ls) i) text))) ∙ end_cut text xs ls rest e
 
 first_over : (n : ℕ) (d : Bool) (text : List ℕ) (xs ls rest : List TextLine) → cut text ≡ xs ++ (ls ++ rest) → IsSpanOver (front_span n d xs ls) (first_text (front_span n d xs ls) text) d n
@@ -77,7 +77,7 @@ parts_over n d (p ∷ ps) rest text e =
     let q : cut text ≡ (p.0 ∷ []) ++ (p.1 ++ (parts_lines ps ++ rest)) = part_apart text p ps rest e in (
       first_within n d text (p.0 ∷ []) p.1 (parts_lines ps ++ rest) q,
       first_over n d text (p.0 ∷ []) p.1 (parts_lines ps ++ rest) q,
-      parts_over n d ps rest (text_behind (front_span n d (p.0 ∷ []) p.1) text) (behind_cut n d text (p.0 ∷ []) p.1 (parts_lines ps ++ rest) q),
+      parts_over n d ps rest (text_after (front_span n d (p.0 ∷ []) p.1) text) (after_cut n d text (p.0 ∷ []) p.1 (parts_lines ps ++ rest) q),
     )
 
 parts_along : (n : ℕ) (d : Bool) (ps : List (TextLine × List TextLine)) (rest : List TextLine) (text : List ℕ) (place start : ℕ) (f : Bool) → cut text ≡ parts_lines ps ++ rest → start ≡ place
@@ -89,8 +89,8 @@ parts_along n d (p ∷ ps) rest text place start f e s =
     let w : size (print (read n d p.1)) ≡ whole_of (front_span n d (p.0 ∷ []) p.1) = sym (whole_span d (size (p.0 ∷ [])) (read n d p.1)) in
     let next : start + size (p.0 ∷ []) + size (print (read n d p.1)) ≡ place + delimiter_of (front_span n d (p.0 ∷ []) p.1) + whole_of (front_span n d (p.0 ∷ []) p.1) = omega (arith, s, w, delimiter_span d (size (p.0 ∷ [])) (read n d p.1)) in
     let first = first_placed n d text (p.0 ∷ []) p.1 (parts_lines ps ++ rest) place (start + size (p.0 ∷ [])) (has_span (span_list (spans_of d (parts_by (read n d) ps))) || f) (has_part (parts_by (read n d) ps) || f) q m (ap (λ t. t || f) (has_more d (parts_by (read n d) ps))) in
-    let others = parts_along n d ps rest (text_behind (front_span n d (p.0 ∷ []) p.1) text) (place + delimiter_of (front_span n d (p.0 ∷ []) p.1) + whole_of (front_span n d (p.0 ∷ []) p.1)) (start + size (p.0 ∷ []) + size (print (read n d p.1))) f
-    (behind_cut n d text (p.0 ∷ []) p.1 (parts_lines ps ++ rest) q) next in
+    let others = parts_along n d ps rest (text_after (front_span n d (p.0 ∷ []) p.1) text) (place + delimiter_of (front_span n d (p.0 ∷ []) p.1) + whole_of (front_span n d (p.0 ∷ []) p.1)) (start + size (p.0 ∷ []) + size (print (read n d p.1))) f
+    (after_cut n d text (p.0 ∷ []) p.1 (parts_lines ps ++ rest) q) next in
     λ i. first i ∷ others i
 
 -- the first of the sections below begins after the head and the preamble
@@ -105,7 +105,7 @@ closed_sizes : (t : Option (TextLine × List TextLine)) → has_sizes (tail_size
 closed_sizes None = refl
 closed_sizes (Some t) = refl
 
-below_by : (n : ℕ) (k : Kind) (h : Head) (ls : List TextLine) (text : List ℕ) (start : ℕ) (followed digest : Bool) (whole : Entity) → kind h.fields digest ≡ k → cut text ≡ behind_preamble (entity_by (read n) k h ls)
+below_by : (n : ℕ) (k : Kind) (h : Head) (ls : List TextLine) (text : List ℕ) (start : ℕ) (followed digest : Bool) (whole : Entity) → kind h.fields digest ≡ k → cut text ≡ after_preamble (entity_by (read n) k h ls)
     → IsBelow (span_list (spans_in digest (entity_by (read n) k h ls))) text (start + front_of (entity_by (read n) k h ls)) (form_closed (form_in digest (entity_by (read n) k h ls)) || followed)
     (form_digest (form_in digest (entity_by (read n) k h ls))) n (children_of (record { start = start; followed = followed; digest = digest; entity = whole }) (entity_by (read n) k h ls))
 below_by n Leaf h ls text start followed digest whole q e = record { over = tt; placed = refl }
@@ -131,23 +131,23 @@ below_by n (Multi b d) h ls text start followed digest whole q e =
           ∙ ap (λ t. parts_placed (start + size (head_lines h) + size (cut_by b ls).preamble) (t || followed) d (parts_by (read n d) ps)) (closed_sizes (cut_by b ls).tail));
     }
 
-raw_front : (raw : List ℕ) (left : ℕ) (digest : Bool) → cut raw ≡ (head_lines (entity_head (read left digest (cut raw))) ++ preamble_lines (read left digest (cut raw))) ++ behind_preamble (read left digest (cut raw))
+raw_front : (raw : List ℕ) (left : ℕ) (digest : Bool) → cut raw ≡ (head_lines (entity_head (read left digest (cut raw))) ++ preamble_lines (read left digest (cut raw))) ++ after_preamble (read left digest (cut raw))
 raw_front raw left digest =
     raw_head raw left digest
     ∙ (ap (λ xs. head_lines (entity_head (read left digest (cut raw))) ++ xs) (body_front (read left digest (cut raw)))
-    ∙ sym (append_assoc (head_lines (entity_head (read left digest (cut raw)))) (preamble_lines (read left digest (cut raw))) (behind_preamble (read left digest (cut raw)))))
+    ∙ sym (append_assoc (head_lines (entity_head (read left digest (cut raw)))) (preamble_lines (read left digest (cut raw))) (after_preamble (read left digest (cut raw)))))
 
 front_adds : (e : Entity) → size (head_lines (entity_head e) ++ preamble_lines e) ≡ front_of e
 front_adds e = size_append (head_lines (entity_head e)) (preamble_lines e)
 
 pub front_fits_in : (raw : List ℕ) (left : ℕ) (digest : Bool) → front_of (read left digest (cut raw)) ≤ length raw
 front_fits_in raw left digest =
-    omega (arith, front_adds (read left digest (cut raw)), front_within raw (head_lines (entity_head (read left digest (cut raw))) ++ preamble_lines (read left digest (cut raw))) (behind_preamble (read left digest (cut raw))) (raw_front raw left digest))
+    omega (arith, front_adds (read left digest (cut raw)), front_within raw (head_lines (entity_head (read left digest (cut raw))) ++ preamble_lines (read left digest (cut raw))) (after_preamble (read left digest (cut raw))) (raw_front raw left digest))
 
-front_cut : (raw : List ℕ) (left : ℕ) (digest : Bool) → cut (drop (front_of (read left digest (cut raw))) raw) ≡ behind_preamble (read left digest (cut raw))
+front_cut : (raw : List ℕ) (left : ℕ) (digest : Bool) → cut (drop (front_of (read left digest (cut raw))) raw) ≡ after_preamble (read left digest (cut raw))
 front_cut raw left digest =
     ap (λ k. cut (drop k raw)) (sym (front_adds (read left digest (cut raw))))
-    ∙ cut_rest raw (head_lines (entity_head (read left digest (cut raw))) ++ preamble_lines (read left digest (cut raw))) (behind_preamble (read left digest (cut raw))) (raw_front raw left digest)
+    ∙ cut_rest raw (head_lines (entity_head (read left digest (cut raw))) ++ preamble_lines (read left digest (cut raw))) (after_preamble (read left digest (cut raw))) (raw_front raw left digest)
 
 less_one : (n : ℕ) → n ≡ suc n - 1
 less_one n = omega arith
@@ -159,7 +159,7 @@ below raw start followed digest zero = record { over = tt; placed = refl }
 below raw start followed digest (suc n) =
     subst (λ m. IsBelow (span_list (spans_in digest (read (suc n) digest (cut raw)))) (drop (front_of (read (suc n) digest (cut raw))) raw) (start + front_of (read (suc n) digest (cut raw)))
     (form_closed (form_in digest (read (suc n) digest (cut raw))) || followed) (form_digest (form_in digest (read (suc n) digest (cut raw)))) m (children (placed_over raw start followed digest (suc n)))) (less_one n)
-    (below_by n (kind (head_of (cut raw)).fields digest) (head_of (cut raw)) (behind_head (cut raw)) (drop (front_of (read (suc n) digest (cut raw))) raw) start followed digest (read (suc n) digest (cut raw)) refl (front_cut raw (suc n) digest))
+    (below_by n (kind (head_of (cut raw)).fields digest) (head_of (cut raw)) (after_head (cut raw)) (drop (front_of (read (suc n) digest (cut raw))) raw) start followed digest (read (suc n) digest (cut raw)) refl (front_cut raw (suc n) digest))
 
 -- the first of the sections below by what the node keeps
 pub node_front : (node : Node) (raw : List ℕ) (digest : Bool) (left n : ℕ) → Keeps node digest (read left digest (cut raw)) → n ≡ form_preamble (form_of (out-Node node).shape)
@@ -168,19 +168,19 @@ node_front node raw digest left n k p =
     let q : n ≡ size (preamble_lines (read left digest (cut raw))) = p ∙ (ap form_preamble k.form ∙ preamble_size digest (read left digest (cut raw))) in
     omega (arith, k.fields, k.separator, q, head_size (entity_head (read left digest (cut raw))))
 
-pub node_below : (node : Node) (raw : List ℕ) (start : ℕ) (followed digest : Bool) (left : ℕ) (front : ℕ) (behind deep : Bool) (deeper : ℕ) → Keeps node digest (read left digest (cut raw)) → front ≡ front_of (read left digest (cut raw))
-    → behind ≡ (form_closed (form_of (out-Node node).shape) || followed) → deep ≡ form_digest (form_of (out-Node node).shape) → deeper ≡ left - 1
-    → IsBelow (map node_span (out-Node node).parts.items) (drop front raw) (start + front) behind deep deeper (children (placed_over raw start followed digest left))
-node_below node raw start followed digest left front behind deep deeper k f b d m =
+pub node_below : (node : Node) (raw : List ℕ) (start : ℕ) (followed digest : Bool) (left : ℕ) (front : ℕ) (following deep : Bool) (deeper : ℕ) → Keeps node digest (read left digest (cut raw)) → front ≡ front_of (read left digest (cut raw))
+    → following ≡ (form_closed (form_of (out-Node node).shape) || followed) → deep ≡ form_digest (form_of (out-Node node).shape) → deeper ≡ left - 1
+    → IsBelow (map node_span (out-Node node).parts.items) (drop front raw) (start + front) following deep deeper (children (placed_over raw start followed digest left))
+node_below node raw start followed digest left front following deep deeper k f b d m =
     let spans : span_list (spans_in digest (read left digest (cut raw))) ≡ map node_span (out-Node node).parts.items = sym k.spans in
-    let ends : (form_closed (form_in digest (read left digest (cut raw))) || followed) ≡ behind = sym (b ∙ ap (λ g. form_closed g || followed) k.form) in
+    let ends : (form_closed (form_in digest (read left digest (cut raw))) || followed) ≡ following = sym (b ∙ ap (λ g. form_closed g || followed) k.form) in
     let kinds : form_digest (form_in digest (read left digest (cut raw))) ≡ deep = sym (d ∙ ap form_digest k.form) in
     subst (λ (t : List Span × ℕ × Bool × Bool × ℕ). IsBelow t.0 (drop t.1 raw) (start + t.1) t.2 t.3 t.4 (children (placed_over raw start followed digest left))) (λ i. (spans i, sym f i, ends i, kinds i, sym m i)) (below raw start followed digest left)
 
 -- how many there are
 length_along : (ss : List Span) (text : List ℕ) (place : ℕ) (followed digest : Bool) (left : ℕ) → length (placed_along ss text place followed digest left) ≡ length ss
 length_along [] text place followed digest left = refl
-length_along (s ∷ ss) text place followed digest left = ap suc (length_along ss (text_behind s text) (place + delimiter_of s + whole_of s) followed digest left)
+length_along (s ∷ ss) text place followed digest left = ap suc (length_along ss (text_after s text) (place + delimiter_of s + whole_of s) followed digest left)
 
 pub parts_count : (node : Node) (raw : List ℕ) (start : ℕ) (followed digest : Bool) (left : ℕ) → Keeps node digest (read left digest (cut raw)) → length (out-Node node).parts.items ≡ length (children (placed_over raw start followed digest left))
 parts_count node raw start followed digest left k =
@@ -201,16 +201,16 @@ or_more true false followed f e h = h
 or_more false true followed f e h = h
 or_more false false followed f e h = cc
 
-pub more_behind : (nodes : List Node) (t followed f : Bool) → t ≡ (length nodes == 0) → f ≡ (not t || followed) → f ≡ (has_span (map node_span nodes) || followed)
-more_behind nodes t followed f e h = or_more t (has_span (map node_span nodes)) followed f (e ∙ spans_left nodes) h
+pub more_after : (nodes : List Node) (t followed f : Bool) → t ≡ (length nodes == 0) → f ≡ (not t || followed) → f ≡ (has_span (map node_span nodes) || followed)
+more_after nodes t followed f e h = or_more t (has_span (map node_span nodes)) followed f (e ∙ spans_left nodes) h
 
-pub step_along : (node : Node) (others : List Node) (rest behind raw text : List ℕ) (start : ℕ) (followed f digest : Bool) (left : ℕ) → behind ≡ drop (out-Node node).delimiter rest → raw ≡ take (out-Node node).size behind → text ≡ drop (out-Node node).size behind
+pub step_along : (node : Node) (others : List Node) (rest following raw text : List ℕ) (start : ℕ) (followed f digest : Bool) (left : ℕ) → following ≡ drop (out-Node node).delimiter rest → raw ≡ take (out-Node node).size following → text ≡ drop (out-Node node).size following
     → f ≡ (has_span (map node_span others) || followed)
     → placed_along (map node_span (node ∷ others)) rest start followed digest left
     ≡ placed_over raw (start + (out-Node node).delimiter) f digest left ∷ placed_along (map node_span others) text (start + (out-Node node).delimiter + (out-Node node).size) followed digest left
-step_along node others rest behind raw text start followed f digest left b r t q =
+step_along node others rest following raw text start followed f digest left b r t q =
     let d : delimiter_of (node_span node) ≡ (out-Node node).delimiter = ap delimiter_of (opens node) in
     let w : whole_of (node_span node) ≡ (out-Node node).size = ap whole_of (opens node) in
     let first : first_text (node_span node) rest ≡ raw = (λ i. take (w i) (drop (d i) rest)) ∙ (ap (take (out-Node node).size) (sym b) ∙ sym r) in
-    let next : text_behind (node_span node) rest ≡ text = (λ i. drop (w i) (drop (d i) rest)) ∙ (ap (drop (out-Node node).size) (sym b) ∙ sym t) in
+    let next : text_after (node_span node) rest ≡ text = (λ i. drop (w i) (drop (d i) rest)) ∙ (ap (drop (out-Node node).size) (sym b) ∙ sym t) in
     λ i. placed_over (first i) (start + d i) (sym q i) digest left ∷ placed_along (map node_span others) (next i) (start + d i + w i) followed digest left

@@ -52,10 +52,10 @@ front_parts zero ps = no_parts
 front_parts (suc k) no_parts = no_parts
 front_parts (suc k) (part l e ps) = part l e (front_parts k ps)
 
-abbrev parts_behind : ℕ → Parts → Parts
-parts_behind zero ps = ps
-parts_behind (suc k) no_parts = no_parts
-parts_behind (suc k) (part l e ps) = parts_behind k ps
+abbrev parts_after : ℕ → Parts → Parts
+parts_after zero ps = ps
+parts_after (suc k) no_parts = no_parts
+parts_after (suc k) (part l e ps) = parts_after k ps
 
 abbrev first_delimiter : Parts → TextLine
 first_delimiter no_parts = text_line [] Missing
@@ -109,13 +109,13 @@ abbrev made : Entity → Parts → Entity
 made e ps = multi (entity_head e) (boundary_of e) (preamble_lines e) ps (tail_of e)
 
 abbrev new_part : Parts
-new_part = parts_behind 1 (parts_of (tree three).root)
+new_part = parts_after 1 (parts_of (tree three).root)
 
-old_made : entity_eq (tree two).root (made (tree two).root (append_parts (front_parts 1 (parts_of (tree two).root)) (parts_behind 1 (parts_of (tree two).root)))) ≡ true
+old_made : entity_eq (tree two).root (made (tree two).root (append_parts (front_parts 1 (parts_of (tree two).root)) (parts_after 1 (parts_of (tree two).root)))) ≡ true
 unfolding kind
 old_made = refl
 
-new_made : entity_eq (tree three).root (made (tree two).root (append_parts (front_parts 1 (parts_of (tree two).root)) (part (first_delimiter new_part) (first_entity (tree two).root new_part) (parts_behind 1 (parts_of (tree two).root))))) ≡ true
+new_made : entity_eq (tree three).root (made (tree two).root (append_parts (front_parts 1 (parts_of (tree two).root)) (part (first_delimiter new_part) (first_entity (tree two).root new_part) (parts_after 1 (parts_of (tree two).root))))) ≡ true
 unfolding kind
 new_made = refl
 
@@ -135,7 +135,7 @@ part_text = record {
   before = front_parts 1 (parts_of (tree two).root);
   delimiter = first_delimiter new_part;
   new = first_entity (tree two).root new_part;
-  after = parts_behind 1 (parts_of (tree two).root);
+  after = parts_after 1 (parts_of (tree two).root);
   tail = tail_of (tree two).root;
   section_is = entity_same _ _ old_made;
   result_is = entity_same _ _ new_made;
@@ -146,11 +146,11 @@ part_text = record {
 pub a_part : (text : List ℕ) → text ≡ codes "--b\nContent-Transfer-Encoding: base64\n\naGk=\n" → SectionBecomes (1 ∷ []) (HasPart 1 text) (tree two) (tree three)
 a_part text e = root_becomes two three (HasPart 1 text) refl (subst (λ t. HasPart 1 t (tree two).root (tree three).root) (sym e) part_text)
 
-first_made : entity_eq (tree two).root (made (tree two).root (part (first_delimiter (parts_of (tree two).root)) (first_entity (tree two).root (parts_of (tree two).root)) (parts_behind 1 (parts_of (tree two).root)))) ≡ true
+first_made : entity_eq (tree two).root (made (tree two).root (part (first_delimiter (parts_of (tree two).root)) (first_entity (tree two).root (parts_of (tree two).root)) (parts_after 1 (parts_of (tree two).root)))) ≡ true
 unfolding kind
 first_made = refl
 
-rest_made : entity_eq (tree last).root (made (tree two).root (parts_behind 1 (parts_of (tree two).root))) ≡ true
+rest_made : entity_eq (tree last).root (made (tree two).root (parts_after 1 (parts_of (tree two).root))) ≡ true
 unfolding kind
 rest_made = refl
 
@@ -162,7 +162,7 @@ less_text = record {
   before = no_parts;
   delimiter = first_delimiter (parts_of (tree two).root);
   old = first_entity (tree two).root (parts_of (tree two).root);
-  after = parts_behind 1 (parts_of (tree two).root);
+  after = parts_after 1 (parts_of (tree two).root);
   tail = tail_of (tree two).root;
   section_is = entity_same _ _ first_made;
   result_is = entity_same _ _ rest_made;

@@ -1,7 +1,7 @@
 -- An entity, read as its head and its body.
 use Rattle.std.proofs.Common.{◌≡◌, ◌+◌, ◌-◌, ℕ, Bool, false, List, refl, ap, sym, ◌∙◌, subst, length, take, arith}
 use Rattle.mk_line.specs.Lines.{TextLine, cut as lines_of}
-use Rattle.mk_head.specs.Split.{Head, head_of, behind_head, fields_from, separator_of, body_of, option_line}
+use Rattle.mk_head.specs.Split.{Head, head_of, after_head, fields_from, separator_of, body_of, option_line}
 use Rattle.mk_tree.specs.Kinds.{kind_at}
 use Rattle.mk_tree.specs.Tree.{Entity, leaf, message, multi, read, entity_by, entity_head, print}
 use Rattle.mk_tree.specs.Places.{below}
@@ -25,8 +25,8 @@ head_until bs ls = record { fields = fields_until bs false ls; separator = separ
 head_is : (bs : List (List ℕ)) (ls : List TextLine) → head_of (upto bs ls) ≡ head_until bs ls
 head_is bs ls = λ i. record { fields = fields_upto bs false ls i; separator = (ap separator_of (rest_upto bs false ls) ∙ (separator_upto bs (rest_until bs false ls)).0) i }
 
-behind_is : (bs : List (List ℕ)) (ls : List TextLine) → behind_head (upto bs ls) ≡ upto bs (body_of (rest_until bs false ls))
-behind_is bs ls = ap body_of (rest_upto bs false ls) ∙ (separator_upto bs (rest_until bs false ls)).1
+following_is : (bs : List (List ℕ)) (ls : List TextLine) → after_head (upto bs ls) ≡ upto bs (body_of (rest_until bs false ls))
+following_is bs ls = ap body_of (rest_upto bs false ls) ∙ (separator_upto bs (rest_until bs false ls)).1
 
 -- the entity up to a mark
 abbrev entity_until : ℕ → Bool → List (List ℕ) → List TextLine → List TextLine → Entity
@@ -35,7 +35,7 @@ entity_until left digest bs ls body = entity_by (read (below left)) (kind_at lef
 read_until : (left : ℕ) (digest : Bool) (bs : List (List ℕ)) (ls body : List TextLine) → body_of (rest_until bs false ls) ≡ body → read left digest (upto bs ls) ≡ entity_until left digest bs ls body
 read_until left digest bs ls body e =
     read_is left digest (upto bs ls)
-    ∙ (λ i. entity_by (read (below left)) (kind_at left (fields_upto bs false ls i) digest) (head_is bs ls i) ((behind_is bs ls ∙ ap (upto bs) e) i))
+    ∙ (λ i. entity_by (read (below left)) (kind_at left (fields_upto bs false ls i) digest) (head_is bs ls i) ((following_is bs ls ∙ ap (upto bs) e) i))
 
 span_until : (left : ℕ) (digest : Bool) (bs : List (List ℕ)) (delimiter : ℕ) (ls body : List TextLine) (fields separator whole : ℕ) (form : Form) (spans : Spans)
     → body_of (rest_until bs false ls) ≡ body
@@ -51,31 +51,31 @@ span_until left digest bs delimiter ls body fields separator whole form spans d 
     ∙ (sym (span_parts digest delimiter (entity_until left digest bs ls body)) ∙ ap (span_of digest delimiter) (sym is))
 
 -- what follows the entity
-pub entity_rest : (bs : List (List ℕ)) (text behind body rest : List ℕ)
-    → rest_until bs false (lines_of text) ≡ lines_of behind → body_of (lines_of behind) ≡ lines_of body → lines_of rest ≡ beyond bs (lines_of body)
+pub entity_rest : (bs : List (List ℕ)) (text following body rest : List ℕ)
+    → rest_until bs false (lines_of text) ≡ lines_of following → body_of (lines_of following) ≡ lines_of body → lines_of rest ≡ beyond bs (lines_of body)
     → lines_of rest ≡ beyond bs (lines_of text)
-entity_rest bs text behind body rest b d r =
-    r ∙ (ap (beyond bs) (sym d) ∙ ((separator_upto bs (lines_of behind)).2 ∙ (ap (beyond bs) (sym b) ∙ beyond_rest bs false (lines_of text))))
+entity_rest bs text following body rest b d r =
+    r ∙ (ap (beyond bs) (sym d) ∙ ((separator_upto bs (lines_of following)).2 ∙ (ap (beyond bs) (sym b) ∙ beyond_rest bs false (lines_of text))))
 
-head_lines_are : (bs : List (List ℕ)) (text behind : List ℕ) → length text ≡ size (fields_until bs false (lines_of text)) + length behind
-    → fields_from false (lines_of (take (length text - length behind) text)) ≡ fields_until bs false (lines_of text)
-head_lines_are bs text behind a =
-    ap (fields_from false) (front_lines text (fields_until bs false (lines_of text)) (rest_until bs false (lines_of text)) (length text - length behind) (sym (until_apart bs false (lines_of text))) (omega (arith, a)))
+head_lines_are : (bs : List (List ℕ)) (text following : List ℕ) → length text ≡ size (fields_until bs false (lines_of text)) + length following
+    → fields_from false (lines_of (take (length text - length following) text)) ≡ fields_until bs false (lines_of text)
+head_lines_are bs text following a =
+    ap (fields_from false) (front_lines text (fields_until bs false (lines_of text)) (rest_until bs false (lines_of text)) (length text - length following) (sym (until_apart bs false (lines_of text))) (omega (arith, a)))
     ∙ fields_again bs false (lines_of text)
 
-pub entity_kept : (left : ℕ) (digest : Bool) (bs : List (List ℕ)) (delimiter : ℕ) (text behind body rest : List ℕ) (form : Form) (spans : Spans)
-    → length text ≡ size (fields_until bs false (lines_of text)) + length behind
-    → rest_until bs false (lines_of text) ≡ lines_of behind
-    → length behind ≡ size (option_line (separator_of (lines_of behind))) + length body
-    → body_of (lines_of behind) ≡ lines_of body
-    → KeptOfBody left digest (fields_from false (lines_of (take (length text - length behind) text))) (upto bs (lines_of body)) form spans
+pub entity_kept : (left : ℕ) (digest : Bool) (bs : List (List ℕ)) (delimiter : ℕ) (text following body rest : List ℕ) (form : Form) (spans : Spans)
+    → length text ≡ size (fields_until bs false (lines_of text)) + length following
+    → rest_until bs false (lines_of text) ≡ lines_of following
+    → length following ≡ size (option_line (separator_of (lines_of following))) + length body
+    → body_of (lines_of following) ≡ lines_of body
+    → KeptOfBody left digest (fields_from false (lines_of (take (length text - length following) text))) (upto bs (lines_of body)) form spans
     → lines_of rest ≡ beyond bs (lines_of body)
-    → span delimiter (length text - length behind) (length behind - length body) (length text - length rest) form spans ≡ span_of digest delimiter (read left digest (upto bs (lines_of text)))
-entity_kept left digest bs delimiter text behind body rest form spans a b c d k r =
-    let same = entity_rest bs text behind body rest b d r in
-    span_until left digest bs delimiter (lines_of text) (lines_of body) (length text - length behind) (length behind - length body) (length text - length rest) form spans
+    → span delimiter (length text - length following) (length following - length body) (length text - length rest) form spans ≡ span_of digest delimiter (read left digest (upto bs (lines_of text)))
+entity_kept left digest bs delimiter text following body rest form spans a b c d k r =
+    let same = entity_rest bs text following body rest b d r in
+    span_until left digest bs delimiter (lines_of text) (lines_of body) (length text - length following) (length following - length body) (length text - length rest) form spans
     (ap body_of b ∙ d)
     (omega (arith, a))
     (omega (arith, c, ap (λ ls. size (option_line (separator_of ls))) b))
     (omega (arith, size_cut text, size_cut rest, ap size same, size_beyond bs (lines_of text)))
-    (subst (λ fs. KeptOfBody left digest fs (upto bs (lines_of body)) form spans) (head_lines_are bs text behind a) k)
+    (subst (λ fs. KeptOfBody left digest fs (upto bs (lines_of body)) form spans) (head_lines_are bs text following a) k)

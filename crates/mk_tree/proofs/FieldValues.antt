@@ -7,14 +7,14 @@ use Rattle.mk_head.specs.Fields.{FieldText, continuations, field_text, fields_of
 use Rattle.mk_head.specs.Unfolding.{value_in}
 use Rattle.mk_head.specs.Types.{field_value}
 use Rattle.mk_head.proofs.Splits.{fields_rest}
-use Rattle.mk_head.proofs.FieldRuns.{behind_more, more_behind}
+use Rattle.mk_head.proofs.FieldRuns.{after_more, more_after}
 use Rattle.std.specs.Option.{is_some}
 use Rattle.mk_head.specs.declared.fields.Field.{Field}
 use Rattle.mk_tree.specs.inner.Said.{first_value, value_said, said_first}
 use Rattle.mk_tree.proofs.Heads.{lines_front}
 
 raw_lines : (l : TextLine) (ls : List TextLine) → AreLines (l ∷ ls) → cut (text_of (l ∷ continuations ls)) ≡ l ∷ continuations ls
-raw_lines l ls h = cut_text (l ∷ continuations ls) (lines_front (l ∷ continuations ls) (behind_more ls) (subst (λ xs. AreLines (l ∷ xs)) (sym (more_behind ls)) h))
+raw_lines l ls h = cut_text (l ∷ continuations ls) (lines_front (l ∷ continuations ls) (after_more ls) (subst (λ xs. AreLines (l ∷ xs)) (sym (more_after ls)) h))
 
 value_step : (name : List ℕ) (l : TextLine) (ls : List TextLine) (t u : Bool) → is_start l ≡ t → is_named name (field_text l []) ≡ u → AreLines (l ∷ ls) → field_value name ls ≡ first_value name (fields_of ls) → field_value name (l ∷ ls) ≡ first_value name (fields_of (l ∷ ls))
 value_step name l ls false u e f h k = rw e k

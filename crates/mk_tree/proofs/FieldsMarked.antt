@@ -7,8 +7,8 @@ use Rattle.mk_line.specs.Kinds.{is_continuation}
 use Rattle.mk_line.specs.Lines.{TextLine, text_of, cut}
 use Rattle.mk_line.proofs.Cuts.{text_cut, text_append}
 use Rattle.mk_head.specs.Split.{is_start, is_more, fields_from}
-use Rattle.mk_head.specs.Fields.{BeginsField, behind_more, continuations}
-use Rattle.mk_head.proofs.FieldRuns.{more_behind}
+use Rattle.mk_head.specs.Fields.{BeginsField, after_more, continuations}
+use Rattle.mk_head.proofs.FieldRuns.{more_after}
 use Rattle.mk_tree.specs.Spans.{size}
 use Rattle.mk_tree.specs.Upto.{is_marked, fields_until, rest_until}
 use Rattle.mk_tree.specs.inner.Marked.{first_marked}
@@ -34,49 +34,49 @@ or_true true = refl
 or_true false = refl
 
 -- inside a field, no mark ends its continuations
-until_inside : (bs : List (List ℕ)) (ls : List TextLine) → fields_until bs true ls ≡ continuations ls ++ fields_until bs false (behind_more ls)
+until_inside : (bs : List (List ℕ)) (ls : List TextLine) → fields_until bs true ls ≡ continuations ls ++ fields_until bs false (after_more ls)
 until_inside bs [] = refl
 until_inside bs (l ∷ ls) = elim (cases_Bool (is_more l)) [
   | inl h ↦ rw (h, more_unmarked bs l h, or_true (is_start l)) (ap (λ xs. l ∷ xs) (until_inside bs ls))
   | inr f ↦ rw f refl
 ]
 
-rest_inside : (bs : List (List ℕ)) (ls : List TextLine) → rest_until bs true ls ≡ rest_until bs false (behind_more ls)
+rest_inside : (bs : List (List ℕ)) (ls : List TextLine) → rest_until bs true ls ≡ rest_until bs false (after_more ls)
 rest_inside bs [] = refl
 rest_inside bs (l ∷ ls) = elim (cases_Bool (is_more l)) [
   | inl h ↦ rw (h, more_unmarked bs l h, or_true (is_start l)) (rest_inside bs ls)
   | inr f ↦ rw f refl
 ]
 
-until_first : (bs : List (List ℕ)) (l : TextLine) (ls : List TextLine) → is_marked bs l ≡ false → is_start l ≡ true → fields_until bs false (l ∷ ls) ≡ l ∷ (continuations ls ++ fields_until bs false (behind_more ls))
+until_first : (bs : List (List ℕ)) (l : TextLine) (ls : List TextLine) → is_marked bs l ≡ false → is_start l ≡ true → fields_until bs false (l ∷ ls) ≡ l ∷ (continuations ls ++ fields_until bs false (after_more ls))
 until_first bs l ls m s = rw (m, s) (ap (λ xs. l ∷ xs) (until_inside bs ls))
 
-rest_first : (bs : List (List ℕ)) (l : TextLine) (ls : List TextLine) → is_marked bs l ≡ false → is_start l ≡ true → rest_until bs false (l ∷ ls) ≡ rest_until bs false (behind_more ls)
+rest_first : (bs : List (List ℕ)) (l : TextLine) (ls : List TextLine) → is_marked bs l ≡ false → is_start l ≡ true → rest_until bs false (l ∷ ls) ≡ rest_until bs false (after_more ls)
 rest_first bs l ls m s = rw (m, s) (rest_inside bs ls)
 
 -- a field that no mark begins is passed over
-pub rest_passed : (bs : List (List ℕ)) (text behind : List ℕ) → BeginsField text behind → first_marked bs (cut text) ≡ false → rest_until bs false (cut text) ≡ rest_until bs false (cut behind)
-rest_passed bs text behind h m =
+pub rest_passed : (bs : List (List ℕ)) (text following : List ℕ) → BeginsField text following → first_marked bs (cut text) ≡ false → rest_until bs false (cut text) ≡ rest_until bs false (cut following)
+rest_passed bs text following h m =
     ap (rest_until bs false) h.lines
-    ∙ (rest_first bs h.start h.more (ap (first_marked bs) (sym h.lines) ∙ m) h.starts ∙ ap (rest_until bs false) (sym h.behind))
+    ∙ (rest_first bs h.start h.more (ap (first_marked bs) (sym h.lines) ∙ m) h.starts ∙ ap (rest_until bs false) (sym h.following))
 
-field_bytes : (text behind : List ℕ) → (h : BeginsField text behind) → length text ≡ length (text_of (h.start ∷ continuations h.more)) + length behind
-field_bytes text behind h =
-    let lines : h.start ∷ h.more ≡ (h.start ∷ continuations h.more) ++ behind_more h.more = ap (λ xs. h.start ∷ xs) (sym (more_behind h.more)) in
-    let whole : text ≡ text_of (h.start ∷ continuations h.more) ++ text_of (behind_more h.more) =
-    sym (text_cut text) ∙ (ap text_of (h.lines ∙ lines) ∙ text_append (h.start ∷ continuations h.more) (behind_more h.more)) in
-    let rest : text_of (behind_more h.more) ≡ behind = ap text_of (sym h.behind) ∙ text_cut behind in
-    omega (arith, ap length whole, ap length rest, length-append (text_of (h.start ∷ continuations h.more)) (text_of (behind_more h.more)))
+field_bytes : (text following : List ℕ) → (h : BeginsField text following) → length text ≡ length (text_of (h.start ∷ continuations h.more)) + length following
+field_bytes text following h =
+    let lines : h.start ∷ h.more ≡ (h.start ∷ continuations h.more) ++ after_more h.more = ap (λ xs. h.start ∷ xs) (sym (more_after h.more)) in
+    let whole : text ≡ text_of (h.start ∷ continuations h.more) ++ text_of (after_more h.more) =
+    sym (text_cut text) ∙ (ap text_of (h.lines ∙ lines) ∙ text_append (h.start ∷ continuations h.more) (after_more h.more)) in
+    let rest : text_of (after_more h.more) ≡ following = ap text_of (sym h.following) ∙ text_cut following in
+    omega (arith, ap length whole, ap length rest, length-append (text_of (h.start ∷ continuations h.more)) (text_of (after_more h.more)))
 
-pub size_passed : (bs : List (List ℕ)) (text behind : List ℕ) → BeginsField text behind → first_marked bs (cut text) ≡ false
-    → size (fields_until bs false (cut text)) + length behind ≡ length text + size (fields_until bs false (cut behind))
-size_passed bs text behind h m =
+pub size_passed : (bs : List (List ℕ)) (text following : List ℕ) → BeginsField text following → first_marked bs (cut text) ≡ false
+    → size (fields_until bs false (cut text)) + length following ≡ length text + size (fields_until bs false (cut following))
+size_passed bs text following h m =
     let front = h.start ∷ continuations h.more in
-    let later = fields_until bs false (behind_more h.more) in
+    let later = fields_until bs false (after_more h.more) in
     let fields : fields_until bs false (cut text) ≡ front ++ later =
     ap (fields_until bs false) h.lines ∙ until_first bs h.start h.more (ap (first_marked bs) (sym h.lines) ∙ m) h.starts in
-    let same : later ≡ fields_until bs false (cut behind) = ap (fields_until bs false) (sym h.behind) in
-    omega (arith, ap size fields, ap length (text_append front later), length-append (text_of front) (text_of later), ap size same, field_bytes text behind h)
+    let same : later ≡ fields_until bs false (cut following) = ap (fields_until bs false) (sym h.following) in
+    omega (arith, ap size fields, ap length (text_append front later), length-append (text_of front) (text_of later), ap size same, field_bytes text following h)
 
 some_lines : (l : TextLine) (ls : List TextLine) → l ∷ ls ≡ [] → ⊥
 some_lines l ls e = cc

@@ -3,7 +3,7 @@ use Rattle.std.proofs.Common.{◌≡◌, ◌≤◌, ◌+◌, ◌-◌, ◌++◌, 
 use Rattle.std.proofs.lemmas.List.{take_at, drop_at, take-append-le, drop-append-le}
 use Rattle.std.proofs.Math.Seq.{take-append-add, drop-append-add}
 use Rattle.mk_line.specs.Lines.{TextLine, AreLines, text_of, cut}
-use Rattle.mk_line.proofs.Cuts.{text_append, cut_text, lines_cut, lines_behind}
+use Rattle.mk_line.proofs.Cuts.{text_append, cut_text, lines_cut, lines_following}
 use Rattle.mk_head.specs.Split.{fields_from, option_line}
 use Rattle.mk_head.specs.Splits.{IsRun}
 use Rattle.mk_tree.specs.Cutting.{tail_lines}
@@ -27,15 +27,15 @@ run_again inside [] h = refl
 run_again inside (l ∷ ls) h = rw h.0 (ap (λ xs. l ∷ xs) (run_again true ls h.1))
 
 -- what follows the fields in the lines of an entity
-abbrev pub behind_fields : Entity → List TextLine
-behind_fields e = option_line (entity_head e).separator ++ body_lines e
+abbrev pub after_fields : Entity → List TextLine
+after_fields e = option_line (entity_head e).separator ++ body_lines e
 
-pub entity_lines : (e : Entity) → print e ≡ field_lines e ++ behind_fields e
+pub entity_lines : (e : Entity) → print e ≡ field_lines e ++ after_fields e
 entity_lines (leaf h ls) = append_assoc h.fields (option_line h.separator) ls
 entity_lines (message h e) = append_assoc h.fields (option_line h.separator) (print e)
 entity_lines (multi h b pre ps t) = append_assoc h.fields (option_line h.separator) (pre ++ (print_parts ps ++ tail_lines t))
 
-pub changed_lines : (fields : List TextLine) (e : Entity) → print (with_fields fields e) ≡ fields ++ behind_fields e
+pub changed_lines : (fields : List TextLine) (e : Entity) → print (with_fields fields e) ≡ fields ++ after_fields e
 changed_lines fields (leaf h ls) = append_assoc fields (option_line h.separator) ls
 changed_lines fields (message h e) = append_assoc fields (option_line h.separator) (print e)
 changed_lines fields (multi h b pre ps t) = append_assoc fields (option_line h.separator) (pre ++ (print_parts ps ++ tail_lines t))
@@ -66,8 +66,8 @@ spliced_middle a h x new place count b e =
 same_front : (y z x : List ℕ) → length y ≡ length z → y ++ x ≡ z ++ x → y ≡ z
 same_front y z x l e = sym (take_at y x (length y) refl) ∙ (ap (take (length y)) e ∙ take_at z x (length y) (sym l))
 
-same_behind : (a y z : List ℕ) → a ++ y ≡ a ++ z → y ≡ z
-same_behind a y z e = sym (drop_at a y (length a) refl) ∙ (ap (drop (length a)) e ∙ drop_at a z (length a) refl)
+same_after : (a y z : List ℕ) → a ++ y ≡ a ++ z → y ≡ z
+same_after a y z e = sym (drop_at a y (length a) refl) ∙ (ap (drop (length a)) e ∙ drop_at a z (length a) refl)
 
 -- the head's bytes after the change are those of the new fields
 pub head_after : (t : Document) (path : List ℕ) (place count : ℕ) (new : List ℕ) (c : ChangesFields path place count new t)
@@ -75,16 +75,16 @@ pub head_after : (t : Document) (path : List ℕ) (place count : ℕ) (new : Lis
 head_after t path place count new c =
     let front = option_line t.envelope ++ lines_before c.around in
     let h = text_of (field_lines c.section) in
-    let rest = behind_fields c.section ++ lines_after c.around in
+    let rest = after_fields c.section ++ lines_after c.around in
     let before : printed t ≡ text_of front ++ (h ++ text_of rest) =
     ap printed (sym (around_is t path place count new c))
-    ∙ (ap text_of (apart t.envelope c.around c.section (field_lines c.section) (behind_fields c.section) (entity_lines c.section)) ∙ text_apart front (field_lines c.section) rest) in
+    ∙ (ap text_of (apart t.envelope c.around c.section (field_lines c.section) (after_fields c.section) (entity_lines c.section)) ∙ text_apart front (field_lines c.section) rest) in
     let after : printed (put t.envelope c.around (with_fields c.fields c.section)) ≡ text_of front ++ (text_of c.fields ++ text_of rest) =
-    ap text_of (apart t.envelope c.around (with_fields c.fields c.section) c.fields (behind_fields c.section) (changed_lines c.fields c.section)) ∙ text_apart front c.fields rest in
+    ap text_of (apart t.envelope c.around (with_fields c.fields c.section) c.fields (after_fields c.section) (changed_lines c.fields c.section)) ∙ text_apart front c.fields rest in
     let from = place - size front in
     let sizes = field_sizes t path place count new c in
     let same : spliced from count new h ++ text_of rest ≡ text_of c.fields ++ text_of rest =
-    same_behind (text_of front) (spliced from count new h ++ text_of rest) (text_of c.fields ++ text_of rest)
+    same_after (text_of front) (spliced from count new h ++ text_of rest) (text_of c.fields ++ text_of rest)
     (sym (spliced_middle (text_of front) h (text_of rest) new place count c.begins c.ends) ∙ (ap (spliced place count new) (sym before) ∙ (c.printed_so ∙ after))) in
     same_front (spliced from count new h) (text_of c.fields) (text_of rest)
     (omega (arith, length-spliced from count new h (omega (arith, c.begins, c.ends)), sizes.fields_size, sizes.count_fits)) same
@@ -100,9 +100,9 @@ pub fields_after : (t : Document) (path : List ℕ) (place count : ℕ) (new : L
 fields_after t path place count new c =
     let u = put t.envelope c.around (with_fields c.fields c.section) in
     let front = option_line t.envelope ++ lines_before c.around in
-    let rest = behind_fields c.section ++ lines_after c.around in
+    let rest = after_fields c.section ++ lines_after c.around in
     let lines : AreLines (front ++ (c.fields ++ rest)) =
-    subst AreLines ((stable_kept u c.stable).lines ∙ apart t.envelope c.around (with_fields c.fields c.section) c.fields (behind_fields c.section) (changed_lines c.fields c.section)) (lines_cut (printed u)) in
-    let own : AreLines c.fields = lines_front c.fields rest (lines_behind front (c.fields ++ rest) lines) in
+    subst AreLines ((stable_kept u c.stable).lines ∙ apart t.envelope c.around (with_fields c.fields c.section) c.fields (after_fields c.section) (changed_lines c.fields c.section)) (lines_cut (printed u)) in
+    let own : AreLines c.fields = lines_front c.fields rest (lines_following front (c.fields ++ rest) lines) in
     let run = head_run (left_at levels c.around) (default_at false c.around) c.fields c.section (own_of levels false c.around (with_fields c.fields c.section) (stable_well t.envelope c.around (with_fields c.fields c.section) c.stable)) in
     ap (λ x. fields_from false (cut x)) (head_after t path place count new c) ∙ (ap (fields_from false) (cut_text c.fields own) ∙ run_again false c.fields run)

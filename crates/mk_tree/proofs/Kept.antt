@@ -4,7 +4,7 @@ use Rattle.mk_line.specs.Lines.{TextLine, cut, text_of}
 use Rattle.mk_line.specs.Kinds.{is_from_line}
 use Rattle.mk_line.proofs.Cuts.{text_cut}
 use Rattle.mk_head.proofs.Splits.{head_body}
-use Rattle.mk_head.specs.Split.{Head, head_of, head_lines, behind_head}
+use Rattle.mk_head.specs.Split.{Head, head_of, head_lines, after_head}
 use Rattle.mk_tree.specs.Kinds.{Kind, Leaf, Message, Multi, kind}
 use Rattle.mk_tree.specs.Cutting.{cut_by, parts_lines}
 use Rattle.mk_tree.specs.Tree.{Entity, parts_by, entity_by, read, print, print_parts}
@@ -22,7 +22,7 @@ print_by f e (Multi b digest) h ls = rw (print_parts_by (f digest) (e digest) (c
 
 pub print_read : (n : ℕ) (d : Bool) (ls : List TextLine) → print (read n d ls) ≡ ls
 print_read zero d ls = head_body ls
-print_read (suc n) d ls = print_by (read n) (print_read n) (kind (head_of ls).fields d) (head_of ls) (behind_head ls) ∙ head_body ls
+print_read (suc n) d ls = print_by (read n) (print_read n) (kind (head_of ls).fields d) (head_of ls) (after_head ls) ∙ head_body ls
 
 enveloped_kept : (t : Bool) (l : TextLine) (ls : List TextLine) → document_lines (enveloped t l ls) ≡ l ∷ ls
 enveloped_kept true l ls = ap (λ xs. l ∷ xs) (print_read levels false ls)

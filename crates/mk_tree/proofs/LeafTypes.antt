@@ -5,7 +5,7 @@ use Rattle.std.specs.Char.{to_ascii_lowercase}
 use Rattle.std.specs.Str.{bytes_eq}
 use Rattle.mk_line.specs.Ascii.{is_blank, opening, semicolon, slash}
 use Rattle.mk_line.specs.Marks.{trimmed, trimmed_before}
-use Rattle.mk_line.specs.Parting.{before, behind}
+use Rattle.mk_line.specs.Parting.{before, following}
 use Rattle.mk_head.specs.declared.encodings.Encoding.{Encoding}
 use Rattle.mk_head.specs.Values.{MediaType, Scan, Plain, scan, content_type_of, is_kept, is_token, lowered, parameters, pieces, push_first, stripped, typed_as, type_of_pieces, uncommented, unled}
 use Rattle.mk_head.specs.Depths.{first_piece, other_pieces}
@@ -39,11 +39,11 @@ typed_word : (b : ℕ) (main : List ℕ) (sub : Option (List ℕ)) (params : Lis
 typed_word b main None params h = (refl, refl)
 typed_word b main (Some sub) params h = typed_test b main sub params (is_token (b ∷ main) && is_token sub) refl h
 
-typed_other : (b : ℕ) (bs : List ℕ) (params : List (List ℕ × List ℕ)) → (to_ascii_lowercase b == 109) ≡ false → IsOther (typed_as (before slash (b ∷ bs)) (behind slash (b ∷ bs)) params).main
+typed_other : (b : ℕ) (bs : List ℕ) (params : List (List ℕ × List ℕ)) → (to_ascii_lowercase b == 109) ≡ false → IsOther (typed_as (before slash (b ∷ bs)) (following slash (b ∷ bs)) params).main
 typed_other b bs params h =
     elim (cases_Bool (b == slash)) [
       | inl k ↦ rw k (typed_nothing (Some bs) params)
-      | inr k ↦ rw k (typed_word b (before slash bs) (behind slash bs) params h)
+      | inr k ↦ rw k (typed_word b (before slash bs) (following slash bs) params h)
     ]
 
 bare : (b : ℕ) (t : List ℕ) → is_blank b ≡ false → trimmed_before b t ≡ b ∷ t
@@ -55,7 +55,7 @@ stripped_other b bs h = rw h (bare b (trimmed bs) h)
 
 piece_other : (b : ℕ) (piece : List ℕ) (others : List (List ℕ)) → is_blank b ≡ false → (to_ascii_lowercase b == 109) ≡ false → IsOther (type_of_pieces ((b ∷ piece) ∷ others)).main
 piece_other b piece others h k =
-    subst (λ x. IsOther (typed_as (before slash x) (behind slash x) (parameters others)).main) (sym (stripped_other b piece h)) (typed_other b (trimmed piece) (parameters others) k)
+    subst (λ x. IsOther (typed_as (before slash x) (following slash x) (parameters others)).main) (sym (stripped_other b piece h)) (typed_other b (trimmed piece) (parameters others) k)
 
 text_other : (b : ℕ) (bs : List ℕ) → is_blank b ≡ false → (to_ascii_lowercase b == 109) ≡ false → IsOther (type_of_pieces (pieces Plain (b ∷ bs))).main
 text_other b bs h k =

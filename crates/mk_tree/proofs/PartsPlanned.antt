@@ -1,7 +1,7 @@
 -- A part more, and a part less.
 use Rattle.std.proofs.Common.{◌≡◌, ◌≤◌, ◌<◌, ◌+◌, ◌-◌, ◌++◌, ℕ, zero, suc, Bool, Option, List, [], ◌∷◌, refl, ap, sym, ◌∙◌, subst, length, arith}
 use Rattle.mk_line.specs.Lines.{TextLine, AreLines, cut, text_of}
-use Rattle.mk_line.proofs.Cuts.{text_append, cut_text, lines_behind}
+use Rattle.mk_line.proofs.Cuts.{text_append, cut_text, lines_following}
 use Rattle.mk_head.specs.Split.{Head, head_lines, option_line}
 use Rattle.mk_tree.specs.declared.changing.Own.TheVariants as own
 use Rattle.mk_tree.specs.declared.node.Node.{Node}
@@ -28,13 +28,13 @@ less_one (suc n) = omega arith
 -- the new part is read as it stands in the multipart
 part_read : (left : ℕ) (digest g : Bool) (k : ℕ) (new rest : List ℕ) (s e : Entity) (b : HasPart k new s e) → g ≡ form_digest (form_in digest s) → ((l : TextLine) (ls : List TextLine) → cut new ≡ l ∷ ls → cut rest ≡ ls) → AreLines (print e) → IsWellRead left digest e
     → (read (left - 1) g (cut rest) ≡ b.new) × (length new ≡ size (b.delimiter ∷ []) + length rest) × (g ≡ digest_below digest b.head)
-part_read left digest g k new rest s e b q behind lines well =
+part_read left digest g k new rest s e b q following lines well =
     let front = front_of b.head b.preamble b.before in
     let own : List TextLine = b.delimiter ∷ print b.new in
     let printed : print e ≡ front ++ (own ++ rest_of b.after b.tail) = ap print b.result_is ∙ print_with b.head b.boundary b.preamble b.before b.delimiter b.new b.after b.tail in
-    let own_lines : AreLines own = lines_front own (rest_of b.after b.tail) (lines_behind front (own ++ rest_of b.after b.tail) (subst AreLines printed lines)) in
+    let own_lines : AreLines own = lines_front own (rest_of b.after b.tail) (lines_following front (own ++ rest_of b.after b.tail) (subst AreLines printed lines)) in
     let new_cut : cut new ≡ own = ap cut (sym b.text_is) ∙ cut_text own own_lines in
-    let rest_cut : cut rest ≡ print b.new = behind b.delimiter (print b.new) new_cut in
+    let rest_cut : cut rest ≡ print b.new = following b.delimiter (print b.new) new_cut in
     let digest_is : g ≡ digest_below digest b.head = q ∙ ap (λ x. form_digest (form_in digest x)) b.section_is in
     let there : IsWellRead left digest (multi b.head b.boundary b.preamble (append_parts b.before (part b.delimiter b.new b.after)) b.tail) = subst (IsWellRead left digest) b.result_is well in
     let inner : IsWellRead (below left) (digest_below digest b.head) b.new = own_of left digest (in_multi b.head b.boundary b.preamble b.before b.delimiter b.after b.tail ∷ []) b.new there in (
@@ -49,10 +49,10 @@ multi_span digest n h b pre t whole spans = span n (size h.fields) (size (option
 pub makes_part : (p : Placed) (left deeper k place delimiter : ℕ) (g : Bool) (new rest : List ℕ) (node : Node) → IsBehindParts p k place → node_span node ≡ span_of g delimiter (read deeper g (cut rest)) → deeper ≡ left - 1 → g ≡ form_digest (form_in p.digest p.entity)
     → ((l : TextLine) (ls : List TextLine) → cut new ≡ l ∷ ls → cut rest ≡ ls) → delimiter ≡ length new - length rest
     → MakesAll p left (HasPart k new) new (record { place = place; count = 0; own = own.Part k node })
-makes_part p left deeper k place delimiter g new rest node a n v q behind m = λ e b lines well.
+makes_part p left deeper k place delimiter g new rest node a n v q following m = λ e b lines well.
     let front = front_of b.head b.preamble b.before in
     let own_text : text_of (b.delimiter ∷ print b.new) ≡ new = b.text_is in
-    let rd = part_read left p.digest g k new rest p.entity e b q behind lines well in
+    let rd = part_read left p.digest g k new rest p.entity e b q following lines well in
     let sides : print p.entity ≡ front ++ ([] ++ rest_of b.after b.tail) = ap print b.section_is ∙ print_sides b.head b.boundary b.preamble b.before b.after b.tail in
     let after : text_of (print e) ≡ text_of front ++ (new ++ text_of (rest_of b.after b.tail)) =
     ap (λ x. text_of (print x)) b.result_is

@@ -8,7 +8,7 @@ use Rattle.mk_tree.specs.Tree.{read, parts_by}
 use Rattle.mk_tree.specs.Spans.{size, Span, Spans, more_spans, no_spans, span_of, spans_of}
 use Rattle.mk_tree.specs.Nodes.{node_span, spans_with}
 use Rattle.mk_tree.specs.Upto.{upto, beyond, inner}
-use Rattle.mk_tree.specs.Steps.{begins_part, behind_first, first_size, AtMark, KeptOfParts}
+use Rattle.mk_tree.specs.Steps.{begins_part, after_first, first_size, AtMark, KeptOfParts}
 use Rattle.mk_tree.proofs.Descent.{from_mark, inner_front, PartFirst, part_first, inner_end, at_beyond, beyond_inside, size_cut, size_beyond}
 
 pub spans_push : (xs : List Span) (x : Span) (rest : Spans) → spans_with (xs ++ x ∷ []) rest ≡ spans_with xs (more_spans x rest)
@@ -62,8 +62,8 @@ first_part left digest bs b ls front done l rest n h p e = record {
 }
 
 next_part : (left : ℕ) (digest : Bool) (bs : List (List ℕ)) (b : List ℕ) (ls : List TextLine) (front : ℕ) (done : List Span) (rest : List TextLine) (n : Span)
-    → PartsRead left digest bs b ls front done rest → begins_part bs b rest ≡ true → n ≡ span_of digest (first_size rest) (read left digest (upto (bs ++ b ∷ []) (behind_first rest)))
-    → PartsRead left digest bs b ls front (done ++ n ∷ []) (beyond (bs ++ b ∷ []) (behind_first rest))
+    → PartsRead left digest bs b ls front done rest → begins_part bs b rest ≡ true → n ≡ span_of digest (first_size rest) (read left digest (upto (bs ++ b ∷ []) (after_first rest)))
+    → PartsRead left digest bs b ls front (done ++ n ∷ []) (beyond (bs ++ b ∷ []) (after_first rest))
 next_part left digest bs b ls front done [] n h g e = cc
 next_part left digest bs b ls front done (l ∷ rest) n h g e = first_part left digest bs b ls front done l rest n h (part_first bs b l rest g) (e ∙ ap (λ k. span_of digest k (read left digest (upto (bs ++ b ∷ []) rest))) (one_line l))
 
@@ -71,7 +71,7 @@ pub parts_next : (left : ℕ) (digest : Bool) (bs inside : List (List ℕ)) (b :
     → inside ≡ bs ++ b ∷ []
     → PartsRead left digest bs b ls front (map node_span items) (lines_of rest)
     → begins_part bs b (lines_of rest) ≡ true
-    → lines_of start ≡ behind_first (lines_of rest)
+    → lines_of start ≡ after_first (lines_of rest)
     → length rest ≡ first_size (lines_of rest) + length start
     → delimiter ≡ length rest - length start
     → node_span node ≡ span_of digest delimiter (read left digest (upto inside (lines_of start)))
@@ -80,11 +80,11 @@ pub parts_next : (left : ℕ) (digest : Bool) (bs inside : List (List ℕ)) (b :
     → PartsRead left digest bs b ls front (map node_span pushed) (lines_of next)
 parts_next left digest bs inside b ls front items pushed node delimiter rest start next i h g s d k e n p =
     let size_is : delimiter ≡ first_size (lines_of rest) = omega (arith, d, k) in
-    let node_is : node_span node ≡ span_of digest (first_size (lines_of rest)) (read left digest (upto (bs ++ b ∷ []) (behind_first (lines_of rest)))) =
+    let node_is : node_span node ≡ span_of digest (first_size (lines_of rest)) (read left digest (upto (bs ++ b ∷ []) (after_first (lines_of rest)))) =
     e ∙ (ap (λ j. span_of digest j (read left digest (upto inside (lines_of start)))) size_is
     ∙ (ap (λ is. span_of digest (first_size (lines_of rest)) (read left digest (upto is (lines_of start)))) i
     ∙ ap (λ xs. span_of digest (first_size (lines_of rest)) (read left digest (upto (bs ++ b ∷ []) xs))) s)) in
-    let next_is : beyond (bs ++ b ∷ []) (behind_first (lines_of rest)) ≡ lines_of next = ap (beyond (bs ++ b ∷ [])) (sym s) ∙ (ap (λ is. beyond is (lines_of start)) (sym i) ∙ sym n) in
+    let next_is : beyond (bs ++ b ∷ []) (after_first (lines_of rest)) ≡ lines_of next = ap (beyond (bs ++ b ∷ [])) (sym s) ∙ (ap (λ is. beyond is (lines_of start)) (sym i) ∙ sym n) in
     subst (λ ns. PartsRead left digest bs b ls front ns (lines_of next)) (sym (map_push node_span items node) ∙ ap (map node_span) (sym p))
     (subst (λ ls'. PartsRead left digest bs b ls front (map node_span items ++ node_span node ∷ []) ls') next_is
     (next_part left digest bs b ls front (map node_span items) (lines_of rest) (node_span node) h g node_is))

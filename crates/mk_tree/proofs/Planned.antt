@@ -59,19 +59,19 @@ changed_so p e new xs ys zs place count s t q n =
 pub read_by : (left : ℕ) (digest : Bool) (e : Entity) (text : List ℕ) → text_of (print e) ≡ text → AreLines (print e) → IsWellRead left digest e → read left digest (cut text) ≡ e
 read_by left digest e text t l w = ap (λ x. read left digest (cut x)) (sym t) ∙ (ap (read left digest) (cut_text (print e) l) ∙ well_read left digest e w)
 
-entity_behind : (digest : Bool) (n m : ℕ) (e : Entity) → redelimited n (span_of digest m e) ≡ span_of digest n e
-entity_behind digest n m (leaf h ls) = refl
-entity_behind digest n m (message h e) = refl
-entity_behind digest n m (multi h b pre ps t) = refl
+entity_after : (digest : Bool) (n m : ℕ) (e : Entity) → redelimited n (span_of digest m e) ≡ span_of digest n e
+entity_after digest n m (leaf h ls) = refl
+entity_after digest n m (message h e) = refl
+entity_after digest n m (multi h b pre ps t) = refl
 
 own_entity : (digest : Bool) (n count added : ℕ) (s : Entity) (node : Node) → own_changed (own.Entity node) count added (span_of digest n s) ≡ redelimited n (node_span node)
 own_entity digest n count added (leaf h ls) node = refl
 own_entity digest n count added (message h e) node = refl
 own_entity digest n count added (multi h b pre ps t) node = refl
 
-nil_behind : (xs : List ℕ) → xs ++ [] ≡ xs
-nil_behind [] = refl
-nil_behind (x ∷ xs) = ap (λ ys. x ∷ ys) (nil_behind xs)
+nil_after : (xs : List ℕ) → xs ++ [] ≡ xs
+nil_after [] = refl
+nil_after (x ∷ xs) = ap (λ ys. x ∷ ys) (nil_after xs)
 
 -- another entity in the place of a section, or of what follows its head
 pub entity_made : (p : Placed) (left : ℕ) (e : Entity) (new whole : List ℕ) (place count : ℕ) (node : Node) → AreChanged p e new place count → text_of (print e) ≡ whole → node_span node ≡ span_of p.digest 0 (read left p.digest (cut whole))
@@ -80,7 +80,7 @@ entity_made p left e new whole place count node c t n l w = record {
   begins = c.begins;
   ends = c.ends;
   text = c.text;
-  lengths = λ k. own_entity p.digest k count (length new) p.entity node ∙ (ap (redelimited k) (n ∙ ap (span_of p.digest 0) (read_by left p.digest e whole t l w)) ∙ entity_behind p.digest k 0 e);
+  lengths = λ k. own_entity p.digest k count (length new) p.entity node ∙ (ap (redelimited k) (n ∙ ap (span_of p.digest 0) (read_by left p.digest e whole t l w)) ∙ entity_after p.digest k 0 e);
   fits = λ k. tt;
 }
 
@@ -88,7 +88,7 @@ pub makes_entity : (p : Placed) (left : ℕ) (new : List ℕ) (place count : ℕ
     → MakesAll p left (HasText new) new (record { place = place; count = count; own = own.Entity node })
 makes_entity p left new place count node q m n = λ e b l w.
     entity_made p left e new new place count node
-    (changed_so p e new [] (print p.entity) [] place count (sym (lines_end (print p.entity))) (b ∙ sym (nil_behind new)) (omega (arith, q)) m) b n l w
+    (changed_so p e new [] (print p.entity) [] place count (sym (lines_end (print p.entity))) (b ∙ sym (nil_after new)) (omega (arith, q)) m) b n l w
 
 head_apart : (e : Entity) → print e ≡ head_lines (entity_head e) ++ (body_lines e ++ [])
 head_apart e =
@@ -99,7 +99,7 @@ pub makes_body : (p : Placed) (left : ℕ) (new whole : List ℕ) (place count :
     → MakesAll p left (HasBody new) new (record { place = place; count = count; own = own.Entity node })
 makes_body p left new whole place count node q m x n = λ e b l w.
     entity_made p left e new whole place count node
-    (changed_so p e new (head_lines (entity_head p.entity)) (body_lines p.entity) [] place count (head_apart p.entity) (b ∙ ap (λ t. text_of (head_lines (entity_head p.entity)) ++ t) (sym (nil_behind new))) q m)
+    (changed_so p e new (head_lines (entity_head p.entity)) (body_lines p.entity) [] place count (head_apart p.entity) (b ∙ ap (λ t. text_of (head_lines (entity_head p.entity)) ++ t) (sym (nil_after new))) q m)
     (b ∙ sym x) n l w
 
 -- the text before a section's body
@@ -179,10 +179,10 @@ ends_at_some o r place s a = ap (λ (x : Placed). x.start + size (print x.entity
 children_are : (p : Placed) (h : Head) (b : List ℕ) (pre : List TextLine) (ps : Parts) (t : Option (TextLine × List TextLine)) → p.entity ≡ multi h b pre ps t → children p ≡ parts_placed (p.start + size (head_lines h) + size pre) (has_tail t || p.followed) (digest_below p.digest h) ps
 children_are p h b pre ps t e = ap (children_of p) e
 
-some_behind : (p : Placed) (k : ℕ) (r : Placed) (place : ℕ) → counted k (children p) ≡ Some r → place ≡ r.start + size (print r.entity) → (h : Head) (b : List ℕ) (pre : List TextLine) (before after : Parts) (t : Option (TextLine × List TextLine))
+some_after : (p : Placed) (k : ℕ) (r : Placed) (place : ℕ) → counted k (children p) ≡ Some r → place ≡ r.start + size (print r.entity) → (h : Head) (b : List ℕ) (pre : List TextLine) (before after : Parts) (t : Option (TextLine × List TextLine))
     → p.entity ≡ multi h b pre (append_parts before after) t → part_count before ≡ k → place ≡ p.start + size (front_of h pre before)
-some_behind p k r place s q h b pre no_parts after t e n = absurd (none_place r (sym (counted_none (children p)) ∙ (ap (λ j. counted j (children p)) n ∙ s)))
-some_behind p k r place s q h b pre (part l x ps) after t e n =
+some_after p k r place s q h b pre no_parts after t e n = absurd (none_place r (sym (counted_none (children p)) ∙ (ap (λ j. counted j (children p)) n ∙ s)))
+some_after p k r place s q h b pre (part l x ps) after t e n =
     let first = p.start + size (head_lines h) + size pre in
     let there = parts_end ps after first (has_tail t || p.followed) (digest_below p.digest h) l x in
     let same : counted (part_count (part l x ps)) (parts_placed first (has_tail t || p.followed) (digest_below p.digest h) (append_parts (part l x ps) after)) ≡ Some r =
@@ -190,19 +190,19 @@ some_behind p k r place s q h b pre (part l x ps) after t e n =
     omega (arith, q, ends_at_some _ r _ same there, size_append (head_lines h) (pre ++ print_parts (part l x ps)), size_append pre (print_parts (part l x ps)))
 
 -- a section of a number, by what stands before its end
-pub behind_some : (p : Placed) (k : ℕ) (o : Option Placed) (r : Placed) (place : ℕ) → o ≡ counted k (children p) → o ≡ Some r → place ≡ r.start + size (print r.entity) → IsBehindParts p k place
-behind_some p k o r place s t q = λ h b pre before after tail e n. some_behind p k r place (sym s ∙ t) q h b pre before after tail e n
+pub after_some : (p : Placed) (k : ℕ) (o : Option Placed) (r : Placed) (place : ℕ) → o ≡ counted k (children p) → o ≡ Some r → place ≡ r.start + size (print r.entity) → IsBehindParts p k place
+after_some p k o r place s t q = λ h b pre before after tail e n. some_after p k r place (sym s ∙ t) q h b pre before after tail e n
 
-none_behind : (p : Placed) (k : ℕ) (place : ℕ) → counted k (children p) ≡ None → place + size (body_lines p.entity) ≡ p.start + size (print p.entity) + size (preamble_lines p.entity)
+none_after : (p : Placed) (k : ℕ) (place : ℕ) → counted k (children p) ≡ None → place + size (body_lines p.entity) ≡ p.start + size (print p.entity) + size (preamble_lines p.entity)
     → (h : Head) (b : List ℕ) (pre : List TextLine) (before after : Parts) (t : Option (TextLine × List TextLine)) → p.entity ≡ multi h b pre (append_parts before after) t → part_count before ≡ k → place ≡ p.start + size (front_of h pre before)
-none_behind p k place s q h b pre no_parts after t e n =
+none_after p k place s q h b pre no_parts after t e n =
     omega (arith, q, ap (λ x. size (print x)) e, ap (λ x. size (body_lines x)) e, ap (λ x. size (preamble_lines x)) e, size_append (head_lines h) (pre ++ (print_parts after ++ tail_lines t)), size_append (head_lines h) (pre ++ []), size_append pre [])
-none_behind p k place s q h b pre (part l x ps) after t e n =
+none_after p k place s q h b pre (part l x ps) after t e n =
     let first = p.start + size (head_lines h) + size pre in
     let there = parts_end ps after first (has_tail t || p.followed) (digest_below p.digest h) l x in
     let same : counted (part_count (part l x ps)) (parts_placed first (has_tail t || p.followed) (digest_below p.digest h) (append_parts (part l x ps) after)) ≡ None =
     (λ i. counted (n i) (sym (children_are p h b pre (append_parts (part l x ps) after) t e) i)) ∙ s in
     absurd (none_place there.0 (sym same ∙ there.1))
 
-pub behind_none : (p : Placed) (k : ℕ) (o : Option Placed) (place : ℕ) → o ≡ counted k (children p) → o ≡ None → place + size (body_lines p.entity) ≡ p.start + size (print p.entity) + size (preamble_lines p.entity) → IsBehindParts p k place
-behind_none p k o place s t q = λ h b pre before after tail e n. none_behind p k place (sym s ∙ t) q h b pre before after tail e n
+pub after_none : (p : Placed) (k : ℕ) (o : Option Placed) (place : ℕ) → o ≡ counted k (children p) → o ≡ None → place + size (body_lines p.entity) ≡ p.start + size (print p.entity) + size (preamble_lines p.entity) → IsBehindParts p k place
+after_none p k o place s t q = λ h b pre before after tail e n. none_after p k place (sym s ∙ t) q h b pre before after tail e n

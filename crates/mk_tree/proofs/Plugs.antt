@@ -2,7 +2,7 @@
 use Rattle.std.proofs.Common.{◌≡◌, ◌&&◌, ◌++◌, ℕ, zero, suc, Bool, false, Option, None, Some, List, [], ◌∷◌, refl, ap, sym, ◌∙◌, subst, append_assoc}
 use Rattle.std.proofs.lemmas.Bool.{or_parts}
 use Rattle.mk_line.specs.Lines.{TextLine}
-use Rattle.mk_head.specs.Split.{Head, is_start, is_more, head_of, head_lines, behind_head, belongs}
+use Rattle.mk_head.specs.Split.{Head, is_start, is_more, head_of, head_lines, after_head, belongs}
 use Rattle.mk_head.specs.Splits.{IsRun, has_line, Stops, Follows, IsSplit}
 use Rattle.mk_head.proofs.Apart.{splits_read, reads_split}
 use Rattle.mk_tree.specs.Cutting.{tail_lines, Unmarked}
@@ -119,7 +119,7 @@ ends_of fields ls s =
     let p = splits_read (open_head fields) ls s in
     record {
       head = ap (λ xs. head_of (xs ++ ls)) (sym (lines_end fields)) ∙ p.0;
-      body = ap (λ xs. behind_head (xs ++ ls)) (sym (lines_end fields)) ∙ p.1;
+      body = ap (λ xs. after_head (xs ++ ls)) (sym (lines_end fields)) ∙ p.1;
     }
 
 pub of_ends : (fields ls : List TextLine) → Ends fields ls → IsSplit (open_head fields) ls

@@ -15,19 +15,19 @@ use Rattle.mk_tree.proofs.Below.{delimiter_span}
 abbrev envelope_size : Document → ℕ
 envelope_size t = size (option_line t.envelope)
 
-behind_envelope : (test : Bool) (l : TextLine) (ls : List TextLine) (text : List ℕ) → cut text ≡ l ∷ ls → read levels false (cut (drop (envelope_size (enveloped test l ls)) text)) ≡ (enveloped test l ls).root
-behind_envelope true l ls text e = ap (read levels false) (cut_rest text (l ∷ []) ls e)
-behind_envelope false l ls text e = ap (read levels false) e
+after_envelope : (test : Bool) (l : TextLine) (ls : List TextLine) (text : List ℕ) → cut text ≡ l ∷ ls → read levels false (cut (drop (envelope_size (enveloped test l ls)) text)) ≡ (enveloped test l ls).root
+after_envelope true l ls text e = ap (read levels false) (cut_rest text (l ∷ []) ls e)
+after_envelope false l ls text e = ap (read levels false) e
 
-root_behind : (lines : List TextLine) (text : List ℕ) → cut text ≡ lines → read levels false (cut (drop (envelope_size (document_of lines)) text)) ≡ (document_of lines).root
-root_behind [] text e = ap (read levels false) e
-root_behind (l ∷ ls) text e = behind_envelope (is_from_line l.content) l ls text e
+root_after : (lines : List TextLine) (text : List ℕ) → cut text ≡ lines → read levels false (cut (drop (envelope_size (document_of lines)) text)) ≡ (document_of lines).root
+root_after [] text e = ap (read levels false) e
+root_after (l ∷ ls) text e = after_envelope (is_from_line l.content) l ls text e
 
 pub envelope_within : (text : List ℕ) (n : ℕ) → n ≡ envelope_size (tree text) → n ≤ length text
 envelope_within text n p = omega (arith, p, front_within text (option_line (tree text).envelope) (print (tree text).root) (sym (lines_kept text)))
 
 pub root_read : (text raw : List ℕ) (n : ℕ) → n ≡ envelope_size (tree text) → raw ≡ drop n text → read levels false (cut raw) ≡ (tree text).root
-root_read text raw n p e = ap (λ xs. read levels false (cut xs)) (e ∙ ap (λ k. drop k text) p) ∙ root_behind (cut text) text refl
+root_read text raw n p e = ap (λ xs. read levels false (cut xs)) (e ∙ ap (λ k. drop k text) p) ∙ root_after (cut text) text refl
 
 pub root_over : (text raw : List ℕ) (n : ℕ) (s : Span) → s ≡ span_of false 0 (tree text).root → n ≡ envelope_size (tree text) → raw ≡ drop n text → IsSpanOver s raw false levels
 root_over text raw n s h p e =

@@ -4,7 +4,7 @@ use Rattle.mk_line.specs.Lines.{TextLine, cut, text_of}
 use Rattle.std.proofs.lemmas.List.{take_at}
 use Rattle.mk_line.proofs.Cuts.{text_append, text_cut, drop_lines}
 use Rattle.std.proofs.lemmas.Bool.{cases_Bool}
-use Rattle.mk_head.specs.Split.{Head, head_of, head_lines, behind_head, option_line, belongs, fields_from}
+use Rattle.mk_head.specs.Split.{Head, head_of, head_lines, after_head, option_line, belongs, fields_from}
 use Rattle.mk_head.specs.Fields.{fields_of}
 use Rattle.mk_tree.specs.Cutting.{tail_lines}
 use Rattle.mk_tree.specs.Kinds.{Kind, Leaf, Message, Multi, kind}
@@ -19,7 +19,7 @@ use Rattle.mk_tree.specs.declared.node.Node.TheViews.{out-Node}
 use Rattle.mk_tree.specs.declared.node.Node.TheFolds.{fold_out-Node}
 use Rattle.mk_tree.proofs.Kept.{print_read}
 use Rattle.mk_tree.proofs.Descent.{size_append, size_cut}
-use Rattle.mk_tree.proofs.Slices.{front_within, front_text, front_cut, behind_cut}
+use Rattle.mk_tree.proofs.Slices.{front_within, front_text, front_cut, after_cut}
 
 abbrev pub span_list : Spans → List Span
 span_list no_spans = []
@@ -145,7 +145,7 @@ body_is raw left digest n m p q =
     ap (λ k. drop k raw) same ∙ drop_lines raw (head_lines (entity_head (read left digest (cut raw)))) (body_lines (read left digest (cut raw))) (raw_head raw left digest)
 
 pub body_cut : (raw : List ℕ) (left : ℕ) (digest : Bool) → cut (text_of (body_lines (read left digest (cut raw)))) ≡ body_lines (read left digest (cut raw))
-body_cut raw left digest = behind_cut raw (head_lines (entity_head (read left digest (cut raw)))) (body_lines (read left digest (cut raw))) (raw_head raw left digest)
+body_cut raw left digest = after_cut raw (head_lines (entity_head (read left digest (cut raw)))) (body_lines (read left digest (cut raw))) (raw_head raw left digest)
 
 -- the content of a section that lines follow, and of one after which none stand
 pub content_ended : (raw : List ℕ) (start : ℕ) (followed digest : Bool) (left : ℕ) → followed ≡ true → text_of (unended (cut (body_text (placed_over raw start followed digest left)))) ≡ content_text (placed_over raw start followed digest left)
@@ -181,26 +181,26 @@ boundary_is digest (leaf h ls) = refl
 boundary_is digest (message h e) = refl
 boundary_is digest (multi h b pre ps t) = refl
 
-abbrev pub behind_preamble : Entity → List TextLine
-behind_preamble (leaf h ls) = ls
-behind_preamble (message h e) = print e
-behind_preamble (multi h b pre ps t) = print_parts ps ++ tail_lines t
+abbrev pub after_preamble : Entity → List TextLine
+after_preamble (leaf h ls) = ls
+after_preamble (message h e) = print e
+after_preamble (multi h b pre ps t) = print_parts ps ++ tail_lines t
 
 -- the body begins with the preamble, and the whole ends with the epilogue
-pub body_front : (e : Entity) → body_lines e ≡ preamble_lines e ++ behind_preamble e
+pub body_front : (e : Entity) → body_lines e ≡ preamble_lines e ++ after_preamble e
 body_front (leaf h ls) = refl
 body_front (message h e) = refl
 body_front (multi h b pre ps t) = refl
 
 pub preamble_within : (raw : List ℕ) (left : ℕ) (digest : Bool) → size (preamble_lines (read left digest (cut raw))) ≤ length (text_of (body_lines (read left digest (cut raw))))
 preamble_within raw left digest =
-    let h : size (body_lines (read left digest (cut raw))) ≡ size (preamble_lines (read left digest (cut raw)) ++ behind_preamble (read left digest (cut raw))) = ap size (body_front (read left digest (cut raw))) in
-    omega (arith, h, size_append (preamble_lines (read left digest (cut raw))) (behind_preamble (read left digest (cut raw))))
+    let h : size (body_lines (read left digest (cut raw))) ≡ size (preamble_lines (read left digest (cut raw)) ++ after_preamble (read left digest (cut raw))) = ap size (body_front (read left digest (cut raw))) in
+    omega (arith, h, size_append (preamble_lines (read left digest (cut raw))) (after_preamble (read left digest (cut raw))))
 
 pub preamble_is : (e : Entity) → take (size (preamble_lines e)) (text_of (body_lines e)) ≡ text_of (preamble_lines e)
 preamble_is e =
-    ap (take (size (preamble_lines e))) (ap text_of (body_front e) ∙ text_append (preamble_lines e) (behind_preamble e))
-    ∙ take_at (text_of (preamble_lines e)) (text_of (behind_preamble e)) (size (preamble_lines e)) refl
+    ap (take (size (preamble_lines e))) (ap text_of (body_front e) ∙ text_append (preamble_lines e) (after_preamble e))
+    ∙ take_at (text_of (preamble_lines e)) (text_of (after_preamble e)) (size (preamble_lines e)) refl
 
 append_end : (xs : List TextLine) → xs ++ [] ≡ xs
 append_end [] = refl
@@ -246,7 +246,7 @@ head_by f (Multi b digest) h ls = refl
 
 pub head_read : (left : ℕ) (digest : Bool) (ls : List TextLine) → entity_head (read left digest ls) ≡ head_of ls
 head_read zero digest ls = refl
-head_read (suc n) digest ls = head_by (read n) (kind (head_of ls).fields digest) (head_of ls) (behind_head ls)
+head_read (suc n) digest ls = head_by (read n) (kind (head_of ls).fields digest) (head_of ls) (after_head ls)
 
 run_again : (inside : Bool) (ls : List TextLine) → fields_from inside (fields_from inside ls) ≡ fields_from inside ls
 run_again inside [] = refl

@@ -4,7 +4,7 @@ use Rattle.std.proofs.Math.Seq.{take-length}
 use Rattle.std.proofs.lemmas.List.{take_at, drop_at}
 use Rattle.std.specs.Option.{option_map}
 use Rattle.mk_line.specs.Lines.{TextLine, AreLines, text_of}
-use Rattle.mk_line.proofs.Cuts.{lines_cut, lines_behind, text_append}
+use Rattle.mk_line.proofs.Cuts.{lines_cut, lines_following, text_append}
 use Rattle.mk_head.specs.Split.{option_line}
 use Rattle.mk_tree.specs.declared.changing.Own.TheVariants as own
 use Rattle.mk_tree.specs.declared.planning.Plan.{Plan}
@@ -29,7 +29,7 @@ use Rattle.mk_tree.proofs.Respans.{Grows, respan_place}
 use Rattle.mk_tree.proofs.Leads.{leads_place}
 use Rattle.mk_tree.proofs.FieldsChanged.{field_sizes, around_is as fields_around, size_put, stable_well}
 use Rattle.mk_splice.proofs.Bytes.{length-spliced}
-use Rattle.mk_tree.proofs.HeadChanged.{apart, spliced_middle, text_apart, fields_after, head_after, behind_fields, entity_lines, changed_lines}
+use Rattle.mk_tree.proofs.HeadChanged.{apart, spliced_middle, text_apart, fields_after, head_after, after_fields, entity_lines, changed_lines}
 
 some_same : (p q : Placed) → ◌≡◌ {A = Option Placed} (Some p) (Some q) → p ≡ q
 some_same p q e = ap (λ (o : Option Placed). elim o [ None ↦ p | Some r ↦ r ]) e
@@ -119,17 +119,17 @@ fields_make t path place count new g c k d =
     own_of levels false c.around c.section (stable_well t.envelope c.around c.section (subst IsStable (sym (fields_around t path place count new c)) k)) in
     let after : IsWellRead (left_at levels c.around) (default_at false c.around) (with_fields c.fields c.section) =
     own_of levels false c.around (with_fields c.fields c.section) (stable_well t.envelope c.around (with_fields c.fields c.section) c.stable) in
-    let rest = text_of (behind_fields c.section) in
+    let rest = text_of (after_fields c.section) in
     let head = text_of (field_lines c.section) in
     let from = place - p.start in
-    let whole : raw_of p ≡ head ++ rest = ap text_of (entity_lines c.section) ∙ text_append (field_lines c.section) (behind_fields c.section) in
+    let whole : raw_of p ≡ head ++ rest = ap text_of (entity_lines c.section) ∙ text_append (field_lines c.section) (after_fields c.section) in
     record {
       begins = c.begins;
       ends = omega (arith, c.ends, size_entity c.section);
       text =
           ap (spliced from count new) whole
           ∙ (spliced_middle [] head rest new from count (omega arith) (omega (arith, c.begins, c.ends))
-          ∙ (ap (λ n. spliced n count new head ++ rest) (less_none from) ∙ (ap (λ x. x ++ rest) (head_after t path place count new c) ∙ (sym (text_append c.fields (behind_fields c.section)) ∙ ap text_of (sym (changed_lines c.fields c.section))))));
+          ∙ (ap (λ n. spliced n count new head ++ rest) (less_none from) ∙ (ap (λ x. x ++ rest) (head_after t path place count new c) ∙ (sym (text_append c.fields (after_fields c.section)) ∙ ap text_of (sym (changed_lines c.fields c.section))))));
       lengths = own_fields (left_at levels c.around) (default_at false c.around) g count (length new) c.fields c.section sizes.count_fits sizes.fields_size d well after;
       fits = fields_fit (default_at false c.around) g count c.section sizes.count_fits;
     }
@@ -179,7 +179,7 @@ made t u path P new left q o p b e s l m =
     let front = option_line t.envelope ++ lines_before b.around in
     let lines : AreLines (print b.new) =
     lines_front (print b.new) (lines_after b.around)
-    (lines_behind front (print b.new ++ lines_after b.around)
+    (lines_following front (print b.new ++ lines_after b.around)
     (subst AreLines ((stable_kept (put t.envelope b.around b.new) stable).lines ∙ apart t.envelope b.around b.new (print b.new) [] (sym (lines_end (print b.new)))) (lines_cut (printed (put t.envelope b.around b.new))))) in
     let own : Makes (placed t.envelope b.around b.section) b.new new q =
     subst (λ n. MakesAll (placed t.envelope b.around b.section) n P new q) deep (subst (λ x. MakesAll x left P new q) there m) b.new b.becomes lines well in

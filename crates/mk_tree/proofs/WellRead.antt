@@ -1,7 +1,7 @@
 -- An entity is read back from its lines exactly where it is read back level by level.
 use Rattle.std.proofs.Common.{◌≡◌, ◌++◌, ℕ, zero, suc, Bool, false, Option, List, [], ◌∷◌, refl, ap, sym, ◌∙◌, subst}
 use Rattle.mk_line.specs.Lines.{TextLine}
-use Rattle.mk_head.specs.Split.{Head, head_of, head_lines, behind_head}
+use Rattle.mk_head.specs.Split.{Head, head_of, head_lines, after_head}
 use Rattle.mk_head.specs.Splits.{IsSplit}
 use Rattle.mk_head.proofs.Apart.{splits_read, reads_split}
 use Rattle.mk_tree.specs.Cutting.{cut_by, parts_lines, tail_lines, Unmarked, ArePartsOf, Closes}
@@ -14,7 +14,7 @@ use Rattle.mk_tree.proofs.Kept.{print_parts_by, print_read}
 use Rattle.mk_tree.proofs.OneCut.{cut_is, cut_of}
 
 -- one level of reading
-pub read_is : (n : ℕ) (d : Bool) (ls : List TextLine) → read n d ls ≡ entity_by (read (below n)) (kind_at n (head_of ls).fields d) (head_of ls) (behind_head ls)
+pub read_is : (n : ℕ) (d : Bool) (ls : List TextLine) → read n d ls ≡ entity_by (read (below n)) (kind_at n (head_of ls).fields d) (head_of ls) (after_head ls)
 read_is zero d ls = refl
 read_is (suc n) d ls = refl
 
@@ -29,7 +29,7 @@ head_by f Message h ls = refl
 head_by f (Multi b digest) h ls = refl
 
 pub read_head : (n : ℕ) (d : Bool) (ls : List TextLine) → entity_head (read n d ls) ≡ head_of ls
-read_head n d ls = ap entity_head (read_is n d ls) ∙ head_by (read (below n)) (kind_at n (head_of ls).fields d) (head_of ls) (behind_head ls)
+read_head n d ls = ap entity_head (read_is n d ls) ∙ head_by (read (below n)) (kind_at n (head_of ls).fields d) (head_of ls) (after_head ls)
 
 -- the parts as a cut has them
 abbrev cut_parts_of : Parts → List (TextLine × List TextLine)
@@ -87,7 +87,7 @@ kind_well n d (Multi b g) h ls f s e =
 -- what is read is read back
 pub read_well : (n : ℕ) (d : Bool) (ls : List TextLine) → IsWellRead n d (read n d ls)
 read_well zero d ls = (reads_split ls, refl)
-read_well (suc n) d ls = kind_well n d (kind (head_of ls).fields d) (head_of ls) (behind_head ls) (read_well n) (reads_split ls) refl
+read_well (suc n) d ls = kind_well n d (kind (head_of ls).fields d) (head_of ls) (after_head ls) (read_well n) (reads_split ls) refl
 
 pub well_of : (n : ℕ) (d : Bool) (e : Entity) → read n d (print e) ≡ e → IsWellRead n d e
 well_of n d e p = subst (IsWellRead n d) p (read_well n d (print e))

@@ -40,21 +40,21 @@ abbrev pub first_text : Span → List ℕ → List ℕ
 first_text s text = take (whole_of s) (drop (delimiter_of s) text)
 
 -- what follows an entity in the text that its delimiter begins
-abbrev pub text_behind : Span → List ℕ → List ℕ
-text_behind s text = drop (whole_of s) (drop (delimiter_of s) text)
+abbrev pub text_after : Span → List ℕ → List ℕ
+text_after s text = drop (whole_of s) (drop (delimiter_of s) text)
 
 -- the sections that spans stand for, one after another from a place on; `followed`: whether lines stand after the last
 abbrev pub placed_along : List Span → List ℕ → ℕ → Bool → Bool → ℕ → List Placed
 placed_along [] text place followed digest left = []
 placed_along (s ∷ ss) text place followed digest left =
     placed_over (first_text s text) (place + delimiter_of s) (has_span ss || followed) digest left
-    ∷ placed_along ss (text_behind s text) (place + delimiter_of s + whole_of s) followed digest left
+    ∷ placed_along ss (text_after s text) (place + delimiter_of s + whole_of s) followed digest left
 
 -- spans are those of entities one after another in a text
 abbrev pub AreSpansOver : List Span → List ℕ → Bool → ℕ → Type 0
 AreSpansOver [] text digest left = Unit {0}
 AreSpansOver (s ∷ ss) text digest left =
-    (delimiter_of s + whole_of s ≤ length text) × IsSpanOver s (first_text s text) digest left × AreSpansOver ss (text_behind s text) digest left
+    (delimiter_of s + whole_of s ≤ length text) × IsSpanOver s (first_text s text) digest left × AreSpansOver ss (text_after s text) digest left
 
 -- nodes one after another
 pub record AreNodesOver (nodes : List Node) (text : List ℕ) (start : ℕ) (digest : Bool) (left : ℕ) : Type 0 where

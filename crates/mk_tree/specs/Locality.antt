@@ -2,7 +2,7 @@
 use Rattle.std.specs.Prelude.{◌≡◌, ◌++◌, false, Option, None, Some, List, [], ◌∷◌}
 use Rattle.mk_line.specs.Lines.{TextLine, cut}
 use Rattle.mk_line.specs.Kinds.{is_from_line}
-use Rattle.mk_head.specs.Split.{Head, head_of, behind_head}
+use Rattle.mk_head.specs.Split.{Head, head_of, after_head}
 use Rattle.mk_tree.specs.Cutting.{Unmarked}
 use Rattle.mk_tree.specs.Tree.{Entity, read, print, entity_head}
 use Rattle.mk_tree.specs.Documents.{levels, document_lines, printed}
@@ -26,7 +26,7 @@ open_head fields = record { fields = fields; separator = None }
 -- fields and one line after them, or none, are read as these fields without a separator, and that line as the body
 pub record Ends (fields first : List TextLine) : Type 0 where
   pub head : head_of (fields ++ first) ≡ open_head fields
-  pub body : behind_head (fields ++ first) ≡ first
+  pub body : after_head (fields ++ first) ≡ first
 
 -- an entity after the fields of a message: without a separator it has no head, and the fields end at its first line
 abbrev pub Continues : List TextLine → Option TextLine → Entity → Type 0

@@ -37,9 +37,9 @@ begins_part bs b [] = false
 begins_part bs b (l ∷ ls) = not (is_marked bs l) && is_part (mark b l.content)
 
 -- the lines after the first
-abbrev pub behind_first : List TextLine → List TextLine
-behind_first [] = []
-behind_first (l ∷ ls) = ls
+abbrev pub after_first : List TextLine → List TextLine
+after_first [] = []
+after_first (l ∷ ls) = ls
 
 -- how many bytes the first line has
 abbrev pub first_size : List TextLine → ℕ

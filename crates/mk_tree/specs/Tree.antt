@@ -1,7 +1,7 @@
 -- Entities: a head, and a body by its kind (RFC 2045, 2.4; RFC 2046, 5.1 and 5.2.1).
 use Rattle.std.specs.Prelude.{ℕ, zero, suc, Bool, false, Option, List, [], ◌∷◌, ◌++◌}
 use Rattle.mk_line.specs.Lines.{TextLine}
-use Rattle.mk_head.specs.Split.{Head, head_of, head_lines, behind_head}
+use Rattle.mk_head.specs.Split.{Head, head_of, head_lines, after_head}
 use Rattle.mk_tree.specs.Cutting.{Cut, cut_by, tail_lines}
 use Rattle.mk_tree.specs.Kinds.{Kind, Leaf, Message, Multi, kind_at}
 
@@ -34,8 +34,8 @@ entity_by f (Multi b digest) h ls = multi_by (f digest) h b (cut_by b ls)
 
 -- the entity that lines are read as, below which so many levels may stand, in a digest or not
 abbrev pub read : ℕ → Bool → List TextLine → Entity
-read zero digest ls = leaf (head_of ls) (behind_head ls)
-read (suc left) digest ls = entity_by (read left) (kind_at (suc left) (head_of ls).fields digest) (head_of ls) (behind_head ls)
+read zero digest ls = leaf (head_of ls) (after_head ls)
+read (suc left) digest ls = entity_by (read left) (kind_at (suc left) (head_of ls).fields digest) (head_of ls) (after_head ls)
 
 abbrev mutual
   -- all lines of an entity, in order

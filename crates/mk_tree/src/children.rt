@@ -47,8 +47,8 @@ impl<'a> Iterator for Children<'a> {
 
     fn next(&mut self) -> Option<Section<'a>> {
         let (node, others) = self.nodes.split_first()?;
-        let (_, behind) = self.rest.split_at(node.delimiter);
-        let (raw, rest) = behind.split_at(node.size);
+        let (_, following) = self.rest.split_at(node.delimiter);
+        let (raw, rest) = following.split_at(node.size);
         let section = Section {
             raw,
             node,

@@ -108,14 +108,14 @@ impl Doc {
 pub(crate) fn read_root(alloc: Global, text: &[u8]) -> Result<(usize, Node), AllocError>
     ensures { IfOk result (λ r. IsTreeOver r.1 r.0 text.now) }
 {
-    let message = behind_envelope(text);
+    let message = after_envelope(text);
     let envelope = text.len() - message.len();
     let (root, _) = read_entity(alloc, message, 0, &[], false, LEVELS)?;
     Ok((envelope, root))
 }
 
 // What follows the line that a mailbox puts before a message, where it is there.
-fn behind_envelope(text: &[u8]) -> &[u8]
+fn after_envelope(text: &[u8]) -> &[u8]
     ensures envelope { length text.now ≡ size (option_line (tree text.now).envelope) + length result.now }
     ensures message { (tree text.now).root ≡ read levels false (lines_of result.now) }
 {

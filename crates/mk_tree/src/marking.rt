@@ -9,7 +9,7 @@ ghost use Rattle.mk_tree.specs.Spans.{size};
 ghost use Rattle.mk_tree.specs.Nodes.{tail_of};
 ghost use Rattle.mk_tree.specs.Spans.{tail_sizes};
 ghost use Rattle.mk_tree.specs.inner.Marked.{first_marked};
-ghost use Rattle.mk_tree.specs.Steps.{boundaries_of, begins_part, behind_first, first_size, ended_by};
+ghost use Rattle.mk_tree.specs.Steps.{boundaries_of, begins_part, after_first, first_size, ended_by};
 
 use crate::dashes::{dashed_lines, to_dashed};
 use crate::node::Tail;
@@ -78,11 +78,11 @@ pub(crate) fn skip_fields<'a>(text: &'a [u8], opened: &[&[u8]]) -> &'a [u8]
     ensures rest { rest_until (boundaries_of opened.now) false (lines_of text.now) ≡ lines_of result.now }
 {
     let mut rest = text;
-    'each: while let Some((_, behind)) = first_field(rest) {
+    'each: while let Some((_, following)) = first_field(rest) {
         if begins_marked(rest, opened) {
             break;
         }
-        rest = behind;
+        rest = following;
     }
     rest
 }
@@ -108,24 +108,24 @@ pub(crate) fn skip_unmarked<'a>(text: &'a [u8], opened: &[&[u8]]) -> &'a [u8]
     }
     let dashed = dashed_lines();
     let mut rest = to_dashed(text, &dashed);
-    'each: while let Some((line, behind)) = first_line(rest) {
+    'each: while let Some((line, following)) = first_line(rest) {
         if is_marked(&line, opened) {
             break;
         }
-        rest = to_dashed(behind, &dashed);
+        rest = to_dashed(following, &dashed);
     }
     rest
 }
 
 /// What follows a delimiter of the boundary at the start, where it is no mark of those around it.
-pub(crate) fn behind_delimiter<'a>(
+pub(crate) fn after_delimiter<'a>(
     text: &'a [u8],
     boundary: &[u8],
     opened: &[&[u8]],
 ) -> Option<&'a [u8]>
     ensures none { IfNone result (begins_part (boundaries_of opened.now) boundary.now (lines_of text.now) ≡ false) }
     ensures begins { IfSome result (λ r. begins_part (boundaries_of opened.now) boundary.now (lines_of text.now) ≡ true) }
-    ensures rest { IfSome result (λ r. lines_of r.now ≡ behind_first (lines_of text.now)) }
+    ensures rest { IfSome result (λ r. lines_of r.now ≡ after_first (lines_of text.now)) }
     ensures delimiter { IfSome result (λ r. length text.now ≡ first_size (lines_of text.now) + length r.now) }
     ensures less { IfSome result (λ r. length r.now < length text.now) }
 {
@@ -143,11 +143,11 @@ pub(crate) fn read_tail<'a>(text: &'a [u8], opened: &[&[u8]]) -> (Option<Tail>, 
     ensures rest { lines_of result.1.now ≡ beyond (boundaries_of opened.now) (lines_of text.now) }
 {
     match first_line(text) {
-        Some((line, behind)) if !is_marked(&line, opened) => {
-            let rest = skip_unmarked(behind, opened);
+        Some((line, following)) if !is_marked(&line, opened) => {
+            let rest = skip_unmarked(following, opened);
             let tail = Tail {
-                close: text.len() - behind.len(),
-                epilogue: behind.len() - rest.len(),
+                close: text.len() - following.len(),
+                epilogue: following.len() - rest.len(),
             };
             (Some(tail), rest)
         }

@@ -141,12 +141,12 @@ fn plan_part(
     requires { (e : Entity) × HasPart place text.now section.now.entity e }
     ensures { IfOk result (λ q. MakesAll section.now left (HasPart place text.now) text.now q) }
 {
-    let part = behind_first_line(text);
+    let part = after_first_line(text);
     let delimiter = text.len() - part.len();
     let left = left.saturating_sub(1);
     let node = read_whole(alloc, part, delimiter, section.parts_default(), left)?;
     Ok(Plan {
-        place: behind_parts(section, place),
+        place: after_parts(section, place),
         count: 0,
         own: Own::Part(place as usize, node),
     })
@@ -157,16 +157,16 @@ fn plan_removal(section: &Section<'_>, number: u32) -> Plan
     ensures { (left : ℕ) → MakesAll section.now left (LacksPart number) [] result }
 {
     let before = number - 1;
-    let place = behind_parts(section, before);
+    let place = after_parts(section, before);
     Plan {
         place,
-        count: behind_parts(section, number) - place,
+        count: after_parts(section, number) - place,
         own: Own::NoPart(before as usize),
     }
 }
 
 // Where a multipart's first parts end, so many of them: after its preamble where they are none.
-fn behind_parts(section: &Section<'_>, count: u32) -> usize
+fn after_parts(section: &Section<'_>, count: u32) -> usize
     ensures { IsBehindParts section.now count result }
 {
     match section.child(count) {
@@ -176,7 +176,7 @@ fn behind_parts(section: &Section<'_>, count: u32) -> usize
 }
 
 // What follows the first line of a text.
-fn behind_first_line(text: &[u8]) -> &[u8]
+fn after_first_line(text: &[u8]) -> &[u8]
     ensures lines { (l : TextLine) (ls : List TextLine) → lines_of text.now ≡ l ∷ ls → lines_of result.now ≡ ls }
     ensures less { length result.now ≤ length text.now }
 {

@@ -13,7 +13,7 @@ ghost use Rattle.mk_tree.specs.Steps.{boundaries_of, KeptOfBody, KeptOfParts};
 
 use crate::describing::{Described, describe};
 use crate::marking::{
-    behind_delimiter, read_tail, skip_fields, skip_separator, skip_unmarked, with_boundary,
+    after_delimiter, read_tail, skip_fields, skip_separator, skip_unmarked, with_boundary,
 };
 use crate::node::{Multi, Node, Shape};
 use std::alloc::{AllocError, Global};
@@ -32,10 +32,10 @@ pub(crate) fn read_entity<'a>(
     ensures node { IfOk result (λ r. node_span r.0 ≡ span_of digest delimiter (read left digest (upto (boundaries_of opened.now) (lines_of text.now)))) }
     ensures rest { IfOk result (λ r. lines_of r.1.now ≡ beyond (boundaries_of opened.now) (lines_of text.now)) }
 {
-    let behind_fields = skip_fields(text, opened);
-    let fields = text.len() - behind_fields.len();
-    let body = skip_separator(behind_fields);
-    let separator = behind_fields.len() - body.len();
+    let after_fields = skip_fields(text, opened);
+    let fields = text.len() - after_fields.len();
+    let body = skip_separator(after_fields);
+    let separator = after_fields.len() - body.len();
     let (shape, parts, rest) = read_body(alloc, &text[..fields], body, opened, digest, left)?;
     let size = text.len() - rest.len();
     let node = Node {
@@ -111,7 +111,7 @@ fn read_parts<'a, 'b>(
     let mut rest = skip_unmarked(body, &inside);
     let preamble = body.len() - rest.len();
     let mut parts = Vec::new(alloc);
-    'each: while let Some(start) = behind_delimiter(rest, boundary, opened) {
+    'each: while let Some(start) = after_delimiter(rest, boundary, opened) {
         let delimiter = rest.len() - start.len();
         let (part, next) = read_entity(alloc, start, delimiter, &inside, digest, left)?;
         parts.push(part)?;

@@ -2,7 +2,7 @@
 use Rattle.std.proofs.Common.{◌≡◌, ◌<◌, ◌≤◌, ◌+◌, ◌-◌, ◌^◌, ◌++◌, ℕ, Bool, Result, Ok, Err, IfOk, List, [], ◌∷◌, refl, ap, sym, ◌∙◌, subst, length, length-append, take, drop, append_assoc, append-nil, arith, ◌||◌}
 use Rattle.std.proofs.lemmas.List.{drop_at, take_at}
 use Rattle.mk_line.specs.Lines.{AreLines, TextLine, cut, text_of}
-use Rattle.mk_line.proofs.Cuts.{cut_text, length_cut, lines_behind, lines_cut, text_append}
+use Rattle.mk_line.proofs.Cuts.{cut_text, length_cut, lines_following, lines_cut, text_append}
 use Rattle.mk_head.specs.Split.{head_lines, option_line}
 use Rattle.mk_tree.specs.Cutting.{tail_lines}
 use Rattle.mk_tree.specs.Documents.{tree}
@@ -81,7 +81,7 @@ left_count total place count rest below w = ap (λ t. count + length (cut t)) w.
 
 -- the next section: its body stands after a front of what is left
 pub record IsNext (total place count : ℕ) (rest : List ℕ) (q : Placed) (below : List Placed) : Type 0 where
-  pub behind : place ≤ q.start + size (head_lines (entity_head q.entity))
+  pub following : place ≤ q.start + size (head_lines (entity_head q.entity))
   pub within : q.start + size (head_lines (entity_head q.entity)) - place ≤ length rest
   pub ordered : q.start + size (head_lines (entity_head q.entity)) ≤ q.start + size (print q.entity)
   pub own : AreLines (body_lines q.entity)
@@ -95,30 +95,30 @@ next_in total place count rest q qs lines gap more a t e s n k =
     let body = body_lines q.entity in
     let head = head_lines (entity_head q.entity) in
     let all = subst AreLines e a in
-    let behind_gap = lines_behind gap (body ++ more) all in
+    let after_gap = lines_following gap (body ++ more) all in
     let in_gap : AreLines gap = lines_front gap (body ++ more) all in
-    let in_body : AreLines body = lines_front body more behind_gap in
-    let in_more : AreLines more = lines_behind body more behind_gap in
+    let in_body : AreLines body = lines_front body more after_gap in
+    let in_more : AreLines more = lines_following body more after_gap in
     let whole : size (print q.entity) ≡ size head + size body = ap size (head_and_body q.entity) ∙ size_append head body in
     let text : rest ≡ text_of gap ++ (text_of body ++ text_of more) = t ∙ (ap text_of e ∙ (text_append gap (body ++ more) ∙ ap (λ x. text_of gap ++ x) (text_append body more))) in
     let first : q.start + size head - place ≡ length (text_of gap) = omega (arith, s) in
     let second : q.start + size (print q.entity) - (q.start + size head) ≡ length (text_of body) = omega (arith, whole) in
     let gap_is : take (q.start + size head - place) rest ≡ text_of gap = (λ i. take (first i) (text i)) ∙ take_at (text_of gap) (text_of body ++ text_of more) (length (text_of gap)) refl in
-    let behind_is : drop (q.start + size head - place) rest ≡ text_of body ++ text_of more = (λ i. drop (first i) (text i)) ∙ drop_at (text_of gap) (text_of body ++ text_of more) (length (text_of gap)) refl in
+    let following_is : drop (q.start + size head - place) rest ≡ text_of body ++ text_of more = (λ i. drop (first i) (text i)) ∙ drop_at (text_of gap) (text_of body ++ text_of more) (length (text_of gap)) refl in
     let rest_is : drop (q.start + size (print q.entity) - (q.start + size head)) (drop (q.start + size head - place) rest) ≡ text_of more =
-    (λ i. drop (second i) (behind_is i)) ∙ drop_at (text_of body) (text_of more) (length (text_of body)) refl in
+    (λ i. drop (second i) (following_is i)) ∙ drop_at (text_of body) (text_of more) (length (text_of body)) refl in
     let sizes : length rest ≡ length (text_of gap) + (length (text_of body) + length (text_of more)) =
     ap length text ∙ (length-append (text_of gap) (text_of body ++ text_of more) ∙ ap (λ m. length (text_of gap) + m) (length-append (text_of body) (text_of more))) in
     let counts : length lines ≡ length gap + (length body + length more) =
     ap length e ∙ (length-append gap (body ++ more) ∙ ap (λ m. length gap + m) (length-append body more)) in
     let gap_lines : length (cut (take (q.start + size head - place) rest)) ≡ length gap = ap (λ x. length (cut x)) gap_is ∙ ap length (cut_text gap in_gap) in
-    let behind_size : length (drop (q.start + size head - place) rest) ≡ length (text_of body) + length (text_of more) = ap length behind_is ∙ length-append (text_of body) (text_of more) in
+    let after_size : length (drop (q.start + size head - place) rest) ≡ length (text_of body) + length (text_of more) = ap length following_is ∙ length-append (text_of body) (text_of more) in
     record {
-      behind = omega (arith, s);
+      following = omega (arith, s);
       within = omega (arith, first, sizes);
       ordered = omega (arith, whole);
       own = in_body;
-      fits = omega (arith, second, behind_size);
+      fits = omega (arith, second, after_size);
       left = record { lines = more; are_lines = in_more; text = rest_is; spread = n; counted = omega (arith, gap_lines, counts, k) };
     }
 
@@ -133,7 +133,7 @@ root_lines text =
     let t = tree text in
     let all : AreLines (option_line t.envelope ++ (head_lines (entity_head t.root) ++ body_lines t.root)) =
     subst AreLines (sym (lines_kept text) ∙ ap (λ ls. option_line t.envelope ++ ls) (head_and_body t.root)) (lines_cut text) in
-    lines_behind (head_lines (entity_head t.root)) (body_lines t.root) (lines_behind (option_line t.envelope) (head_lines (entity_head t.root) ++ body_lines t.root) all)
+    lines_following (head_lines (entity_head t.root)) (body_lines t.root) (lines_following (option_line t.envelope) (head_lines (entity_head t.root) ++ body_lines t.root) all)
 
 -- what is left after the next section, by what was counted of it and where it begins and ends
 lines_counted : (place begin lines start : ℕ) (rest front : List ℕ) → begin ≡ start → front ≡ take (begin - place) rest → lines ≡ length (cut front) → lines ≡ length (cut (take (start - place) rest))
@@ -145,10 +145,10 @@ next_room total place count rest q qs n begin lines own front b f l o =
     let lines_is = lines_counted place begin lines (q.start + size (head_lines (entity_head q.entity))) rest front b f l in
     omega (arith, n.left.counted, lines_is, o)
 
-pub left_moved : (total place count : ℕ) (rest : List ℕ) (q : Placed) (qs : List Placed) → IsNext total place count rest q qs → (begin end lines own next : ℕ) (front behind after : List ℕ) → begin ≡ q.start + size (head_lines (entity_head q.entity))
-    → end ≡ q.start + size (print q.entity) → front ≡ take (begin - place) rest → behind ≡ drop (begin - place) rest → lines ≡ length (cut front) → own ≡ length (body_lines q.entity) → after ≡ drop (end - begin) behind
+pub left_moved : (total place count : ℕ) (rest : List ℕ) (q : Placed) (qs : List Placed) → IsNext total place count rest q qs → (begin end lines own next : ℕ) (front following after : List ℕ) → begin ≡ q.start + size (head_lines (entity_head q.entity))
+    → end ≡ q.start + size (print q.entity) → front ≡ take (begin - place) rest → following ≡ drop (begin - place) rest → lines ≡ length (cut front) → own ≡ length (body_lines q.entity) → after ≡ drop (end - begin) following
     → next ≡ q.start + size (print q.entity) → IsLeft total next (count + lines + own) after qs
-left_moved total place count rest q qs n begin end lines own next front behind after b e f h l o g p =
+left_moved total place count rest q qs n begin end lines own next front following after b e f h l o g p =
     let head = q.start + size (head_lines (entity_head q.entity)) in
     let lines_is = lines_counted place begin lines head rest front b f l in
     let after_is : after ≡ drop (q.start + size (print q.entity) - head) (drop (head - place) rest) = g ∙ (λ i. drop (e i - b i) ((h ∙ ap (λ m. drop (m - place) rest) b) i)) in

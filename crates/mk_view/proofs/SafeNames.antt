@@ -16,7 +16,7 @@ use Rattle.mk_line.specs.Ascii.{full_stop, hyphen}
 use Rattle.mk_view.specs.declared.text_names.NameForm.{NameForm}
 use Rattle.mk_view.specs.Listed.{Listed}
 use Rattle.mk_view.specs.Listing.{dotted, path_text, type_of}
-use Rattle.mk_view.specs.FileNames.{Named, behind_last, is_plain_byte, plain, led, cleaned, part_name, name_or, name_by, is_stored_by, raw_name}
+use Rattle.mk_view.specs.FileNames.{Named, after_last, is_plain_byte, plain, led, cleaned, part_name, name_or, name_by, is_stored_by, raw_name}
 use Rattle.mk_view.specs.TextNames.{cleaned_text, named_by, stored_in, stored_named, text_in}
 use Rattle.mk_view.specs.GivenNames.{numbered, is_taken, IsGivenBy, AreGiven, AreDistinct, has_no_slash, is_clean_text, is_safe, AreSafe}
 use Rattle.mk_view.proofs.CleanTexts.{and_made, and_parts, are_fit, clean_both, fit_both, fit_safe, fit_well, is_fit, kept_safe, leading_allowed, led_all, taken_all, mapped_all, slashless_both}
@@ -71,7 +71,7 @@ or_safe path (x ∷ xs) h = h refl
 
 plain_safe : (path : List ℕ) (raw : Option (List ℕ)) → is_safe (name_by path raw) ≡ true
 plain_safe path None = part_safe path
-plain_safe path (Some raw) = or_safe path (cleaned raw) (bytes_safe (behind_last raw raw))
+plain_safe path (Some raw) = or_safe path (cleaned raw) (bytes_safe (after_last raw raw))
 
 own_safe : (path : List ℕ) (text raw : Option (List ℕ)) → ((t : List ℕ) → text ≡ Some t → IsUtf8 t) → is_safe (named_by path text raw) ≡ true
 own_safe path None raw u = plain_safe path raw

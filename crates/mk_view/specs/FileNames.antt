@@ -37,9 +37,9 @@ abbrev pub is_divider : ℕ → Bool
 is_divider byte = byte == slash || byte == backslash
 
 -- what follows the last divider, where the other bytes are those after the last one so far
-abbrev pub behind_last : List ℕ → List ℕ → List ℕ
-behind_last kept [] = kept
-behind_last kept (byte ∷ bytes) = if is_divider byte then behind_last bytes bytes else behind_last kept bytes
+abbrev pub after_last : List ℕ → List ℕ → List ℕ
+after_last kept [] = kept
+after_last kept (byte ∷ bytes) = if is_divider byte then after_last bytes bytes else after_last kept bytes
 
 -- letters, digits, dots, underscores and hyphens stay in a name, and an underscore stands for any other byte
 abbrev pub is_plain_byte : ℕ → Bool
@@ -64,7 +64,7 @@ most_bytes = 100
 
 -- what is left of a name that a message says
 abbrev pub cleaned : List ℕ → List ℕ
-cleaned raw = take most_bytes (led (map plain (behind_last raw raw)))
+cleaned raw = take most_bytes (led (map plain (after_last raw raw)))
 
 -- the name of a section that has no other
 abbrev pub part_name : List ℕ → List ℕ

@@ -48,10 +48,10 @@ fn push_sections(
     let mut number = 1u32;
     for child in section.children() {
         let child_path = path_below(alloc, path, number)?;
-        let (front, behind) = rest.split_at(child.body_start() - place);
+        let (front, following) = rest.split_at(child.body_start() - place);
         count += line_count(front);
         count += push_sections(alloc, &mut below, &child_path, &child)?;
-        let (_, after) = behind.split_at(child.end() - child.body_start());
+        let (_, after) = following.split_at(child.end() - child.body_start());
         rest = after;
         place = child.end();
         let Some(next) = number.checked_add(1) else {

@@ -7,7 +7,7 @@ ghost use Rattle.mk_head.specs.Values.{param_of};
 ghost use Rattle.mk_head.specs.ValueViews.{media_type_of};
 ghost use Rattle.mk_tree.specs.Tree.{field_lines};
 ghost use Rattle.mk_view.specs.Listing.{type_of};
-ghost use Rattle.mk_view.specs.FileNames.{behind_last, cleaned as cleaned_of, is_divider as divides, is_stored_by, leading as leading_of, name_by, part_name as name_of_part, plain as plain_of, raw_name as raw_name_of, disposed_name};
+ghost use Rattle.mk_view.specs.FileNames.{after_last, cleaned as cleaned_of, is_divider as divides, is_stored_by, leading as leading_of, name_by, part_name as name_of_part, plain as plain_of, raw_name as raw_name_of, disposed_name};
 
 use crate::typing::media_type;
 use crate::writing::push_path;
@@ -134,15 +134,15 @@ fn cleaned(alloc: Global, raw: &[u8]) -> Result<Vec<u8>, AllocError>
 
 // What follows the last slash or backslash.
 fn last_piece(raw: &[u8]) -> &[u8]
-    ensures { result.now ≡ behind_last raw.now raw.now }
+    ensures { result.now ≡ after_last raw.now raw.now }
 {
     let mut piece = raw;
     let mut rest = raw;
-    'each: while let [byte, behind @ ..] = rest {
+    'each: while let [byte, following @ ..] = rest {
         if is_divider(*byte) {
-            piece = behind;
+            piece = following;
         }
-        rest = behind;
+        rest = following;
     }
     piece
 }

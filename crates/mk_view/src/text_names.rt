@@ -7,7 +7,7 @@ ghost use Rattle.mk_head.specs.Types.{field_value};
 ghost use Rattle.mk_head.specs.ValueViews.{media_type_of};
 ghost use Rattle.mk_tree.specs.Tree.{field_lines};
 ghost use Rattle.mk_view.specs.Listing.{type_of};
-ghost use Rattle.mk_view.specs.FileNames.{behind_last, is_divider as divides, leading as leading_of, name_or, part_name as name_of_part};
+ghost use Rattle.mk_view.specs.FileNames.{after_last, is_divider as divides, leading as leading_of, name_or, part_name as name_of_part};
 ghost use Rattle.mk_view.specs.TextNames.{cleaned_text as cleaned_of, disposed_text as text_of_disposition, fitting, named_by, plain_character as plain_of, text_in as text_in_form, text_name as text_of_section};
 
 use crate::naming::{MOST_BYTES, own_name, part_name};
@@ -152,15 +152,15 @@ fn push_fitting(name: &mut String, characters: &[char], most: usize) -> Result<(
 
 // What follows the last slash or backslash.
 fn last_piece(characters: &[char]) -> &[char]
-    ensures { result.now ≡ behind_last characters.now characters.now }
+    ensures { result.now ≡ after_last characters.now characters.now }
 {
     let mut piece = characters;
     let mut rest = characters;
-    'each: while let [character, behind @ ..] = rest {
+    'each: while let [character, following @ ..] = rest {
         if is_divider(*character) {
-            piece = behind;
+            piece = following;
         }
-        rest = behind;
+        rest = following;
     }
     piece
 }

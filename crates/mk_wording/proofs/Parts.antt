@@ -11,14 +11,14 @@ part_fails out bytes others target h = h
 pub part_last : (out part bytes : List ℕ) (target : Option (List ℕ)) → option_map (λ more. out ++ more) (part_before bytes (Some part) (Some [])) ≡ target → Some ((out ++ part) ++ bytes) ≡ target
 part_last out part bytes target h = ap Some (append_assoc out part bytes ∙ ap (λ xs. out ++ (part ++ xs)) (sym (append-nil bytes))) ∙ h
 
-behind_part : (out part bytes : List ℕ) (others : Option (List ℕ)) → option_map (λ more. ((out ++ part) ++ bytes) ++ more) others ≡ option_map (λ more. out ++ more) (part_before bytes (Some part) others)
-behind_part out part bytes None = refl
-behind_part out part bytes (Some more) = ap Some (append_assoc (out ++ part) bytes more ∙ append_assoc out part (bytes ++ more))
+after_part : (out part bytes : List ℕ) (others : Option (List ℕ)) → option_map (λ more. ((out ++ part) ++ bytes) ++ more) others ≡ option_map (λ more. out ++ more) (part_before bytes (Some part) others)
+after_part out part bytes None = refl
+after_part out part bytes (Some more) = ap Some (append_assoc (out ++ part) bytes more ∙ append_assoc out part (bytes ++ more))
 
 -- a part more
 pub part_more : (out part bytes : List ℕ) (others target : Option (List ℕ)) → option_map (λ more. out ++ more) (part_before bytes (Some part) others) ≡ target
     → option_map (λ more. ((out ++ part) ++ bytes) ++ more) others ≡ target
-part_more out part bytes others target h = behind_part out part bytes others ∙ h
+part_more out part bytes others target h = after_part out part bytes others ∙ h
 
 -- nothing was written yet
 pub part_none : (o : Option (List ℕ)) → option_map (λ more. [] ++ more) o ≡ o

@@ -54,12 +54,12 @@ pub(crate) fn worded_list(
     let mut worded = Vec::new(alloc);
     let mut rest = value;
     'entries: loop {
-        let (text, behind) = rest.split_at(mark_place(rest, ends(kind)));
-        match worded_entry(alloc, text, behind, kind, eol)? {
+        let (text, following) = rest.split_at(mark_place(rest, ends(kind)));
+        match worded_entry(alloc, text, following, kind, eol)? {
             Some(entry) => worded.extend_from_slice(&entry)?,
             None => return Ok(None),
         }
-        match behind.split_first() {
+        match following.split_first() {
             Some((end, more)) => {
                 worded.push(*end)?;
                 rest = more;
@@ -73,15 +73,15 @@ pub(crate) fn worded_list(
 fn worded_entry(
     alloc: Global,
     text: &[u8],
-    behind: &[u8],
+    following: &[u8],
     kind: ListKind,
     eol: Ending,
 ) -> Result<Option<Vec<u8>>, AllocError>
     requires { eol ≢ Ending.Missing }
-    ensures { IfOk result (λ worded. bytes_in worded ≡ entry_in_words kind eol (record { text = text.now; end = take 1 behind.now })) }
+    ensures { IfOk result (λ worded. bytes_in worded ≡ entry_in_words kind eol (record { text = text.now; end = take 1 following.now })) }
 {
     match kind {
-        ListKind::Addresses => worded_address(alloc, text, begins_with_colon(behind), eol),
+        ListKind::Addresses => worded_address(alloc, text, begins_with_colon(following), eol),
         ListKind::Parameters => parameter_first(alloc, text, eol),
     }
 }
@@ -102,11 +102,11 @@ pub(crate) fn worded_parameters(
     requires { eol ≢ Ending.Missing }
     ensures { IfOk result (λ worded. bytes_in worded ≡ parameters_in_words eol value.now) }
 {
-    let (front, behind) = value.split_at(mark_place(value, PARAMETER_ENDS));
+    let (front, following) = value.split_at(mark_place(value, PARAMETER_ENDS));
     let Some(mut worded) = worded_text(alloc, front, Outside::Ascii, eol)? else {
         return Ok(None);
     };
-    let Some((end, more)) = behind.split_first() else {
+    let Some((end, more)) = following.split_first() else {
         return Ok(Some(worded));
     };
     let Some(parameters) = worded_list(alloc, more, ListKind::Parameters, eol)? else {

@@ -111,7 +111,7 @@ fn is_whole_value(value: &[u8]) -> bool
     ensures { result ≡ whole_value value.now }
 {
     match value {
-        [QUOTE, behind @ ..] => ends_quoted(behind),
+        [QUOTE, following @ ..] => ends_quoted(following),
         [_, ..] => are_bare_bytes(value),
         [] => false,
     }

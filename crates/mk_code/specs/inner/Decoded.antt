@@ -25,8 +25,8 @@ EncodesNone found Memory = Unit {0}
 -- whole groups of four letters at the start are the encoding of no bytes
 pub record HasBadGroups (found : List ℕ) : Type 0 where
   pub front : List ℕ
-  pub behind : List ℕ
-  pub parts : found ≡ front ++ behind
+  pub following : List ℕ
+  pub parts : found ≡ front ++ following
   pub grouped : length front % 4 ≡ 0
   pub none : EncodesNothing front
 

@@ -98,7 +98,7 @@ fn message(alloc: Global) -> Result<Vec<u8>, AllocError> {
 }
 
 // What follows a text that stands so many times.
-fn behind<'a>(text: &'a [u8], front: &[u8], times: u32) -> Option<&'a [u8]> {
+fn following<'a>(text: &'a [u8], front: &[u8], times: u32) -> Option<&'a [u8]> {
     let mut rest = text;
     for _ in 0..times {
         rest = rest.strip_prefix(front)?;
@@ -107,10 +107,10 @@ fn behind<'a>(text: &'a [u8], front: &[u8], times: u32) -> Option<&'a [u8]> {
 }
 
 // What follows texts that stand one after another, each so many times.
-fn behind_all<'a>(text: &'a [u8], fronts: [(&[u8], u32); 4]) -> Option<&'a [u8]> {
+fn after_all<'a>(text: &'a [u8], fronts: [(&[u8], u32); 4]) -> Option<&'a [u8]> {
     let mut rest = text;
     for (front, times) in fronts {
-        rest = behind(rest, front, times)?;
+        rest = following(rest, front, times)?;
     }
     Some(rest)
 }
@@ -123,7 +123,7 @@ fn check_text(rt: &impl Abort, text: &[u8], row: &Row) -> Result<(), Fail> {
         (bytes_in(row, "between")?, 1),
         (PART, number_in(row, "after")?),
     ];
-    assert_eq!(rt; behind_all(text, fronts), Some(CLOSE), "{}", row.shows);
+    assert_eq!(rt; after_all(text, fronts), Some(CLOSE), "{}", row.shows);
     Ok(())
 }
 

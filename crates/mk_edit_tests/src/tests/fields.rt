@@ -18,7 +18,7 @@ edit: add
 with: A: b
 gives: A: b
 
-== no field goes behind an open line
+== no field goes after an open line
 message: A: b
 at: 1
 edit: add
@@ -60,7 +60,7 @@ edit: add at the top
 with: A: b\n
 refused: Recut
 
-== a body of blanks behind a separator stays
+== a body of blanks after a separator stays
 message: \n x\n
 at: 1
 edit: add
@@ -74,7 +74,7 @@ edit: add
 with: A: b\n
 gives: A: b\nx\n
 
-== a field behind one that goes on
+== a field after one that goes on
 message: A: b\n c\n\nx\n
 at: 1
 edit: add
@@ -88,21 +88,21 @@ edit: add
 with: C: d\r\n e\r\n
 gives: A: b\r\nC: d\r\n e\r\n\r\nx
 
-== a field behind the envelope
+== a field after the envelope
 message: From a\nx\n
 at: 1
 edit: add
 with: A: b\n
 gives: From a\nA: b\nx\n
 
-== the first field stands behind the envelope
+== the first field stands after the envelope
 message: From a\nA: b\n
 at: 1
 edit: add at the top
 with: C: d\n
 gives: From a\nC: d\nA: b\n
 
-== no field goes behind an open envelope
+== no field goes after an open envelope
 message: From a
 at: 1
 edit: add at the top
@@ -172,7 +172,7 @@ edit: add
 with: A: b\n
 refused: NoSuchSection
 
-== no part behind the last
+== no part after the last
 message: Subject: t\nContent-Type: multipart/mixed; boundary="b"\n\npre\n--b\n\none\n--b \t\nContent-Type: text/html\n\ntwo\n--b--\nepi\n
 at: 1.3
 edit: add
@@ -200,14 +200,14 @@ edit: add at the top
 with: A: b\n
 gives: Subject: t\nContent-Type: multipart/mixed; boundary="b"\n\npre\n--b\n\none\n--b \t\nA: b\nContent-Type: text/html\n\ntwo\n--b--\nepi\n
 
-== a field behind the others of a part
+== a field after the others of a part
 message: Subject: t\nContent-Type: multipart/mixed; boundary="b"\n\npre\n--b\n\none\n--b \t\nContent-Type: text/html\n\ntwo\n--b--\nepi\n
 at: 1.2
 edit: add
 with: A: b\n
 gives: Subject: t\nContent-Type: multipart/mixed; boundary="b"\n\npre\n--b\n\none\n--b \t\nContent-Type: text/html\nA: b\n\ntwo\n--b--\nepi\n
 
-== a field behind those of a multipart
+== a field after those of a multipart
 message: Subject: t\nContent-Type: multipart/mixed; boundary="b"\n\npre\n--b\n\none\n--b \t\nContent-Type: text/html\n\ntwo\n--b--\nepi\n
 at: 1
 edit: add

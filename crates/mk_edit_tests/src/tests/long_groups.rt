@@ -40,7 +40,7 @@ then: remove X
 index: 21
 refused: NoSuchField
 
-== another name behind the first
+== another name after the first
 lines: X: a\n
 rest: Y: b\n\nbody
 often: remove X
@@ -91,7 +91,7 @@ then: add Z at the top
 gives:
 gives-rest: Z: z\nZ: z\nOld-X: a\nX: b\nX: a\nX: b\nX: a\nX: b\nX: a\nX: b\nX: a\nX: b\nX: a\nX: b\nX: a\nX: b\nX: a\nX: b\nX: a\nX: b\nX: a\nX: b\n\nbody\n
 
-== all fields, and no empty line behind them
+== all fields, and no empty line after them
 lines: X: a\n
 rest:
 often: remove X

@@ -15,10 +15,10 @@ use std::test::Fail;
 
 // Whether a replacement turns a text into another.
 fn gives(made: &Replacement, text: &[u8], other: &[u8]) -> bool {
-    let Some((front, behind)) = text.split_at_checked(made.place) else {
+    let Some((front, following)) = text.split_at_checked(made.place) else {
         return false;
     };
-    let Some((_, rest)) = behind.split_at_checked(made.count) else {
+    let Some((_, rest)) = following.split_at_checked(made.count) else {
         return false;
     };
     match other.strip_prefix(front) {

@@ -20,7 +20,7 @@ place: 1
 with: Content-Transfer-Encoding: base64\n\naGk=\n
 gives: Subject: t\nContent-Type: multipart/mixed; boundary="b"\n\npre\n--b\n\none\n--b\nContent-Transfer-Encoding: base64\n\naGk=\n--b \t\nContent-Type: text/html\n\ntwo\n--b--\nepi\n
 
-== a part behind the last
+== a part after the last
 message: Subject: t\nContent-Type: multipart/mixed; boundary="b"\n\npre\n--b\n\none\n--b \t\nContent-Type: text/html\n\ntwo\n--b--\nepi\n
 at: 1
 edit: insert
@@ -100,7 +100,7 @@ place: 0
 with: \n--c\n--b--\n
 refused: HoldsBoundary { level: 1 }
 
-== no delimiter behind an open line
+== no delimiter after an open line
 message: Content-Type: multipart/mixed; boundary="b"\n\n--b\n\nx\ny
 at: 1
 edit: insert
@@ -108,7 +108,7 @@ place: 1
 with: Content-Transfer-Encoding: base64\n\naGk=\n
 refused: OpenLine
 
-== a delimiter behind a line that is ended
+== a delimiter after a line that is ended
 message: Content-Type: multipart/mixed; boundary="b"\n\n--b\n\nx\ny\n
 at: 1
 edit: insert
@@ -148,7 +148,7 @@ place: 0
 with: Content-Transfer-Encoding: base64\n\naGk=\n
 gives: Content-Type: multipart/mixed; boundary="b"\n\n--b\nContent-Transfer-Encoding: base64\n\naGk=\n--b--\n
 
-== the first part behind an open preamble
+== the first part after an open preamble
 message: Content-Type: multipart/mixed; boundary="b"\n\npre
 at: 1
 edit: insert
@@ -156,7 +156,7 @@ place: 0
 with: Content-Transfer-Encoding: base64\n\naGk=\n
 refused: OpenLine
 
-== the first part behind a preamble
+== the first part after a preamble
 message: Content-Type: multipart/mixed; boundary="b"\n\npre\n
 at: 1
 edit: insert
@@ -164,7 +164,7 @@ place: 0
 with: Content-Transfer-Encoding: base64\n\naGk=\n
 gives: Content-Type: multipart/mixed; boundary="b"\n\npre\n--b\nContent-Transfer-Encoding: base64\n\naGk=\n
 
-== a part behind fields alone
+== a part after fields alone
 message: Content-Type: multipart/mixed; boundary=b\n
 at: 1
 edit: insert

@@ -92,7 +92,7 @@ name: A
 number: 1
 refused: Recut
 
-== behind an envelope it would not
+== after an envelope it would not
 message: From a\nA: b\nFrom x\n
 at: 1
 edit: remove

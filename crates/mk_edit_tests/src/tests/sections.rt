@@ -53,7 +53,7 @@ edit: body
 with: z\n
 gives: \nz\n
 
-== no separator goes behind an open field
+== no separator goes after an open field
 message: A: b
 at: 1
 edit: body

@@ -63,7 +63,7 @@ fn a_field_more(rt: HostRuntime) -> Result<(), Fail> {
 }
 
 #[test]
-fn another_body_behind_a_head(rt: HostRuntime) -> Result<(), Fail> {
+fn another_body_after_a_head(rt: HostRuntime) -> Result<(), Fail> {
     let alloc = rt.alloc();
     let text = Vec::from_slice(alloc, b"other\nlines\n")?;
     let change = Change::Body { text };
@@ -79,7 +79,7 @@ fn another_body_behind_a_head(rt: HostRuntime) -> Result<(), Fail> {
 }
 
 #[test]
-fn a_separator_and_a_body_behind_fields_alone(rt: HostRuntime) -> Result<(), Fail> {
+fn a_separator_and_a_body_after_fields_alone(rt: HostRuntime) -> Result<(), Fail> {
     let alloc = rt.alloc();
     let text = Vec::from_slice(alloc, b"\nbody")?;
     let change = Change::Body { text };

@@ -113,7 +113,7 @@ pub const ROWS: [Row; 15] = [
         ],
     },
     Row {
-        name: "a delimiter that would be a field behind the own header",
+        name: "a delimiter that would be a field following the own header",
         text: b"Content-Type: multipart/mixed; boundary=\"a:b\"\n\n--a:b\n\nx\n--a:b--\n",
         places: &[
             Place {
@@ -301,7 +301,7 @@ pub const ROWS: [Row; 15] = [
         ],
     },
     Row {
-        name: "a longer line is no delimiter, and none counts behind the close line",
+        name: "a longer line is no delimiter, and none counts following the close line",
         text: b"Content-Type: multipart/mixed; boundary=b\n\n--bx\n--b--\n--b\n",
         places: &[Place {
             path: &[1],

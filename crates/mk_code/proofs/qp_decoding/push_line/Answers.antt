@@ -5,20 +5,20 @@ use Rattle.mk_code.proofs.qp_decoding.push_line.Goals as goal
 
 pub returns-then-is_empty : goal.returns-then-is_empty
 returns-then-is_empty c =
-    step_soft c.args.ending.now c.loop-front.rest.now c.loop-front.out.items _ c.in-Some.front.now c.in-Some.behind.now c.in-Some.ensures.parts c.in-Some.ensures.first
-    c.in_ok-extend_from_slice.ensures.items (eqb-true (length c.in-Some.behind.now) 0 (sym c.is_empty.ensures ∙ c.if-is_empty.true))
+    step_soft c.args.ending.now c.loop-front.rest.now c.loop-front.out.items _ c.in-Some.front.now c.in-Some.following.now c.in-Some.ensures.parts c.in-Some.ensures.first
+    c.in_ok-extend_from_slice.ensures.items (eqb-true (length c.in-Some.following.now) 0 (sym c.is_empty.ensures ∙ c.if-is_empty.true))
     ∙ c.loop-front.invariant
 
 pub loop-front-preserved-in-Some-pair : goal.loop-front-preserved-in-Some-pair
 loop-front-preserved-in-Some-pair c =
-    step_pair c.args.ending.now c.loop-front.rest.now c.loop-front.out.items _ _ c.in-Some.front.now c.in-Some.behind.now c.in-Some-pair.byte c.in-Some.ensures.parts c.in-Some.ensures.first
+    step_pair c.args.ending.now c.loop-front.rest.now c.loop-front.out.items _ _ c.in-Some.front.now c.in-Some.following.now c.in-Some-pair.byte c.in-Some.ensures.parts c.in-Some.ensures.first
     c.in_ok-extend_from_slice.ensures.items c.in-Some-pair.ensures.value c.in_ok-push-in-Some-pair.ensures.items
     ∙ c.loop-front.invariant
 
 pub loop-front-preserved : goal.loop-front-preserved
 loop-front-preserved c =
-    let some : length c.in-Some.behind.now ≢ 0 = eqb-false (length c.in-Some.behind.now) 0 (sym c.is_empty.ensures ∙ c.if-is_empty.false) in
-    step_lone c.args.ending.now c.loop-front.rest.now c.loop-front.out.items _ _ c.in-Some.front.now c.in-Some.behind.now c.in-Some.ensures.parts c.in-Some.ensures.first
+    let some : length c.in-Some.following.now ≢ 0 = eqb-false (length c.in-Some.following.now) 0 (sym c.is_empty.ensures ∙ c.if-is_empty.false) in
+    step_lone c.args.ending.now c.loop-front.rest.now c.loop-front.out.items _ _ c.in-Some.front.now c.in-Some.following.now c.in-Some.ensures.parts c.in-Some.ensures.first
     c.in_ok-extend_from_slice.ensures.items (omega arith) c.in-None.ensures.value c.in_ok-push-in-None.ensures.items
     ∙ c.loop-front.invariant
 

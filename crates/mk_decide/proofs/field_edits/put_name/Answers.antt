@@ -16,5 +16,5 @@ returns-in_ok-extend_from_slice-in-Some-clause-ok c =
     let o = field_at c.args.name.now c.args.k ls in
     put_by _ (Ok (name_put to a.found)) (renames to o)
     (found_put o a.found (λ f. put_unless (not (is_name to)) BadName (name_put to f)) a.is ∙ may_put (is_name to) BadName (name_put to a.found) (sym c.is_name.ensures ∙ c.if-not-is_name.false))
-    (put_renamed _ to c.args.name.now c.args.k ls c.in-Some.from (field_view c.in-Some.field) c.behind_name-behind.result.now a c.behind_name-behind.ensures refl refl
-    (c.in_ok-extend_from_slice-in-Some.ensures.items ∙ ap (λ xs. xs ++ c.behind_name-behind.result.now) c.in_ok-lines-in-Some.ensures.items) refl)
+    (put_renamed _ to c.args.name.now c.args.k ls c.in-Some.from (field_view c.in-Some.field) c.after_name-following.result.now a c.after_name-following.ensures refl refl
+    (c.in_ok-extend_from_slice-in-Some.ensures.items ∙ ap (λ xs. xs ++ c.after_name-following.result.now) c.in_ok-lines-in-Some.ensures.items) refl)

@@ -16,4 +16,4 @@ returns-in_ok-from_slice-in-Some-clause-ok c =
     let o = field_at c.args.name.now c.args.k ls in
     put_by _ (Ok (set_put (cut text) a.found)) (sets text o)
     (found_put o a.found (λ f. put_unless (not (is_one_field (cut text))) BadField (set_put (cut text) f)) a.is ∙ may_put (is_one_field (cut text)) BadField (set_put (cut text) a.found) (sym c.one_field.ensures ∙ c.if-not-one_field.false))
-    (put_set _ (cut text) a.found a.behind (ap length a.raw) (c.in_ok-from_slice-in-Some.ensures.items ∙ sym (text_cut text)) refl)
+    (put_set _ (cut text) a.found a.following (ap length a.raw) (c.in_ok-from_slice-in-Some.ensures.items ∙ sym (text_cut text)) refl)

@@ -1,6 +1,6 @@
 use Rattle.std.proofs.Common.{◌∙◌, arith, refl, sym}
 use Rattle.mk_decide.specs.Edits.{Wrap}
-use Rattle.mk_decide.specs.LocalAnswers.{behind_first}
+use Rattle.mk_decide.specs.LocalAnswers.{after_first}
 use Rattle.mk_decide.specs.WrapAnswers.{wrap_answer}
 use Rattle.mk_decide.proofs.Decisions.{told_ok, told_err, told_none}
 use Rattle.mk_decide.proofs.WrapCounts.{looked_most}
@@ -13,7 +13,7 @@ returns-in-Some-clause-ok c =
     let subtype = c.args.subtype.now in
     let boundary = c.args.boundary.now in
     let section = c.in-Some.section in
-    told_ok (Wrap path subtype boundary) c.args.doc.now (wrap_answer c.args.doc.now (behind_first path) subtype boundary section) c.wrap.result (wrap_answers c.args.doc.now path subtype boundary section (sym c.section.ensures ∙ c.in-Some.is)) c.wrap.ensures.ok
+    told_ok (Wrap path subtype boundary) c.args.doc.now (wrap_answer c.args.doc.now (after_first path) subtype boundary section) c.wrap.result (wrap_answers c.args.doc.now path subtype boundary section (sym c.section.ensures ∙ c.in-Some.is)) c.wrap.ensures.ok
 
 pub returns-in-Some-clause-err : goal.returns-in-Some-clause-err
 returns-in-Some-clause-err c =
@@ -21,7 +21,7 @@ returns-in-Some-clause-err c =
     let subtype = c.args.subtype.now in
     let boundary = c.args.boundary.now in
     let section = c.in-Some.section in
-    told_err (Wrap path subtype boundary) c.args.doc.now (wrap_answer c.args.doc.now (behind_first path) subtype boundary section) c.wrap.result (wrap_answers c.args.doc.now path subtype boundary section (sym c.section.ensures ∙ c.in-Some.is)) c.wrap.ensures.err
+    told_err (Wrap path subtype boundary) c.args.doc.now (wrap_answer c.args.doc.now (after_first path) subtype boundary section) c.wrap.result (wrap_answers c.args.doc.now path subtype boundary section (sym c.section.ensures ∙ c.in-Some.is)) c.wrap.ensures.err
 
 pub returns-in-Some-clause-most : goal.returns-in-Some-clause-most
 returns-in-Some-clause-most c =

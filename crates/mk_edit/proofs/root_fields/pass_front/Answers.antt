@@ -2,7 +2,7 @@ use Rattle.std.proofs.Common.{◌+◌, ◌-◌, ◌<◌, ◌∙◌, ℕ, ap, ari
 use Rattle.mk_tree.specs.Sections.{head_text}
 use Rattle.mk_edit.specs.RootFields.{lines_in, root_in, IsBehind}
 use Rattle.mk_edit.specs.inner.Gaps.{without_gap}
-use Rattle.mk_edit.proofs.GapFields.{behind_inside, front_fields, place_inside, sliced}
+use Rattle.mk_edit.proofs.GapFields.{after_inside, front_fields, place_inside, sliced}
 use Rattle.mk_edit.proofs.PassedOver.{further_on}
 use Rattle.mk_edit.proofs.RootEdits.{root_within}
 use Rattle.mk_edit.proofs.root_fields.pass_front.Goals as goal
@@ -10,7 +10,7 @@ use Rattle.mk_edit.proofs.root_fields.pass_front.Goals as goal
 pub overflow_add-start : goal.overflow_add-start
 overflow_add-start c =
     let text = without_gap c.args.text.now in
-    omega (arith, behind_inside text c.args.start c.args.size c.args.bytes c.args.k c.args.edit.now c.requires.fields c.requires.place, root_within text c.args.start c.args.size c.requires.fields, c.front_len.ensures.fits)
+    omega (arith, after_inside text c.args.start c.args.size c.args.bytes c.args.k c.args.edit.now c.requires.fields c.requires.place, root_within text c.args.start c.args.size c.requires.fields, c.front_len.ensures.fits)
 
 -- the field, or the gap
 there : (c : goal.After-pass_over-passed) → IsBehind (lines_in (without_gap c.args.text.now)) (c.args.bytes + c.pass_over-passed.result.0) c.args.edit.now c.pass_over-passed.result.1
@@ -28,7 +28,7 @@ there c =
 pub overflow_add-result : goal.overflow_add-result
 overflow_add-result c =
     let text = without_gap c.args.text.now in
-    omega (arith, behind_inside text c.args.start c.args.size (c.args.bytes + c.pass_over-passed.result.0) c.pass_over-passed.result.1 c.args.edit.now c.requires.fields (there c), root_within text c.args.start c.args.size c.requires.fields, c.front_len.ensures.fits)
+    omega (arith, after_inside text c.args.start c.args.size (c.args.bytes + c.pass_over-passed.result.0) c.pass_over-passed.result.1 c.args.edit.now c.requires.fields (there c), root_within text c.args.start c.args.size c.requires.fields, c.front_len.ensures.fits)
 
 pub returns-clause-place : goal.returns-clause-place
 returns-clause-place c = there c

@@ -3,18 +3,18 @@ use Rattle.mk_tree.specs.Sections.{head_text}
 use Rattle.mk_edit.specs.RootFields.{lines_in, root_in}
 use Rattle.mk_edit.specs.SilentEdits.{numbered}
 use Rattle.mk_edit.specs.inner.Gaps.{without_gap}
-use Rattle.mk_edit.proofs.GapFields.{behind_inside, gap_back_at, run_left}
+use Rattle.mk_edit.proofs.GapFields.{after_inside, gap_back_at, run_left}
 use Rattle.mk_edit.proofs.RootEdits.{refused_by, root_within}
 use Rattle.mk_edit.proofs.root_fields.put_in.Goals as goal
 
 pub overflow_add-start : goal.overflow_add-start
 overflow_add-start c =
     let text = without_gap c.args.text.now in
-    omega (arith, behind_inside text c.args.start c.args.size c.pass_front-bytes.result.0 c.pass_front-bytes.result.1 c.args.edit.now c.requires.fields c.pass_front-bytes.ensures.place, root_within text c.args.start c.args.size c.requires.fields, c.pass_front-bytes.ensures.fits)
+    omega (arith, after_inside text c.args.start c.args.size c.pass_front-bytes.result.0 c.pass_front-bytes.result.1 c.args.edit.now c.requires.fields c.pass_front-bytes.ensures.place, root_within text c.args.start c.args.size c.requires.fields, c.pass_front-bytes.ensures.fits)
 
 pub fields_after-requires-clause-within : goal.fields_after-requires-clause-within
 fields_after-requires-clause-within c =
-    behind_inside (without_gap c.args.text.now) c.args.start c.args.size c.pass_front-bytes.result.0 c.pass_front-bytes.result.1 c.args.edit.now c.requires.fields c.pass_front-bytes.ensures.place
+    after_inside (without_gap c.args.text.now) c.args.start c.args.size c.pass_front-bytes.result.0 c.pass_front-bytes.result.1 c.args.edit.now c.requires.fields c.pass_front-bytes.ensures.place
 
 pub put_at-requires-clause-run : goal.put_at-requires-clause-run
 put_at-requires-clause-run c =

@@ -1,10 +1,10 @@
 use Rattle.std.proofs.Common.{◌∙◌}
-use Rattle.mk_field.specs.Filtering.{behind_colon}
+use Rattle.mk_field.specs.Filtering.{after_colon}
 use Rattle.mk_field.specs.Wording.{printed_value}
 use Rattle.mk_field.proofs.FilterLemmas.{given_begun}
 use Rattle.mk_field.proofs.giving.values.Goals as goal
 
 pub loop-field-init : goal.loop-field-init
 loop-field-init c =
-    given_begun (λ f. printed_value c.args.form (behind_colon f.raw)) c.args.path.now c.args.name.now c.args.doc.now c.new-text.result.items c.head_at.result.now c.into_iter-field-iterator.result c.new-text.ensures.items c.head_at.ensures
+    given_begun (λ f. printed_value c.args.form (after_colon f.raw)) c.args.path.now c.args.name.now c.args.doc.now c.new-text.result.items c.head_at.result.now c.into_iter-field-iterator.result c.new-text.ensures.items c.head_at.ensures
     (c.into_iter-field-iterator.ensures.into_iter_gives ∙ c.each_field-field-items.ensures.fields)

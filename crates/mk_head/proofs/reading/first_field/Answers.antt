@@ -23,7 +23,7 @@ returns-clause-begins c =
       more = f.0.more;
       lines = f.0.lines;
       starts = f.0.starts;
-      behind = ap cut c.split_at.ensures.back ∙ f.1.rest;
+      following = ap cut c.split_at.ensures.back ∙ f.1.rest;
     }
 
 pub returns-clause-field : goal.returns-clause-field

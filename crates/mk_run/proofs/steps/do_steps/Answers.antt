@@ -4,7 +4,7 @@ use Rattle.std.proofs.KnownBytes.{Appends-trans}
 use Rattle.mk_run.specs.Runs.{reported, errors_of, history_after}
 use Rattle.mk_expand.specs.Views.{pieces_of}
 use Rattle.mk_script.specs.ScriptViews.{step_by}
-use Rattle.mk_transfer.proofs.Fronts.{AppendsFront-behind, not-is_nil-append}
+use Rattle.mk_transfer.proofs.Fronts.{AppendsFront-following, not-is_nil-append}
 use Rattle.mk_run.proofs.steps.do_steps.Goals as goal
 
 pub returns-in_err-refused-clause-sends : goal.returns-in_err-refused-clause-sends
@@ -14,7 +14,7 @@ returns-in_err-refused-clause-sends g c =
     let part = c.in_err-refused.ensures.sends in
     let rest = ap (λ items. sent.0 ++ errors_of (pieces_of c.args.pieces) (map step_by items) c.loop-step.session) c.in-Some.ensures.steps.0 in
     rw (stopped.1, stopped.2) (record {
-      front = AppendsFront-behind _ _ _ sent.0 _ _ _ sent.2 part.front (sent.1 ∙ rest);
+      front = AppendsFront-following _ _ _ sent.0 _ _ _ sent.2 part.front (sent.1 ∙ rest);
       fault = λ h. rw c.loop-step.invariant.well at (part.fault h);
       steady = λ h. rw c.loop-step.invariant.well at (part.steady h);
       counted = rw c.loop-step.invariant.well at part.counted;

@@ -1,9 +1,9 @@
 use Rattle.std.proofs.Common.{◌≡◌, ◌<◌, ◌^◌, drop}
-use Rattle.mk_script.specs.Paths.{number_behind, number_of}
+use Rattle.mk_script.specs.Paths.{number_after, number_of}
 use Rattle.mk_script.proofs.paths.number.Given as goal
 
 abbrev pub invariant-loop-byte : goal.invariant-loop-byte
 invariant-loop-byte l = record {
-  told : number_behind l.number (drop l.byte-index l.text) ≡ number_of l.text;
+  told : number_after l.number (drop l.byte-index l.text) ≡ number_of l.text;
   small : l.number < 2 ^ 32;
 }

@@ -3,7 +3,7 @@ use Rattle.std.proofs.lemmas.Result.{err_from_is_err_and}
 use Rattle.std.proofs.KnownBytes.{Appends-nil}
 use Rattle.std.specs.Vec.Iter.{into_iter_items}
 use Rattle.mk_view.specs.LeafViews.{AreAt, leaf_view}
-use Rattle.mk_show.proofs.UnpackLemmas.{UnpackedAll-none, UnpackedAll-behind, UnpackedSome-behind}
+use Rattle.mk_show.proofs.UnpackLemmas.{UnpackedAll-none, UnpackedAll-following, UnpackedSome-following}
 use Rattle.mk_show.proofs.unpacking.unpack_all.Goals as goal
 
 pub loop-leaf-init : goal.loop-leaf-init
@@ -23,7 +23,7 @@ returns-in_err-refused-clause-some g c =
     rw stopped.1 (λ t h.
     let sofar = done.2 t h in
     let here = subst (AreAt t) c.in-Some.ensures.steps.0 sofar.0 in
-    UnpackedSome-behind c.args.manner t done.0 (leaf_view c.in-Some.leaf ∷ []) _ _ _ _ _ _ sofar.1 (c.in_err-refused.ensures.some t here.0) leaves)
+    UnpackedSome-following c.args.manner t done.0 (leaf_view c.in-Some.leaf ∷ []) _ _ _ _ _ _ sofar.1 (c.in_err-refused.ensures.some t here.0) leaves)
 
 pub loop-leaf-preserved : goal.loop-leaf-preserved
 loop-leaf-preserved g c =
@@ -40,7 +40,7 @@ loop-leaf-preserved g c =
         λ t h.
             let sofar = done.2 t h in
             let here = subst (AreAt t) items sofar.0 in
-            (here.1, UnpackedAll-behind c.args.manner t done.0 (leaf_view c.in-Some.leaf ∷ []) _ _ _ _ _ sofar.1 (c.in_ok-refused.ensures.all t here.0)),
+            (here.1, UnpackedAll-following c.args.manner t done.0 (leaf_view c.in-Some.leaf ∷ []) _ _ _ _ _ sofar.1 (c.in_ok-refused.ensures.all t here.0)),
       );
       well = record { output = well.output ∙ before.output; errors = well.errors ∙ before.errors; folder = well.folder ∙ before.folder };
       safe = safe.1;

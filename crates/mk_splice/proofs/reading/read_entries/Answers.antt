@@ -21,7 +21,7 @@ returns-in_err-entry c =
 pub loop-preserved : goal.loop-preserved
 loop-preserved c =
     let read = c.in_ok-entry.ensures in
-    one_more_at Entry SpliceIn Splice splice_of splice_meant read_entry c.args.count c.args.bytes.now (c.args.count - c.loop.counter) (c.args.count - (c.loop.counter + 1)) c.loop.rest.now c.in_ok-entry.behind.now c.loop.entries.items _ read.0 c.in_ok-entry.entry (omega (arith, c.loop-test.true)) c.in_ok-push.ensures.items c.loop.invariant read.1 read.2
+    one_more_at Entry SpliceIn Splice splice_of splice_meant read_entry c.args.count c.args.bytes.now (c.args.count - c.loop.counter) (c.args.count - (c.loop.counter + 1)) c.loop.rest.now c.in_ok-entry.following.now c.loop.entries.items _ read.0 c.in_ok-entry.entry (omega (arith, c.loop-test.true)) c.in_ok-push.ensures.items c.loop.invariant read.1 read.2
 
 pub returns : goal.returns
 returns c =

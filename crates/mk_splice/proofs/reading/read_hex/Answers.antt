@@ -21,7 +21,7 @@ loop-i-preserved c =
     let within : c.loop-i.i < length c.loop-i.digits = omega (arith, c.loop-i-test.true, c.loop-i.invariant.size) in
     record {
       size = length-set c.loop-i.digits c.loop-i.i c.in_ok-digit.digit ∙ c.loop-i.invariant.size;
-      read = one_more_at ℕ ℕ ℕ (λ x. x) (λ x. x) (read_byte is_hex) 64 c.args.bytes.now (64 - c.loop-i.i) (64 - (c.loop-i.i + 1)) c.loop-i.rest.now c.in_ok-digit.behind.now (take c.loop-i.i c.loop-i.digits) _ read.0 c.in_ok-digit.digit (omega (arith, c.loop-i-test.true)) (take_more_set c.loop-i.digits c.loop-i.i c.in_ok-digit.digit within) c.loop-i.invariant.read read.1 read.2;
+      read = one_more_at ℕ ℕ ℕ (λ x. x) (λ x. x) (read_byte is_hex) 64 c.args.bytes.now (64 - c.loop-i.i) (64 - (c.loop-i.i + 1)) c.loop-i.rest.now c.in_ok-digit.following.now (take c.loop-i.i c.loop-i.digits) _ read.0 c.in_ok-digit.digit (omega (arith, c.loop-i-test.true)) (take_more_set c.loop-i.digits c.loop-i.i c.in_ok-digit.digit within) c.loop-i.invariant.read read.1 read.2;
     }
 
 pub returns : goal.returns

@@ -21,7 +21,7 @@ returns-in_err-step c =
 pub loop-preserved : goal.loop-preserved
 loop-preserved c =
     let read = c.in_ok-step.ensures in
-    one_more_at StepText (Vec SpliceIn) (List Splice) (λ v. map splice_of v.items) step_meant (read_step c.args.version) c.args.count c.args.bytes.now (c.args.count - c.loop.counter) (c.args.count - (c.loop.counter + 1)) c.loop.rest.now c.in_ok-step.behind.now c.loop.steps.items _ read.0 c.in_ok-step.step (omega (arith, c.loop-test.true)) c.in_ok-push.ensures.items c.loop.invariant read.1 read.2
+    one_more_at StepText (Vec SpliceIn) (List Splice) (λ v. map splice_of v.items) step_meant (read_step c.args.version) c.args.count c.args.bytes.now (c.args.count - c.loop.counter) (c.args.count - (c.loop.counter + 1)) c.loop.rest.now c.in_ok-step.following.now c.loop.steps.items _ read.0 c.in_ok-step.step (omega (arith, c.loop-test.true)) c.in_ok-push.ensures.items c.loop.invariant read.1 read.2
 
 pub returns : goal.returns
 returns c =

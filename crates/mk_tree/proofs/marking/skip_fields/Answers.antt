@@ -8,10 +8,10 @@ pub each-preserved : goal.each-preserved
 each-preserved c =
     let bs = boundaries_of c.args.opened.now in
     let unmarked = sym c.begins_marked.ensures ∙ c.if-begins_marked.false in
-    let passed = size_passed bs c.each.rest.now c.in-Some.behind.now c.in-Some.ensures.begins unmarked in
+    let passed = size_passed bs c.each.rest.now c.in-Some.following.now c.in-Some.ensures.begins unmarked in
     record {
       size = omega (arith, c.each.invariant.size, passed);
-      rest = c.each.invariant.rest ∙ rest_passed bs c.each.rest.now c.in-Some.behind.now c.in-Some.ensures.begins unmarked;
+      rest = c.each.invariant.rest ∙ rest_passed bs c.each.rest.now c.in-Some.following.now c.in-Some.ensures.begins unmarked;
     }
 
 pub returns-in_default-clause-fields : goal.returns-in_default-clause-fields

@@ -4,8 +4,8 @@ use Rattle.mk_tree.proofs.planning.plan_removal.Goals as goal
 
 pub overflow_sub-result : goal.overflow_sub-result
 overflow_sub-result c =
-    let a = at_part c.args.section.now c.args.number c.behind_parts-place.result c.behind_parts.result c.requires.0 c.requires.1 c.behind_parts-place.ensures c.behind_parts.ensures in
+    let a = at_part c.args.section.now c.args.number c.after_parts-place.result c.after_parts.result c.requires.0 c.requires.1 c.after_parts-place.ensures c.after_parts.ensures in
     omega (arith, a.ends)
 
 pub returns : goal.returns
-returns c = λ left. makes_removal c.args.section.now left c.args.number c.behind_parts-place.result c.behind_parts.result c.behind_parts-place.ensures c.behind_parts.ensures
+returns c = λ left. makes_removal c.args.section.now left c.args.number c.after_parts-place.result c.after_parts.result c.after_parts-place.ensures c.after_parts.ensures

@@ -11,17 +11,17 @@ use Rattle.mk_tree.proofs.reading.+reading.Goals as goal
 pub read_entity-overflow_sub-size : goal.read_entity-overflow_sub-size
 read_entity-overflow_sub-size t c =
     shorter_beyond (boundaries_of c.args.opened.now) c.args.text.now c.in_ok-shape.rest.now
-    (entity_rest (boundaries_of c.args.opened.now) c.args.text.now c.skip_fields-behind_fields.result.now c.skip_separator-body.result.now c.in_ok-shape.rest.now c.skip_fields-behind_fields.ensures.rest c.skip_separator-body.ensures.body c.in_ok-shape.ensures.rest)
+    (entity_rest (boundaries_of c.args.opened.now) c.args.text.now c.skip_fields-after_fields.result.now c.skip_separator-body.result.now c.in_ok-shape.rest.now c.skip_fields-after_fields.ensures.rest c.skip_separator-body.ensures.body c.in_ok-shape.ensures.rest)
 
 pub read_entity-returns-clause-node : goal.read_entity-returns-clause-node
 read_entity-returns-clause-node t c =
     fold-roll-Node Span span_step _
-    ∙ entity_kept c.args.left c.args.digest (boundaries_of c.args.opened.now) c.args.delimiter c.args.text.now c.skip_fields-behind_fields.result.now c.skip_separator-body.result.now c.in_ok-shape.rest.now (form_of c.in_ok-shape.shape) (spans_with (map node_span c.in_ok-shape.parts.items) no_spans)
-    c.skip_fields-behind_fields.ensures.fields c.skip_fields-behind_fields.ensures.rest c.skip_separator-body.ensures.separator c.skip_separator-body.ensures.body c.in_ok-shape.ensures.body c.in_ok-shape.ensures.rest
+    ∙ entity_kept c.args.left c.args.digest (boundaries_of c.args.opened.now) c.args.delimiter c.args.text.now c.skip_fields-after_fields.result.now c.skip_separator-body.result.now c.in_ok-shape.rest.now (form_of c.in_ok-shape.shape) (spans_with (map node_span c.in_ok-shape.parts.items) no_spans)
+    c.skip_fields-after_fields.ensures.fields c.skip_fields-after_fields.ensures.rest c.skip_separator-body.ensures.separator c.skip_separator-body.ensures.body c.in_ok-shape.ensures.body c.in_ok-shape.ensures.rest
 
 pub read_entity-returns-clause-rest : goal.read_entity-returns-clause-rest
 read_entity-returns-clause-rest t c =
-    entity_rest (boundaries_of c.args.opened.now) c.args.text.now c.skip_fields-behind_fields.result.now c.skip_separator-body.result.now c.in_ok-shape.rest.now c.skip_fields-behind_fields.ensures.rest c.skip_separator-body.ensures.body c.in_ok-shape.ensures.rest
+    entity_rest (boundaries_of c.args.opened.now) c.args.text.now c.skip_fields-after_fields.result.now c.skip_separator-body.result.now c.in_ok-shape.rest.now c.skip_fields-after_fields.ensures.rest c.skip_separator-body.ensures.body c.in_ok-shape.ensures.rest
 
 pub read_parts-each-init : goal.read_parts-each-init
 read_parts-each-init t c = record {

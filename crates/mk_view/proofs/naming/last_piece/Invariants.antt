@@ -1,9 +1,9 @@
 use Rattle.std.proofs.Common.{◌≡◌, length}
-use Rattle.mk_view.specs.FileNames.{behind_last}
+use Rattle.mk_view.specs.FileNames.{after_last}
 use Rattle.mk_view.proofs.naming.last_piece.Given as goal
 
 abbrev pub invariant-each : goal.invariant-each
-invariant-each l = behind_last l.piece l.rest ≡ behind_last l.raw l.raw
+invariant-each l = after_last l.piece l.rest ≡ after_last l.raw l.raw
 
 abbrev pub decreases-each : goal.decreases-each
 decreases-each l = length l.rest
