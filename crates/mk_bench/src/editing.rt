@@ -17,7 +17,7 @@ const EDITS: usize = 3;
 /// The small messages.
 const SMALL: usize = 3;
 
-// So many fields put into a message, taken out and set again.
+// This many fields put into a message, taken out and set again.
 fn field_script(alloc: Global, random: &mut Random, count: usize) -> Result<Vec<u8>, AllocError> {
     let mut script = Vec::new(alloc);
     for _ in 0..count {

@@ -16,7 +16,7 @@ const TEXT_WIDTH: usize = 68;
 /// What lines are of.
 #[derive(Clone, Copy, Debug)]
 pub enum Lines {
-    /// Base64, so many letters each.
+    /// Base64, this many letters each.
     Base64(usize),
     /// Base64 with blank lines and stray bytes.
     StrayBase64,
@@ -34,7 +34,7 @@ pub enum Lines {
     Binary,
 }
 
-/// Appends a word of lower-case letters, at most so many.
+/// Appends a word of lower-case letters, at most this many.
 pub fn push_word(random: &mut Random, text: &mut Vec<u8>, most: usize) -> Result<(), AllocError>
     requires { 0 < most }
 {
@@ -44,7 +44,7 @@ pub fn push_word(random: &mut Random, text: &mut Vec<u8>, most: usize) -> Result
     Ok(())
 }
 
-/// Appends words and blanks, about so many bytes.
+/// Appends words and blanks, about this many bytes.
 pub fn push_words(random: &mut Random, text: &mut Vec<u8>, width: usize) -> Result<(), AllocError> {
     for _ in 0..width / 6 {
         push_word(random, text, 9)?;
@@ -162,7 +162,7 @@ pub fn push_line(
     text.extend_from_slice(eol)
 }
 
-/// Whole lines, of at least so many bytes unless the lines are short.
+/// Whole lines, of at least this many bytes unless the lines are short.
 pub fn lines_of(
     alloc: Global,
     random: &mut Random,

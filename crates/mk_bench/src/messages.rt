@@ -41,7 +41,7 @@ impl Supply {
         Supply::of_width(alloc, random, eol, 76)
     }
 
-    /// The same with lines of base64 of so many letters.
+    /// The same with lines of base64 of this many letters.
     pub fn of_width(
         alloc: Global,
         random: &mut Random,
@@ -114,7 +114,7 @@ impl Supply {
         self.push_line(text, b"--")
     }
 
-    /// Appends a part with a body of about so many bytes.
+    /// Appends a part with a body of about this many bytes.
     pub fn push_part(
         &self,
         random: &mut Random,
@@ -166,7 +166,7 @@ impl Supply {
         self.push_line(text, b"\"")
     }
 
-    /// Appends a multipart of these parts in turn, so many, each of about so many bytes.
+    /// Appends a multipart of these parts in turn, this many, each of about this many bytes.
     pub fn push_parts(
         &self,
         random: &mut Random,
@@ -188,7 +188,7 @@ impl Supply {
         self.push_close(text, &boundary)
     }
 
-    /// A message of these parts in turn, so many, each of about so many bytes.
+    /// A message of these parts in turn, this many, each of about this many bytes.
     pub fn message(
         &self,
         random: &mut Random,
@@ -202,7 +202,7 @@ impl Supply {
         Ok(text)
     }
 
-    /// A message of one text of about so many bytes.
+    /// A message of one text of about this many bytes.
     pub fn letter(&self, random: &mut Random, size: usize) -> Result<Vec<u8>, AllocError> {
         let mut text = Vec::with_capacity(self.alloc, size)?;
         self.push_fields(random, &mut text)?;
@@ -211,7 +211,7 @@ impl Supply {
         Ok(text)
     }
 
-    /// A mailbox of so many messages, most of them a text and the others of three parts.
+    /// A mailbox of this many messages, most of them a text and the others of three parts.
     pub fn mailbox(&self, random: &mut Random, count: usize) -> Result<Vec<u8>, AllocError> {
         let mut text = Vec::new(self.alloc);
         for _ in 0..count {

@@ -21,7 +21,7 @@ const ENDINGS: [(&[u8], [&str; 3]); 2] = [
     (b"\r\n", ["binary-crlf", "text-crlf", "small-crlf"]),
 ];
 
-/// Appends a file of about so many bytes.
+/// Appends a file of about this many bytes.
 pub fn push_file(
     alloc: Global,
     random: &mut Random,

@@ -41,7 +41,7 @@ impl Pool {
         &self.pieces[random.below(self.pieces.len())]
     }
 
-    /// Appends lines, of about so many bytes.
+    /// Appends lines, of about this many bytes.
     pub fn push(
         &self,
         random: &mut Random,
@@ -56,7 +56,7 @@ impl Pool {
     }
 }
 
-// Whole lines out of a piece, at most so many bytes; it may be none.
+// Whole lines out of a piece, at most this many bytes; it may be none.
 fn some_lines<'a>(piece: &'a [u8], random: &mut Random, size: usize) -> &'a [u8] {
     if size >= piece.len() {
         return piece;

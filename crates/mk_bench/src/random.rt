@@ -35,7 +35,7 @@ impl Random {
         self.next() as usize % limit
     }
 
-    /// Whether the next number is one of the lower so many of a hundred.
+    /// Whether the next number is one of the lower this many of a hundred.
     pub fn is_in(&mut self, percent: usize) -> bool {
         self.below(100) < percent
     }

@@ -16,7 +16,7 @@ use thiserror::Error;
 /// Why something isn't attached.
 #[derive(Clone, Copy, Debug, PartialEq, Eq, Error)]
 pub enum AttachError {
-    /// The media type is none, has more than 100 bytes, or is a multipart or a message.
+    /// The media type is invalid, has more than 100 bytes, or is a multipart or a message.
     #[error("the media type can't be attached")]
     BadType,
     /// The name is empty, has more than 100 bytes, or holds a byte that a quoted string can't hold as it is.

@@ -29,7 +29,7 @@ const VERSION: &[u8; 12] = b"MIME-Version";
 #[derive(Clone, Copy, Debug, PartialEq, Eq, Error)]
 pub enum BuildError {
     /// A field isn't exactly one, or is one that is made.
-    #[error("field {index} can't stand in front")]
+    #[error("field {index} can't go into the header")]
     BadField { index: usize },
     /// As for `attach`.
     #[error("the media type of part {index} can't be attached")]
@@ -38,13 +38,13 @@ pub enum BuildError {
     #[error("the name of part {index} can't be written")]
     BadName { index: usize },
     /// The subtype isn't a token (RFC 2045, 5.1).
-    #[error("the subtype is none")]
+    #[error("the subtype is invalid")]
     BadSubtype,
     /// The charset isn't a token (RFC 2045, 5.1).
-    #[error("the charset is none")]
+    #[error("the charset is invalid")]
     BadCharset,
     /// The boundary isn't one (RFC 2046, 5.1.1).
-    #[error("the boundary is none")]
+    #[error("the boundary is invalid")]
     BadBoundary,
     /// A line of a forwarded message begins with two hyphens and the boundary.
     #[error("forwarded message {index} holds the boundary")]

@@ -7,7 +7,7 @@ use base64::DecodeAllocError;
 use base64::engine::general_purpose::STANDARD_NO_PAD;
 use std::alloc::{AllocError, Global};
 
-/// What decodes of base64 that isn't whole: the content of the longest front of the letters before the first `=` that is
+/// What decodes of base64 that isn't whole: the content of the longest prefix of the letters before the first `=` that is
 /// whole base64. At most the last three letters are left out. Own.
 pub fn decode_front(alloc: Global, text: &[u8]) -> Result<Vec<u8>, AllocError>
     ensures { IfOk result (λ bytes. IsLongestFront text.now bytes.items) }

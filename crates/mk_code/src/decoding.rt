@@ -12,9 +12,9 @@ use thiserror::Error;
 #[derive(Clone, Copy, Debug, PartialEq, Eq, Error)]
 pub enum CodeError {
     /// The letters are no encoding of any bytes.
-    #[error("the text is no base64")]
+    #[error("the text is not valid base64")]
     BadBase64,
-    /// The encoding is none that can be decoded.
+    /// The encoding is unknown.
     #[error("the transfer encoding is unknown")]
     UnknownEncoding,
     /// Memory ran out.

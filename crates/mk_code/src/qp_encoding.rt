@@ -25,7 +25,7 @@ const WIDEST: usize = 76;
 const ESCAPE_WIDTH: usize = 3;
 
 /// Quoted-printable, with the ending wherever the bytes have it and nothing after the last line. `-`, `.`
-/// and `F` are escaped at the front of a line, so that no line is a delimiter, ends a message in SMTP or is
+/// and `F` are escaped at the start of a line, so that no line is a delimiter, ends a message in SMTP or is
 /// a From-line.
 pub fn qp_encode(alloc: Global, bytes: &[u8], eol: Ending) -> Result<Vec<u8>, AllocError>
     requires { eol ≢ Ending.Missing }

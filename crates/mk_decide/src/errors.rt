@@ -42,7 +42,7 @@ pub enum EditError {
     /// In the edited message a line without an ending would stand before another line.
     #[error("a line without an ending would not be the last")]
     OpenLine,
-    /// A line would be a delimiter or close line of the enclosing multipart with so many numbers in its path.
+    /// A line would be a delimiter or close line of the enclosing multipart with this many numbers in its path.
     #[error("a line would be a delimiter of an enclosing multipart")]
     HoldsBoundary { level: usize },
     /// The edited message would not be read as the edited one.
@@ -54,7 +54,7 @@ pub enum EditError {
     /// Nothing is undone.
     #[error("nothing to redo")]
     NothingToRedo,
-    /// There is no memory; nothing has changed.
+    /// Memory ran out; nothing has changed.
     #[error("out of memory")]
     Memory,
 }

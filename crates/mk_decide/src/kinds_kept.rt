@@ -10,7 +10,7 @@ use mk_line::Meter;
 use mk_tree::{Described, Kind, LEVELS, Section, describe};
 use std::alloc::{AllocError, Global};
 
-/// Whether a section, so many numbers its path has, stays of its kind under the fields of a head, and so do the parts
+/// Whether a section, with this many numbers in its path, stays of its kind under the fields of a head, and so do the parts
 /// directly below it where they change their default. At the last level all are leaves.
 pub(crate) fn keeps_kinds(
     alloc: Global,

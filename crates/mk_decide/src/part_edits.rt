@@ -75,7 +75,7 @@ fn remove_from(
     }
 }
 
-// Where the parts after so many begin, in bytes, where there are so many.
+// Where the parts after this many begin, in bytes, where there are that many.
 fn gap(section: &Section<'_>, place: u32) -> Option<usize>
     ensures { result ≡ gap_at place section.now }
 {

@@ -196,7 +196,7 @@ fn fits_below(
     keeps_wrapped(alloc, level + 1, section, head, digest)
 }
 
-// Whether no multipart and no message stands where no level is left below, where so many may stand below the section.
+// Whether no multipart or message is so deep that no level is left below it, with this many levels left below the section.
 fn fits_levels(section: &Section<'_>, left: usize) -> bool
     ensures { result ≡ fit_in_levels left section.now.entity }
 {

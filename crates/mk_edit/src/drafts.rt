@@ -17,7 +17,7 @@ use mk_splice::Splice;
 use mk_tree::Doc;
 use std::alloc::{AllocError, Global};
 
-/// For so many edits in a row that don't ask for the tree it is worth reading the document again after them.
+/// For this many edits in a row that don't ask for the tree it is worth reading the document again after them.
 const LONG_RUN: usize = 16;
 
 /// A document that edits are made in.

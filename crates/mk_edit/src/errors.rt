@@ -16,7 +16,7 @@ pub enum GroupError {
     /// number 0.
     #[error("edit {index} of the group: {refusal}")]
     Member { index: usize, refusal: EditError },
-    /// There is no memory; nothing has changed.
+    /// Memory ran out; nothing has changed.
     #[error("out of memory")]
     Memory,
 }
@@ -50,7 +50,7 @@ pub enum LoadError {
     /// and then of the others. The oldest step has number 1.
     #[error("step {entry} of the journal doesn't fit the text")]
     JournalMismatch { entry: usize },
-    /// There is no memory.
+    /// Memory ran out.
     #[error("out of memory")]
     Memory,
 }

@@ -9,7 +9,7 @@ use mk_splice::{replace, replace_within};
 use std::alloc::AllocError;
 use std::marker::Model;
 
-// A text that takes less than half of its memory, by more than so many bytes, gives the rest back.
+// A text that takes less than half of its memory, by more than this many bytes, gives the rest back.
 const LARGE: usize = 65_536;
 
 /// A text with a gap.

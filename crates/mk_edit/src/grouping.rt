@@ -44,7 +44,7 @@ pub(crate) fn together(
     Ok((draft.read(alloc)?, splices))
 }
 
-/// Why a group is refused of which this edit is.
+/// Why a group with this edit is refused.
 pub(crate) fn refused(index: usize, refusal: EditError) -> GroupError
     ensures { (r : Result History Refusal) → ((reason : Refusal) → refusal_of refusal ≡ Some reason → r ≡ Err (Member index reason)) → IsGroupRefusedBy result r }
 {

@@ -31,7 +31,7 @@ pub(crate) fn mark_names(marks: &mut [bool], text: &[u8])
     }
 }
 
-// Which of so many marks is that of a name.
+// Which of this many marks is that of a name.
 fn mark_of(count: usize, name: &[u8]) -> usize
     requires { 0 < count }
     ensures mark { result ≡ place_of count name.now }

@@ -17,13 +17,13 @@ use mk_decide::{EditError, Put, put_of};
 use mk_head::each_field;
 use std::alloc::Global;
 
-/// A table has one mark for so many bytes of fields, and some more.
+/// A table has one mark for this many bytes of fields, and some more.
 const BYTES_PER_MARK: usize = 4;
 
-/// So many marks has a table at least.
+/// A table has at least this many marks.
 const LEAST_MARKS: usize = 1024;
 
-/// So many it has at most, so that it takes little beside a long header.
+/// A table has at most this many, so that it stays small beside a long header.
 const MOST_MARKS: usize = 262_144;
 
 /// Fields at the start, of which some have a name.
@@ -107,7 +107,7 @@ pub(crate) fn learned(alloc: Global, known: Known, fields: &[u8], size: usize) -
     }
 }
 
-// The table that is there, or one for the fields in so many bytes. `None` without memory for it.
+// The table that is there, or one for the fields in this many bytes. `None` without memory for it.
 fn table(alloc: Global, marks: Option<Vec<bool>>, size: usize) -> Option<Vec<bool>>
     requires { HasMarks marks }
     ensures some { HasMarks result }

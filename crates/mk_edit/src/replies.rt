@@ -19,7 +19,7 @@ pub enum Reply {
     MemberRefused { index: usize, refusal: EditError },
 }
 
-/// The reply to a command that was answered so. Want of memory is no reply.
+/// The reply to a command, by what was answered. Running out of memory is not a reply.
 pub(crate) fn replied(answer: Result<(), EditError>) -> Result<Reply, AllocError>
     ensures { (defined : Result History Refusal) (old new : History) → Does answer defined old new → Replies result defined old new }
 {

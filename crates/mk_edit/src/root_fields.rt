@@ -22,14 +22,14 @@ use std::alloc::{AllocError, Global};
 use std::marker::Model;
 use std::mem;
 
-/// The names of fields are learned once the fields were gone through in vain so many times: it takes longer than going through
-/// them.
+/// The names of fields are learned after this many passes over the fields in vain, since learning them takes longer than a
+/// pass.
 const TIMES_IN_VAIN: usize = 4;
 
 /// A text whose root has a separator after its fields.
 #[derive(Drop)]
 pub(crate) struct RootFields {
-    /// With its gap between two fields, or at the front.
+    /// With its gap between two fields, or at the start.
     text: GapText,
     /// Where the fields begin, in bytes from 0.
     start: usize,

@@ -54,7 +54,7 @@ impl Model for Session {
 }
 
 impl Session {
-    /// Begins with a text, which is read in one pass. Where there is no memory, the text comes back.
+    /// Begins with a text, which is read in one pass. If memory runs out, the text comes back.
     pub fn start(alloc: Global, text: Vec<u8>) -> Result<Session, (Vec<u8>, AllocError)>
         ensures ok { IfOk result (λ s. s ≡ started text.items) }
         ensures back { IfErr result (λ e. e.0.items ≡ text.items) }
@@ -143,8 +143,8 @@ impl Session {
         Ok(())
     }
 
-    /// Obeys commands, one after another, and replies to each. Want of memory ends the call; then a front of the commands
-    /// was obeyed.
+    /// Obeys commands, one after another, and replies to each. Running out of memory ends the call, after the commands
+    /// before that were obeyed.
     pub fn obey_all(
         &mut self,
         alloc: Global,
@@ -250,7 +250,7 @@ impl Session {
         Ok(())
     }
 
-    // Makes an edit that was accepted, as a step. Where there is no memory, nothing changes.
+    // Makes an edit that was accepted, as a step. If memory runs out, nothing changes.
     fn put(&mut self, edit: &Edit, made: Replacement) -> Result<(), AllocError>
         requires { IsDecided (edit_of edit.now) (text_now self.old) (plain_splice made) }
         ensures ok { OnOk result (step (Do (edit_of edit.now)) self.old ≡ Ok self.new) }

@@ -17,7 +17,7 @@ use mk_splice::{Splice, copied};
 use mk_tree::{Change, Doc};
 use std::alloc::{AllocError, Global};
 
-/// Makes an edit that was accepted: `text` comes in the place of `count` bytes at `place`. Where there is no memory,
+/// Makes an edit that was accepted: `text` comes in the place of `count` bytes at `place`. If memory runs out,
 /// nothing changes.
 pub(crate) fn change(
     doc: &mut Doc,
@@ -81,7 +81,7 @@ pub(crate) fn put_step(steps: &mut Vec<Vec<Splice>>, done: usize, step: Vec<Spli
     steps.push_reserved(step);
 }
 
-/// A document read anew.
+/// A document, read again.
 pub(crate) fn read_anew(alloc: Global, doc: &Doc) -> Result<Doc, AllocError>
     ensures { IfOk result (λ d. d ≡ doc.now) }
 {

@@ -32,7 +32,7 @@ use std::test::Fail;
 /// Why a table can't be read.
 #[derive(Clone, Copy, Debug)]
 pub enum TableError {
-    /// There is no memory.
+    /// Memory ran out.
     Memory,
     /// A row doesn't have a cell that it needs, or has one that it may not have.
     Cell {

@@ -55,7 +55,7 @@ fn append_to(
     Ok(edits)
 }
 
-// Puts a line ending after the last of so many parts, if no line follows it.
+// Puts a line ending after the last of this many parts, if no line follows it.
 fn divide_last(
     alloc: Global,
     section: &Section<'_>,

@@ -13,7 +13,7 @@ pub enum WordError {
     #[error("the transfer encoding is unknown")]
     UnknownEncoding,
     /// The content of the leaf is said to be base64, but its letters don't encode any bytes.
-    #[error("the content is no base64")]
+    #[error("the content is not valid base64")]
     BadBase64,
     /// The media type can't be attached.
     #[error("the media type can't be attached")]
@@ -22,10 +22,10 @@ pub enum WordError {
     #[error("the name can't be written")]
     BadName,
     /// The charset can't be named, or the bytes aren't text in it (RFC 2046, 4.1.2).
-    #[error("the content is no text in its charset")]
+    #[error("the content is not text in its charset")]
     BadCharset,
     /// The content has to be encoded: it holds a NUL, or a line of more than 998 bytes (RFC 2045, 2.8).
-    #[error("the content can't stand unencoded")]
+    #[error("the content can't go unencoded")]
     BinaryContent,
     /// Memory ran out.
     #[error("out of memory")]

@@ -12,7 +12,7 @@ use std::simd::prelude::*;
 /// How many places are tested at once.
 const LANES: usize = 32;
 
-/// Once in so many bytes the next line feed is looked for by `memchr`. It takes longer to begin, and then passes the rest of a
+/// Once in this many bytes the next line feed is looked for by `memchr`. It takes longer to begin, and then passes the rest of a
 /// long line several times as fast.
 const NEAR: usize = 4096;
 

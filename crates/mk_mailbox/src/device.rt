@@ -34,7 +34,7 @@ pub trait Source {
 
     ghost read_count: { Self → ℕ };
 
-    /// Reads bytes into the front of the piece and answers how many. An answer of 0 for a piece
+    /// Reads bytes into the start of the piece and answers how many. An answer of 0 for a piece
     /// that has room is the end of the input.
     fn read(&mut self, piece: &mut [u8]) -> Result<usize, Fault>
         ensures bytes { ReadConsumes (remaining self.old) (remaining self.new) result piece.new }
@@ -64,7 +64,7 @@ pub trait Sink {
     /// Whether the device was finished, so that all it holds stands.
     ghost finished: { Self → Bool };
 
-    /// Takes bytes from the front of the piece and answers how many.
+    /// Takes bytes from the start of the piece and answers how many.
     fn write(&mut self, piece: &[u8]) -> Result<usize, Fault>
         ensures bytes { WriteAppends (contents self.old) (contents self.new) result piece.now }
         ensures bound { IfOk result (λ n. n ≤ length piece.now) }

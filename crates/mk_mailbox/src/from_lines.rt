@@ -47,7 +47,7 @@ impl FromLines {
         self.begin_with(content) && (!self.needs_field() || starts_field(text))
     }
 
-    /// Whether a message of a mailbox is no mail but the empty lines before the first From-line, which filters leave as they
+    /// Whether a message of a mailbox isn't mail but the empty lines before the first From-line, which filters leave as they
     /// are. Where each From-line counts there is no such message.
     pub fn leaves_alone(self, message: &[u8]) -> bool
         ensures { result ≡ is_left_alone self message.now }

@@ -15,7 +15,7 @@ const LINE_FEED: u8 = b'\n';
 
 const CARRIAGE_RETURN: &[u8; 1] = b"\r";
 
-/// The lines of a message so far. After a place stand lines of which it isn't known yet whether they begin the next message:
+/// The lines of a message so far. The lines after a place may still turn out to begin the next message:
 /// a From-line that waits for a field, if there is one, and then at most one line.
 #[derive(Drop)]
 pub(crate) struct Gathered {
@@ -256,7 +256,7 @@ fn before_return(bytes: &[u8]) -> Option<&[u8]>
     bytes.strip_suffix(CARRIAGE_RETURN)
 }
 
-// Whether a line begins a message, by whether the line before it is empty, if what follows it lets it.
+// Whether a line begins a message, by whether the line before it is empty, if what follows allows that.
 fn begins_message(from_lines: FromLines, after_empty: bool, content: &[u8]) -> bool
     ensures { result ≡ may_begin from_lines after_empty content.now }
 {

@@ -138,7 +138,7 @@ impl Intake {
         self.gathered.last()
     }
 
-    // Fills the chunk anew.
+    // Refills the chunk.
     fn read<S: Source>(&mut self, r: &mut S) -> Result<(), MailFault>
         requires intake { IsIntake self.old }
         requires taken { self.old.at ≡ self.old.filled }

@@ -28,7 +28,7 @@ pub fn text_of(
     said(alloc, &values, params.len(), name)
 }
 
-// The same, where the values are known, and of segments at most so many.
+// The same, where the values are known, and of segments at most this many.
 fn said(
     alloc: Global,
     values: &Values<'_>,

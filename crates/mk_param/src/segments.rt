@@ -54,7 +54,7 @@ pub(crate) fn value_of<'a>(values: &Values<'a>, name: &[u8]) -> Option<&'a [u8]>
     values.get(name).copied()
 }
 
-/// The segments of a name in the order of their numbers, up to the first that is missing, and at most so many.
+/// The segments of a name in the order of their numbers, up to the first that is missing, and at most this many.
 pub(crate) fn segments<'a>(
     alloc: Global,
     values: &Values<'a>,

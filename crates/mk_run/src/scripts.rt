@@ -21,7 +21,7 @@ impl Script<'_> {
     ghost use Rattle.mk_script.specs.ScriptViews.{step_by, Explains};
     ghost use Rattle.mk_run.specs.Scripts.{steps_asked};
 
-    /// Its steps, if it is given so many pieces.
+    /// Its steps, if it is given this many pieces.
     pub(crate) fn steps(&self, alloc: Global, pieces: usize) -> Result<Vec<Step>, ScriptError>
         ensures read { IfOk result (λ all. steps_asked self.now.as_one pieces self.now.text.now ≡ Ok (map step_by all.items)) }
         ensures refused { IfErr result (λ e. Explains e (steps_asked self.now.as_one pieces self.now.text.now)) }

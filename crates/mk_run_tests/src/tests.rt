@@ -298,7 +298,7 @@ fn the_first_fault_is_named(rt: HostRuntime) -> Result<(), Fail> {
     check_scripts(&rt, rt.alloc(), SCRIPTS)
 }
 
-/// Each line of a table is a step or has a fault, as its key says, where there are so many pieces.
+/// Each line of a table is a step or has a fault, as its key says, where there are that many pieces.
 fn check_lines(
     rt: &impl Abort,
     alloc: Global,

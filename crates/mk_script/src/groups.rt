@@ -42,7 +42,7 @@ impl<T: Drop> From<AllocFailed<T>> for ScriptError {
     }
 }
 
-/// Reads the steps of a script that is given so many pieces.
+/// Reads the steps of a script that is given this many pieces.
 pub fn steps(alloc: Global, script: &[u8], pieces: usize) -> Result<Vec<Step>, ScriptError>
     ensures read { IfOk result (λ all. script_of pieces script.now ≡ Ok (map step_by all.items)) }
     ensures refused { IfErr result (λ e. Explains e (script_of pieces script.now)) }
@@ -126,7 +126,7 @@ fn grouped(alloc: Global, lines: Vec<NumberedLine>) -> Result<Vec<Step>, AllocEr
     Ok(all)
 }
 
-/// Reads a script that is given so many pieces as one group of edits. A line that is no edit is a fault: there, nothing is
+/// Reads a script that is given this many pieces as one group of edits. A line that is no edit is a fault: there, nothing is
 /// undone or made again, and no group begins.
 pub fn steps_as_one(alloc: Global, script: &[u8], pieces: usize) -> Result<Vec<Step>, ScriptError>
     ensures read { IfOk result (λ all. script_as_one pieces script.now ≡ Ok (map step_by all.items)) }

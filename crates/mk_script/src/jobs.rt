@@ -14,7 +14,7 @@ use std::alloc::{AllocError, Global};
 /// The option of `content` that names a charset.
 const CHARSET: &[u8] = b"--charset";
 
-/// The word of a name that stands for a list of edits, where the script is given so many pieces.
+/// The word of a name that stands for a list of edits, where the script is given this many pieces.
 pub(crate) fn read_job(
     alloc: Global,
     name: &[u8],

@@ -13,7 +13,7 @@ use crate::script::Word;
 use crate::targets::{SPACE, is_name};
 use std::alloc::{AllocError, Global};
 
-/// The word of a name that changes more than fields, where the script is given so many pieces.
+/// The word of a name that changes more than fields, where the script is given this many pieces.
 pub fn read_on(
     alloc: Global,
     name: &[u8],
@@ -40,7 +40,7 @@ pub fn read_on(
     read_job(alloc, name, rest, pieces)
 }
 
-/// The number of a piece, from 1 on, where there are so many.
+/// The number of a piece, from 1 on, where there are that many.
 pub(crate) fn piece(text: &[u8], pieces: usize) -> Option<u32>
     ensures { result ≡ piece_of pieces text.now }
 {

@@ -48,7 +48,7 @@ pub enum LineFault {
     BadPath,
     /// A number isn't written in digits, begins with 0, or has more than 32 bits.
     BadNumber,
-    /// So many pieces aren't given.
+    /// There aren't this many pieces.
     NoSuchPiece,
     /// The transfer encoding isn't `qp`, `quoted-printable`, `base64`, `8bit` or `identity`.
     BadEncoding,
@@ -72,7 +72,7 @@ pub struct InvalidLine {
     pub fault: LineFault,
 }
 
-/// The first invalid line of a script that is given so many pieces: the one that `steps`, or with `as_one` `steps_as_one`,
+/// The first invalid line of a script that is given this many pieces: the one that `steps`, or with `as_one` `steps_as_one`,
 /// refuses it for.
 pub fn first_invalid(
     alloc: Global,
@@ -282,7 +282,7 @@ fn takes_piece(name: &[u8]) -> bool
         || name == b"append-text".as_slice()
 }
 
-// What is wrong with arguments: where all but the last are well, it is the last.
+// What is wrong with arguments: where all but the last are right, it is the last.
 fn arguments_fault(
     alloc: Global,
     arguments: &[Argument],

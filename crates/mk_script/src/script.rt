@@ -61,7 +61,7 @@ pub enum Word {
         path: Vec<u32>,
         piece: u32,
     },
-    /// `insert PATH PLACE PIECE`. So many parts stand before the new one.
+    /// `insert PATH PLACE PIECE`. This many parts stand before the new one.
     Insert {
         path: Vec<u32>,
         place: u32,
@@ -159,7 +159,7 @@ pub struct NumberedWord {
     pub word: Word,
 }
 
-/// Reads the lines of a script that is given so many pieces. Empty lines, and those that begin with `#`, are skipped,
+/// Reads the lines of a script that is given this many pieces. Empty lines, and those that begin with `#`, are skipped,
 /// but count in line numbers.
 pub fn lines(alloc: Global, script: &[u8], pieces: usize) -> Result<Vec<NumberedLine>, AllocError>
     ensures { IfOk result (λ all. map line_in all.items ≡ lines_of pieces script.now) }

@@ -59,7 +59,7 @@ pub fn whole_target(alloc: Global, text: &[u8]) -> Result<Option<Target>, AllocE
     picked(alloc, place, name, number)
 }
 
-/// The field that the front of a text picks, and what follows it.
+/// The field that the start of a text picks, and what follows it.
 pub fn target_front(alloc: Global, text: &[u8]) -> Result<Option<(Target, &[u8])>, AllocError>
     ensures { IfOk result (λ front. option_map (λ p. (picked_by p.0, p.1.now)) front ≡ front_of text.now) }
 {

@@ -350,7 +350,7 @@ fn put_free<F: Folder>(
     Ok(None)
 }
 
-// The name that is tried after so many others.
+// The name that is tried after this many others.
 fn tried(alloc: Global, name: &[u8], number: u64) -> Result<Vec<u8>, AllocError>
     ensures written { IfOk result (λ target. target.items ≡ name_tried name.now number) }
     ensures safe { IfOk result (λ target. is_safe name.now ≡ true → is_safe target.items ≡ true) }

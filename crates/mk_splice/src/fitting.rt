@@ -17,7 +17,7 @@ pub enum FitError {
     /// the first, and then of the others. The first step has number 1.
     #[error("step {step} doesn't fit the text")]
     Misfit { step: usize },
-    /// There is no memory.
+    /// Memory ran out.
     #[error("out of memory")]
     Memory,
 }
@@ -30,7 +30,7 @@ impl From<AllocError> for FitError {
     }
 }
 
-/// Whether steps fit a text, of which so many are done: these can be taken back from it, and the others made.
+/// Whether steps fit a text, of which this many are done: these can be taken back from it, and the others made.
 pub fn fit(alloc: Global, text: &[u8], steps: &[Vec<Splice>], done: usize) -> Result<(), FitError>
     requires { done ≤ length steps.now }
     ensures ok { OnOk result (misfit text.now (steps_of steps.now) done ≡ None) }

@@ -25,10 +25,10 @@ pub struct Journal {
 /// Why a file isn't read as a journal.
 #[derive(Clone, Copy, Debug, PartialEq, Eq, Error)]
 pub enum JournalError {
-    /// It isn't one: so long is its longest front with which some journal begins.
-    #[error("no journal goes on from offset {offset}")]
+    /// It isn't one. This is the length of its longest prefix that some journal begins with.
+    #[error("the journal is invalid at offset {offset}")]
     Syntax { offset: usize },
-    /// There is no memory.
+    /// Memory ran out.
     #[error("out of memory")]
     Memory,
 }

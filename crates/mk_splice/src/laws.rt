@@ -9,8 +9,8 @@ pub fn fits_are_told()
     ensures { FitsAreTold }
 {}
 
-/// A file is read as a journal exactly where the journal spells it; else the offset is the length of its longest front
-/// with which some journal begins.
+/// A file is read as a journal exactly where the journal spells it; else the offset is the length of its longest prefix
+/// that some journal begins with.
 pub fn journals_are_spelled()
     ensures found { FoundIsSpelled }
     ensures only { SpelledIsFound }

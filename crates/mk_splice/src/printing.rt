@@ -9,7 +9,7 @@ use crate::splicing::Splice;
 use itoa::Buffer;
 use std::alloc::{AllocError, Global};
 
-/// The journal of a text and of steps that fit it, of which so many are done. It is printed in version 2.
+/// The journal of a text and of steps that fit it, of which this many are done. It is printed in version 2.
 pub fn print(
     alloc: Global,
     text: &[u8],

@@ -23,7 +23,7 @@ pub enum Version {
 pub enum Stop {
     /// No journal goes on with the bytes that are left.
     At { left: usize },
-    /// There is no memory.
+    /// Memory ran out.
     Memory,
 }
 
@@ -128,7 +128,7 @@ pub fn read_digest(version: Version, bytes: &[u8]) -> Result<(Option<[u8; 64]>, 
     }
 }
 
-// At most so many digits, and a byte after them.
+// At most this many digits, and a byte after them.
 fn read_digits(bytes: &[u8], value: usize, left: u8, end: u8) -> Result<(usize, &[u8]), Stop>
     ensures { (v : ℕ) → value ≡ saturated v → Gives (λ ds n. n ≡ saturated (value_from v ds)) result (digits_read left end bytes.now) }
 {
@@ -166,7 +166,7 @@ pub fn read_number(bytes: &[u8], end: u8) -> Result<(usize, &[u8]), Stop>
     }
 }
 
-// So many bytes.
+// This many bytes.
 fn read_run(alloc: Global, bytes: &[u8], count: usize) -> Result<(Vec<u8>, &[u8]), Stop>
     ensures { (n : ℕ) → count ≡ saturated n → Gives (λ xs v. v.items ≡ xs) result (run_read n bytes.now) }
 {
@@ -190,7 +190,7 @@ fn read_entry(alloc: Global, bytes: &[u8]) -> Result<(Splice, &[u8]), Stop>
     Ok((Splice { place, old, new }, rest))
 }
 
-// So many entries.
+// This many entries.
 fn read_entries(alloc: Global, bytes: &[u8], count: usize) -> Result<(Vec<Splice>, &[u8]), Stop>
     ensures { (n : ℕ) → count ≡ saturated n → Gives (λ es v. map splice_of v.items ≡ map splice_meant es) result (read_times n entry_read bytes.now) }
 {
@@ -222,7 +222,7 @@ fn read_step(alloc: Global, version: Version, bytes: &[u8]) -> Result<(Vec<Splic
     read_entries(alloc, rest, count)
 }
 
-// So many steps.
+// This many steps.
 pub fn read_steps(
     alloc: Global,
     version: Version,

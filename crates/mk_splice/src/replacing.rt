@@ -4,7 +4,7 @@ ghost use Rattle.mk_splice.specs.Splices.{spliced};
 
 use std::alloc::AllocError;
 
-/// Puts `text` in the place of `count` bytes at `place`. Where there is no memory, nothing changes.
+/// Puts `text` in the place of `count` bytes at `place`. If memory runs out, nothing changes.
 pub fn replace(
     items: &mut Vec<u8>,
     place: usize,

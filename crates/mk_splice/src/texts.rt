@@ -70,7 +70,7 @@ impl Text {
         *self.items.allocator()
     }
 
-    /// Makes room to put `size` bytes in the place of `count` bytes at `place`, and to do the like more often. Out of memory,
+    /// Makes room to put `size` bytes in the place of `count` bytes at `place`, and to do so again and again. Out of memory,
     /// nothing changes. Room is given back where the text takes less than half of it then, by more than 64 KB.
     pub fn reserve(&mut self, place: usize, count: usize, size: usize) -> Result<(), AllocError>
         requires { place + count ≤ length self.old.bytes }

@@ -13,9 +13,9 @@ pub(crate) enum Own {
     Fields(bool),
     /// It is another, which stands after the same delimiter.
     Entity(Node),
-    /// It has a part more, after so many.
+    /// It has one more part, after this many.
     Part(usize, Node),
-    /// It doesn't have the part after so many.
+    /// It lacks the part after this many.
     NoPart(usize),
 }
 

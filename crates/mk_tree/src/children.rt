@@ -14,7 +14,7 @@ pub struct Children<'a> {
     /// Whether lines stand after the last.
     pub(crate) followed: bool,
     pub(crate) digest: bool,
-    /// How many levels may stand below each.
+    /// How many levels there may be below each.
     pub(crate) left: u8,
 }
 

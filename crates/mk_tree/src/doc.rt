@@ -15,7 +15,7 @@ use mk_splice::Text;
 use std::alloc::{AllocError, Global};
 use std::marker::Model;
 
-/// How many levels may stand below the root.
+/// How many levels there may be below the root.
 pub const LEVELS: u8 = 100;
 
 /// A text that was read, and the tree of its sections.
@@ -44,7 +44,7 @@ impl Doc {
     ghost use Rattle.mk_tree.specs.Documents.{tree};
     ghost use Rattle.mk_tree.specs.Sections.{root_of, section_at};
 
-    /// Reads a text, in one pass. Where there is no memory for the tree, the text comes back.
+    /// Reads a text, in one pass. If memory runs out, the text comes back.
     pub fn read(alloc: Global, text: Vec<u8>) -> Result<Doc, (Vec<u8>, AllocError)>
         ensures ok { IfOk result (λ d. d ≡ text.items) }
         ensures err { IfErr result (λ e. e.0.items ≡ text.items) }

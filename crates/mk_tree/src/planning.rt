@@ -23,7 +23,7 @@ pub(crate) enum SectionChange<'a> {
     Body(&'a [u8]),
     /// All its bytes.
     Entity(&'a [u8]),
-    /// A part more, after so many: its delimiter and its bytes.
+    /// One more part, after this many: its delimiter and its bytes.
     Part(u32, &'a [u8]),
     /// The part of a number, counted from 1, goes with its delimiter.
     NoPart(u32),
@@ -55,14 +55,14 @@ pub(crate) struct Plan {
     pub own: Own,
 }
 
-/// How many levels may stand below a section so deep below the root.
+/// How many levels there may be below a section at this depth below the root.
 pub(crate) fn levels_below(depth: usize) -> u8
     ensures { result ≡ levels - depth }
 {
     (LEVELS as usize).saturating_sub(depth) as u8
 }
 
-/// Plans a change of a section below which so many levels may stand. It reads the new bytes, and none of the others but
+/// Plans a change of a section with at most this many levels below it. It reads the new bytes, and none of the others but
 /// those of the section's head.
 pub(crate) fn plan_change(
     alloc: Global,
@@ -165,7 +165,7 @@ fn plan_removal(section: &Section<'_>, number: u32) -> Plan
     }
 }
 
-// Where a multipart's first parts end, so many of them: after its preamble where they are none.
+// Where a multipart's first parts end, this many of them: after its preamble where they are none.
 fn after_parts(section: &Section<'_>, count: u32) -> usize
     ensures { IsBehindParts section.now count result }
 {

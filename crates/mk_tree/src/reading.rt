@@ -1,6 +1,6 @@
-//! Reading entities, in one pass from front to end.
+//! Reading entities, in one pass from start to end.
 //!
-//! Each call reads from the front of a text up to the first line that is a delimiter or close line of an open boundary,
+//! Each call reads from the start of a text up to the first line that is a delimiter or close line of an open boundary,
 //! one of a multipart around it, and answers what stands from that line on.
 ghost use Rattle.std.specs.Prelude.{◌≡◌, ◌≤◌, [], false, length, map, IfOk};
 ghost use Rattle.mk_line.specs.Lines.{cut as lines_of};
@@ -18,7 +18,7 @@ use crate::marking::{
 use crate::node::{Multi, Node, Shape};
 use std::alloc::{AllocError, Global};
 
-/// Reads the entity at the start, after a delimiter of a length, below which so many levels may stand: what is kept of it,
+/// Reads the entity at the start, after a delimiter of this length, with at most this many levels below it: what is kept of it,
 /// and what follows it.
 #[cycle(reading)]
 pub(crate) fn read_entity<'a>(
@@ -94,7 +94,7 @@ fn read_body<'a>(
     }
 }
 
-// Reads a multipart's preamble and its parts, which may have so many levels below them, and answers what stands from the
+// Reads a multipart's preamble and its parts, with at most this many levels below them, and answers what stands from the
 // line on that ends the last part.
 #[cycle(reading)]
 fn read_parts<'a, 'b>(

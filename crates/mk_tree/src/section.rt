@@ -23,7 +23,7 @@ pub struct Section<'a> {
     pub(crate) start: usize,
     pub(crate) followed: bool,
     pub(crate) digest: bool,
-    /// How many levels may stand below it.
+    /// How many levels there may be below it.
     pub(crate) left: u8,
 }
 

@@ -35,7 +35,7 @@ pub enum Change {
     Entity {
         text: Vec<u8>,
     },
-    /// A multipart has a part more, after `place` others: `text` is its delimiter line and the part.
+    /// A multipart has one more part, after `place` others: `text` is its delimiter line and the part.
     Part {
         place: u32,
         text: Vec<u8>,
@@ -78,7 +78,7 @@ impl Doc {
     ghost use Rattle.mk_tree.specs.Planning.{Becomes, Puts};
 
     /// Changes the section at a path, where the document that comes of it is stable: the bytes, and of the tree the
-    /// sections on the path. It reads the new bytes and the head of the section. Where there is no memory nothing changes,
+    /// sections on the path. It reads the new bytes and the head of the section. If memory runs out, nothing changes,
     /// and the change comes back.
     pub fn splice(&mut self, path: &[u32], change: Change) -> Result<(), (Change, AllocError)>
         requires { Changes path.now change (tree self.old) }

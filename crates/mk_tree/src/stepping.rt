@@ -12,7 +12,7 @@ impl Doc {
     ghost use Rattle.mk_splice.specs.Splices.{back_step, forth_step, GoesBack, GoesForth};
     ghost use Rattle.mk_splice.specs.Views.{splice_of};
 
-    /// Takes a step back, its last splice first, and reads the text anew. Out of memory, nothing changes: the
+    /// Takes a step back, its last splice first, and reads the text again. Out of memory, nothing changes: the
     /// bytes are put back in the room that they had.
     pub fn take_back(&mut self, alloc: Global, step: &[Splice]) -> Result<(), AllocError>
         requires { GoesBack (map splice_of step.now) self.old }
@@ -37,7 +37,7 @@ impl Doc {
         }
     }
 
-    /// Makes a step again, its first splice first, and reads the text anew. Out of memory, nothing changes: the
+    /// Makes a step again, its first splice first, and reads the text again. Out of memory, nothing changes: the
     /// bytes are put back in the room that they had.
     pub fn make_again(&mut self, alloc: Global, step: &[Splice]) -> Result<(), AllocError>
         requires { GoesForth (map splice_of step.now) self.old }

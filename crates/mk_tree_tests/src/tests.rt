@@ -44,7 +44,7 @@ fn check_place(rt: &impl Abort, doc: &Doc, place: &Place) {
     assert_eq!(rt; found.parts(), place.parts);
 }
 
-// How many sections a section and those at most so many levels below it are.
+// How many sections a section and those at most this many levels below it are.
 fn count(section: &Section<'_>, levels: u8) -> usize {
     let mut all: usize = 1;
     if levels > 0 {
@@ -124,7 +124,7 @@ fn views_of_a_multipart_and_its_parts(rt: HostRuntime) {
     assert!(rt; inner.find(b"subject", 1).is_some());
 }
 
-// So many multiparts, each the only part of the one before, whose boundaries begin with `b` and a number.
+// This many multiparts, each the only part of the one before, whose boundaries begin with `b` and a number.
 fn nested(alloc: Global, count: u32) -> Result<Vec<u8>, AllocError> {
     let mut text = Vec::new(alloc);
     for level in 1..=count {

@@ -16,7 +16,7 @@ pub enum ExtractError {
     #[error("there is no section at the path")]
     NoSuchSection,
     /// The content of a leaf is said to be base64, and its letters are no encoding of any bytes.
-    #[error("the content is no base64")]
+    #[error("the content is not valid base64")]
     BadBase64,
     /// The content of a leaf has a transfer encoding that can't be decoded.
     #[error("the transfer encoding is unknown")]

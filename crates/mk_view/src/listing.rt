@@ -19,7 +19,7 @@ const LINE_FEED: u8 = b'\n';
 const SPACE: u8 = b' ';
 
 /// Lists the sections of a document, a line each, in the document's order: path, kind, type, transfer encoding, the
-/// offsets in bytes of its front, of its body and of its end, and how many lines its fields and its body have. A section
+/// offsets in bytes of its start, of its body and of its end, and how many lines its fields and its body have. A section
 /// with a number in its path that `u32` can't hold is left out.
 pub fn list(alloc: Global, doc: &Doc) -> Result<Vec<u8>, AllocError>
     ensures { IfOk result (λ lines. lines.items ≡ listing (tree doc.now)) }
@@ -76,7 +76,7 @@ fn push_sections(
     )
 }
 
-// Writes the line of a section whose body has so many lines, and after it those of the sections below.
+// Writes the line of a section whose body has this many lines, and after it those of the sections below.
 fn push_listed(
     alloc: Global,
     lines: &mut Vec<u8>,
@@ -104,7 +104,7 @@ pub(crate) fn path_below(alloc: Global, path: &[u32], number: u32) -> Result<Vec
     Ok(below)
 }
 
-// Writes the line of a section whose body has so many lines.
+// Writes the line of a section whose body has this many lines.
 fn push_line(
     alloc: Global,
     lines: &mut Vec<u8>,

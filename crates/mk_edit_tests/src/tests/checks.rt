@@ -20,7 +20,7 @@ pub fn wanted_in(row: &Row) -> Result<Result<&[u8], EditError>, TableError> {
     }
 }
 
-/// Makes the edits of a table of so many rows, takes them back and makes them again. A row has a message, the path of a
+/// Makes the edits of a table of this many rows, takes them back and makes them again. A row has a message, the path of a
 /// section in it, an edit, and the text that the edit gives or the reason for which it is refused.
 pub fn check_rows(
     rt: &impl Abort,
@@ -98,7 +98,7 @@ pub fn same(rt: &impl Abort, text: &[u8], wanted: &[u8], shows: &str) {
     assert_eq!(rt; text, wanted, "{shows}");
 }
 
-/// So many steps of a session are done and undone.
+/// This many steps of a session are done and undone.
 pub fn check_count(rt: &impl Abort, session: &Session, done: usize, undone: usize, shows: &str) {
     assert_eq!(rt;
         (session.done(), session.undone()),
@@ -127,7 +127,7 @@ fn same_items(rt: &impl Abort, items: &[Item], wanted: &[Item], shows: &str) {
     assert_eq!(rt; items, wanted, "{shows}");
 }
 
-/// A session has a text, the tree that this is read as, and so many steps.
+/// A session has a text, the tree that this is read as, and this many steps.
 pub fn check_state(
     rt: &impl Abort,
     alloc: Global,
@@ -139,7 +139,7 @@ pub fn check_state(
     check_text(rt, alloc, session, state.text, shows)
 }
 
-/// A session has a text and so many steps. Unlike the other checks of a state, this takes no memory.
+/// A session has a text and this many steps. Unlike the other checks of a state, this takes no memory.
 pub fn check_bare(rt: &impl Abort, session: &Session, state: State<'_>, shows: &str) {
     check_count(rt, session, state.done, state.undone, shows);
     same(rt, session.text(), state.text, shows);

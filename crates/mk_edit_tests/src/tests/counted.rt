@@ -97,7 +97,7 @@ fn message(alloc: Global) -> Result<Vec<u8>, AllocError> {
     Ok(text)
 }
 
-// What follows a text that stands so many times.
+// What follows a text that stands this many times.
 fn following<'a>(text: &'a [u8], front: &[u8], times: u32) -> Option<&'a [u8]> {
     let mut rest = text;
     for _ in 0..times {
@@ -106,7 +106,7 @@ fn following<'a>(text: &'a [u8], front: &[u8], times: u32) -> Option<&'a [u8]> {
     Some(rest)
 }
 
-// What follows texts that stand one after another, each so many times.
+// What follows texts that stand one after another, each this many times.
 fn after_all<'a>(text: &'a [u8], fronts: [(&[u8], u32); 4]) -> Option<&'a [u8]> {
     let mut rest = text;
     for (front, times) in fronts {

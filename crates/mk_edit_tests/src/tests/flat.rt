@@ -84,7 +84,7 @@ impl Listing<'_> {
         Ok(())
     }
 
-    // A section, and those at most so many levels below it.
+    // A section, and those at most this many levels below it.
     fn put_entity(
         &mut self,
         path: &[u32],

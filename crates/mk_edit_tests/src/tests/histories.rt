@@ -219,7 +219,7 @@ fn commands_of(alloc: Global, steps: Vec<Step<'_>>) -> Result<Vec<Command>, Allo
     Ok(commands)
 }
 
-// Obeys the commands of a row, one by one and all at once. There are so many.
+// Obeys the commands of a row, one by one and all at once. There are this many.
 fn check_row(rt: &impl Abort, alloc: Global, edits: &[Row], row: &Row) -> Result<usize, Fail> {
     let steps = steps_in(alloc, edits, row)?;
     let session = check_each(rt, alloc, row, &steps)?;

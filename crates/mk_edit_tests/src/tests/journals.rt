@@ -338,7 +338,7 @@ fn edited(rt: &impl Abort, alloc: Global, row: &Row) -> Result<Session, Fail> {
     Ok(session)
 }
 
-// The journal of a session has so many bytes, and ends so.
+// The journal of a session has this many bytes, and ends so.
 fn check_end(rt: &impl Abort, session: &Session, row: &Row) -> Result<(), Fail> {
     let (size, end) = (number_in(row, "size")? as usize, bytes_in(row, "end")?);
     let journal = session.save()?;

@@ -36,7 +36,7 @@ gives: Content-Type: message/rfc822\n\nx\n
 kind: Leaf
 ";
 
-// So many multiparts, each the only part of the one before, and then a text.
+// This many multiparts, each the only part of the one before, and then a text.
 fn nested(alloc: Global, count: u32, inside: &[u8]) -> Result<Vec<u8>, AllocError> {
     let mut text = Vec::new(alloc);
     for level in 1..=count {
@@ -49,7 +49,7 @@ fn nested(alloc: Global, count: u32, inside: &[u8]) -> Result<Vec<u8>, AllocErro
     Ok(text)
 }
 
-// The path of the section in so many multiparts.
+// The path of the section in this many multiparts.
 fn path_below(alloc: Global, around: u32) -> Result<Vec<u32>, AllocError> {
     let mut path = Vec::from_slice(alloc, &[1])?;
     for _ in 0..around {

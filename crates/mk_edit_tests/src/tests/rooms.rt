@@ -15,7 +15,7 @@ const LONG: usize = 400_000;
 /// The most bytes of room that a short text keeps.
 const MOST: usize = 140_000;
 
-// The edit that makes a body of so many bytes.
+// The edit that makes a body of this many bytes.
 fn body_of(alloc: Global, size: usize) -> Result<Edit, AllocError> {
     let mut text = Vec::new(alloc);
     text.resize(size, b'x')?;

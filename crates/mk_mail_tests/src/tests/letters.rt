@@ -25,7 +25,7 @@ pub fn no_letters(alloc: Global) -> Letters {
     }
 }
 
-/// A name, or the front of names.
+/// A name, or the start of names.
 fn pattern(text: Vec<u8>, is_front: bool) -> NamePattern {
     NamePattern { text, is_front }
 }

@@ -77,7 +77,7 @@ message: From b\nA: 2\n\ny\nFrom z\n\n
 message: From c\nA: 3\n\n
 "#;
 
-// A source that gives a text, so many bytes at once. The read of one number, counted from 0, fails, and those after it
+// A source that gives a text, this many bytes at once. The read of one number, counted from 0, fails, and those after it
 // go on.
 #[derive(Drop)]
 pub struct Bytes<'a> {

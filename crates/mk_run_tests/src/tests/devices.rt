@@ -19,7 +19,7 @@ pub enum Failing {
 }
 
 impl Failing {
-    /// Whether a call fails before which so many were made.
+    /// Whether a call fails that this many came before.
     pub fn fails(self, calls: u64) -> bool {
         match self {
             Failing::Never => false,
@@ -29,7 +29,7 @@ impl Failing {
     }
 }
 
-/// A source that gives a text, so many bytes at once.
+/// A source that gives a text, this many bytes at once.
 #[derive(Drop)]
 pub struct Text<'a> {
     rest: &'a [u8],
@@ -46,7 +46,7 @@ impl<'a> Text<'a> {
         Text::over(text, size, Failing::Never)
     }
 
-    /// The same, which fails after so many good reads.
+    /// The same, which fails after this many good reads.
     pub fn failing(text: &'a [u8], size: usize, good: u64) -> Text<'a> {
         Text::over(text, size, Failing::From(good))
     }
@@ -92,7 +92,7 @@ impl Source for Text<'_> {
     }
 }
 
-/// A sink that holds what it took, so many bytes at once. One of size 0 takes none.
+/// A sink that holds what it took, this many bytes at once. One of size 0 takes none.
 #[derive(Drop)]
 pub struct Page {
     held: Vec<u8>,
@@ -109,7 +109,7 @@ impl Page {
         Page::over(alloc, size, Failing::Never)
     }
 
-    /// The same, which fails after so many good calls.
+    /// The same, which fails after this many good calls.
     pub fn failing(alloc: Global, size: usize, good: u64) -> Result<Page, AllocError> {
         Page::over(alloc, size, Failing::From(good))
     }

@@ -188,7 +188,7 @@ fn memory_for_unpacking(rt: HostRuntime) {
     }
 }
 
-// All is unpacked, or a front of it.
+// All is unpacked, or the first part of it.
 fn check_unpacking(
     rt: &impl Abort,
     alloc: Global,
@@ -276,7 +276,7 @@ fn memory_for_filtering(rt: HostRuntime) {
     }
 }
 
-// All messages are filtered, or a front of them.
+// All messages are filtered, or the first part of them.
 fn check_filtering(
     rt: &impl Abort,
     alloc: Global,

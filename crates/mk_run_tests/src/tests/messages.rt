@@ -92,7 +92,7 @@ fn memory_for_messages(rt: HostRuntime) {
     }
 }
 
-// All lines went out, or memory ran out and a front of them did.
+// All lines went out, or memory ran out and the first of them did.
 fn check_listing(rt: &impl Abort, alloc: Global, mut out: Page) -> Result<(), Cause> {
     let mut input = Text::new(MAILBOX, SIZE);
     let done = try_messages(alloc, &mut input, &mut out, FromLines::Any);

@@ -165,7 +165,7 @@ pub struct Devices<'a> {
 }
 
 impl<'a> Devices<'a> {
-    /// Devices over an input, of so many bytes a call.
+    /// Devices over an input, of this many bytes a call.
     pub fn new(
         alloc: Global,
         text: &'a [u8],

@@ -106,7 +106,7 @@ pub struct Slot {
 }
 
 impl Slot {
-    /// An empty folder, with room for a name and a text of so many bytes each.
+    /// An empty folder, with room for a name and a text of this many bytes each.
     pub fn new(alloc: Global, room: usize) -> Result<Slot, AllocError> {
         Ok(Slot {
             name: Vec::with_capacity(alloc, room)?,

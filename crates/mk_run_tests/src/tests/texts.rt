@@ -167,7 +167,7 @@ const LONGEST: usize = 998;
 /// More bytes than a device is given at once.
 const WHOLE: usize = 4_096;
 
-// What is reported where a content of one line, so many bytes long, is to stand unencoded.
+// What is reported where a content of one line, this many bytes long, is to stand unencoded.
 fn reported(alloc: Global, length: usize) -> Result<Vec<u8>, Fail> {
     let mut message = Vec::from_slice(alloc, b"A: 1\n\n")?;
     message.resize(message.len().saturating_add(length), b'x')?;

@@ -413,7 +413,7 @@ const DECODED_VALUES: &[u8] = b"\xc3\xa4\n2\n";
 
 const UNFOLDED_VALUES: &[u8] = b"=?utf-8?Q?=C3=A4?=\n2\n";
 
-// The values of the fields of a name go out, or a front of them.
+// The values of the fields of a name go out, or the first part of them.
 fn check_values(
     rt: &impl Abort,
     alloc: Global,

@@ -8,7 +8,7 @@ use std::alloc::Global;
 use std::process::Abort;
 use std::test::Fail;
 
-/// Two sections and those at most so many levels below them.
+/// Two sections and those at most this many levels below them.
 pub fn same_sections(rt: &impl Abort, one: &Section<'_>, other: &Section<'_>, levels: u8) {
     assert_eq!(rt; one.kind(), other.kind());
     assert_eq!(rt; one.start(), other.start());
