@@ -32,14 +32,19 @@ def named(peer):
     return PACKAGES.get(peer, f'`{peer}`')
 
 
+def times(row, own, key):
+    """The multiple of what mimetool took, where both are known."""
+    return times_of(row[key] / own[key]) if own[key] and row[key] is not None else ''
+
+
 def cells(row, own):
     """The cells of a row beside those of mimetool."""
     if row['status'] is None:
-        return [f'over {row["seconds"]:.0f} s', '', '', f'over {times_of(row["seconds"] / own["seconds"])}', '']
+        return [f'over {row["seconds"]:.0f} s', '', '', f'over {times(row, own, "seconds")}', '']
     shown = [seconds_of(row['seconds']), seconds_of(row['processor']), megabytes_of(row['megabytes'])]
     if not is_done(row):
         return shown + [f'status {row["status"]}', '']
-    return shown + [times_of(row['seconds'] / own['seconds']), times_of(row['megabytes'] / own['megabytes'])]
+    return shown + [times(row, own, 'seconds'), times(row, own, 'megabytes')]
 
 
 def table(job):
@@ -84,7 +89,7 @@ def better(job, key):
     """The peers that took less than mimetool, with their multiples of it, least first."""
     own, found = job['rows'][0], {}
     for row in job['rows'][1:]:
-        if is_done(row) and row[key] < own[key]:
+        if is_done(row) and is_done(own) and row[key] < own[key]:
             found[row['peer']] = min(row[key] / own[key], found.get(row['peer'], 1))
     return ', '.join(f'{named(peer)} {times_of(value)}' for peer, value in sorted(found.items(), key=lambda one: one[1]))
 
@@ -92,7 +97,7 @@ def better(job, key):
 def counted(results):
     """How many commands that do mail were faster than mimetool, and how many took less memory."""
     pairs = [(row, job['rows'][0]) for job in results['jobs'] for row in job['rows'][1:] if row['peer'] not in results['floors']]
-    fewer = {key: sum(is_done(row) and row[key] < own[key] for row, own in pairs) for key in ('seconds', 'megabytes')}
+    fewer = {key: sum(row[key] < own[key] for row, own in pairs if is_done(row) and is_done(own)) for key in ('seconds', 'megabytes')}
     return f'Of the {len(pairs)} commands that do mail, {fewer["seconds"]} took less time than `mimetool`, and {fewer["megabytes"]} less memory.'
 
 
