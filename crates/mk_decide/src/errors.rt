@@ -60,7 +60,7 @@ pub enum EditError {
 }
 
 impl EditError {
-    /// Whether memory was wanted: such a call may be made again.
+    /// Whether memory ran out: such a call may be made again.
     pub fn is_memory(&self) -> bool
         ensures { result ≡ wants_memory self.now }
     {
