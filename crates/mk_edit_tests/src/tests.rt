@@ -2,6 +2,7 @@
 //! are from the rules of the formats.
 mod checks;
 mod counted;
+mod examples;
 mod fields;
 mod flat;
 mod groups;

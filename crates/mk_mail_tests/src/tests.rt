@@ -3,6 +3,7 @@ mod builds;
 mod calls;
 mod dated;
 mod edits;
+mod examples;
 mod fielded;
 mod letters;
 mod mailboxes;

@@ -46,3 +46,15 @@ fn rows_have_their_cells(rt: HostRuntime) -> Result<(), Fail> {
     }
     Ok(())
 }
+
+#[test]
+fn a_table_of_one_row(rt: HostRuntime) -> Result<(), Fail> {
+    let table = rows(rt.alloc(), "== a line\ntext: a\\r\\n\nnumber: 12\n")?;
+    assert_eq!(rt; table.len(), 1);
+    for row in &table {
+        assert_eq!(rt; row.shows, "a line");
+        assert_eq!(rt; row.bytes("text"), b"a\r\n".as_slice());
+        assert_eq!(rt; row.number("number"), 12);
+    }
+    Ok(())
+}

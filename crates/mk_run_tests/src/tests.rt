@@ -4,6 +4,7 @@ mod as_one;
 mod chosen;
 mod devices;
 mod encodings;
+mod examples;
 mod failing;
 mod fields;
 mod filtered;

@@ -8,6 +8,8 @@ mod codes;
 #[cfg(test)]
 mod decoding;
 #[cfg(test)]
+mod examples;
+#[cfg(test)]
 mod headers;
 #[cfg(test)]
 mod lines;

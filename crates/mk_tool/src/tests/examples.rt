@@ -1,0 +1,47 @@
+//! The examples at the roots of mk_json, mk_words and mk_tool. Expected values are from docs/FORMATS.md and the help.
+
+use super::obeyed;
+use mk_tree::Doc;
+use mk_words::options::{EXTRACT, PATH, command};
+use mk_words::reasons::told;
+use std::test::Fail;
+
+/// A leaf of two bytes that has no name.
+const LISTED: &[u8] =
+    b"{\"path\":\"1\",\"kind\":\"leaf\",\"type\":\"text/plain\",\"encoding\":\"identity\",\"start\":0,\"body\":6,\"end\":8,\"field_lines\":1,\"body_lines\":1,\"stored_as\":\"part-1\",\"size\":2}\n";
+
+#[test]
+fn a_document_is_listed_as_json(rt: HostRuntime) -> Result<(), Fail> {
+    let alloc = rt.alloc();
+    let text = Vec::from_slice(alloc, b"A: b\n\nx\n")?;
+    let doc = Doc::read(alloc, text).map_err(|(_, error)| error)?;
+    let lines = mk_json::list(alloc, &doc)?;
+    assert!(rt; lines.starts_with(b"{\"path\":\"1\",\"kind\":\"leaf\","));
+    assert!(rt; lines.ends_with(b",\"stored_as\":\"part-1\",\"size\":2}\n"));
+    assert_eq!(rt; lines.as_slice(), LISTED);
+    Ok(())
+}
+
+#[test]
+fn words_have_a_subcommand(rt: HostRuntime) -> Result<(), Fail> {
+    let alloc = rt.alloc();
+    let words = ["mimetool", "extract", "-s", "1.2"];
+    let matches = command(alloc)?.try_get_matches_from(&words)?;
+    let (name, options) = matches.subcommand().expect(&rt, "a subcommand");
+    assert_eq!(rt; name, EXTRACT);
+    assert_eq!(rt; options.get_str(PATH), Some("1.2"));
+    let reason = told(EXTRACT, b"1.2: NoSuchSection");
+    let (about, _) = reason.expect(&rt, "a reason");
+    assert_eq!(rt; about, b"1.2: ".as_slice());
+    Ok(())
+}
+
+#[test]
+fn a_command_line_is_obeyed(rt: HostRuntime) -> Result<(), Fail> {
+    let words = ["edit", "-e", "add 1 C: d", "-e", "del 1 Z 1"];
+    let found = obeyed(&rt, &words, b"A: b\n\nx\n")?;
+    assert_eq!(rt; found.output.bytes(), b"A: b\nC: d\n\nx\n".as_slice());
+    assert_eq!(rt; found.errors.bytes(), b"line 2: NoSuchField\n".as_slice());
+    assert_eq!(rt; found.code, 1);
+    Ok(())
+}
