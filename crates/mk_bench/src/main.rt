@@ -3,6 +3,14 @@
 //! `mk_bench JOB[/CASE] SEED [SCALE]`: JOB is one of those below or `all`, SEED a number that determines the inputs, and SCALE
 //! their size, 100 unless it is given. With CASE, as in `awkward/fields`, that case of the job runs alone. It makes its inputs
 //! from the seed too, so they are others than in the whole job.
+//!
+//! ```
+//! mk_bench all 1 1
+//! ```
+//!
+//! The example is the run of `mk_bench/args`. It prints a digest for each job.
+//!
+//! Tests: `mk_bench/stdout`, which `rt ci` and `tools/quick` compare with what the run prints.
 #![tactic(auto)]
 
 mod awkward;

@@ -1,6 +1,21 @@
 //! Lines of Internet messages: cutting a text into lines, and telling the kinds of line.
 //!
 //! Only `push_delimiter` and `push_close` take memory, and no other call fails.
+//!
+//! ```
+//! let mut lines = cut(b"Subject: hi\r\n there\n");
+//! let first = lines.next().expect(&rt, "a line");
+//! assert_eq!(rt; first.content, b"Subject: hi".as_slice());
+//! assert_eq!(rt; first.ending, Ending::Crlf);
+//! assert_eq!(rt; name_len(first.content), Some(7));
+//! let second = lines.next().expect(&rt, "a line");
+//! assert!(rt; is_continuation(second.content));
+//! assert!(rt; lines.next().is_none());
+//! ```
+//!
+//! The example is run by `a_text_is_cut_into_lines` in `mk_text_tests/src/examples.rt`.
+//!
+//! Tests: `mk_text_tests/src/lines.rt`; `mk_text_tests/src/memory.rt` where memory is refused.
 #![tactic(auto)]
 
 mod counting;

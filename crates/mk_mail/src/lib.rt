@@ -1,5 +1,20 @@
 //! Mail as a whole: what a document shows, messages built of parts, mailboxes, fields filtered by letters, and devices that
 //! mail comes from and goes to.
+//!
+//! ```
+//! let text = Vec::from_slice(alloc, b"A: 1\nB: 2\nA: 3\n\nx\n")?;
+//! let mut session = Session::start(alloc, text).map_err(|(_, error)| error)?;
+//! let mut letters = no_letters(alloc);
+//! letters.only = Some(Vec::from_slice(alloc, b"A: 9")?);
+//! assert!(rt; letters.ok());
+//! let edits = field_edits(alloc, session.doc(), &letters)?;
+//! session.group(&edits, &mut Meter::new())?;
+//! assert_eq!(rt; session.text(), b"B: 2\nA: 9\n\nx\n".as_slice());
+//! ```
+//!
+//! The example is run by `letters_change_fields` in `mk_mail_tests/src/tests/examples.rt`. `no_letters` asks for nothing.
+//!
+//! Tests: `mk_mail_tests/src/tests/letters.rt`, `mk_mail_tests/src/tests/edits.rt`, `mk_mail_tests/src/tests/prepended.rt`.
 
 #![tactic(auto)]
 

@@ -1,4 +1,15 @@
 //! The messages of a mailbox, listed or picked by their number, over any devices.
+//!
+//! ```
+//! let mut input = InMemory::new(b"From a\nA: 1\n\nx\n\nFrom b\nA: 2\n\ny\n");
+//! let found = pick(alloc, &mut input, FromLines::Any, 1)?;
+//! let message = without_separator(found.expect(&rt, "a message"));
+//! assert_eq!(rt; message.as_slice(), b"From a\nA: 1\n\nx\n".as_slice());
+//! ```
+//!
+//! The example is run by `a_message_is_taken_out` in `mk_run_tests/src/tests/examples.rt`.
+//!
+//! Tests: `mk_run_tests/src/tests/messages.rt`; `mk_tool/src/tests/mailboxes.rt` for messages taken out.
 #![tactic(auto)]
 
 mod in_memory;

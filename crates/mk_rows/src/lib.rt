@@ -3,6 +3,20 @@
 //! A line `== NAME` begins a row and says what it shows; each line `KEY: VALUE` after it is a cell. In a value `\n`,
 //! `\r` and `\t` are those bytes, `\\` is a backslash, and `\xHH` is any byte. Lines of other forms are for the reader
 //! of the table alone.
+//!
+//! ```
+//! let table = rows(rt.alloc(), "== a line\ntext: a\\r\\n\nnumber: 12\n")?;
+//! assert_eq!(rt; table.len(), 1);
+//! for row in &table {
+//!     assert_eq!(rt; row.shows, "a line");
+//!     assert_eq!(rt; row.bytes("text"), b"a\r\n".as_slice());
+//!     assert_eq!(rt; row.number("number"), 12);
+//! }
+//! ```
+//!
+//! The example is run by `a_table_of_one_row` in `mk_rows/src/tests.rt`.
+//!
+//! Tests: `mk_rows/src/tests.rt`.
 #![tactic(auto)]
 
 mod escapes;

@@ -1,4 +1,24 @@
 //! The runs of the program, over any devices: a message edited, listed, taken apart, packed and filtered.
+//!
+//! ```
+//! let mut input = Text::new(b"A: b\n\nx\n", 100);
+//! let (mut out, mut err) = (Page::new(alloc, 100)?, Page::new(alloc, 100)?);
+//! let (mut kept, pieces) = (Page::new(alloc, 100)?, Vec::new(alloc));
+//! let (script, journal) = (b"add 1 C: d\ndel 1 Z 1\n", Journal::Off);
+//! let status = run_edit(
+//!     alloc, &mut input, &mut out, &mut err, script, &pieces, journal, &mut kept,
+//! );
+//! assert_eq!(rt; status, Status::Refused);
+//! assert_eq!(rt; out.bytes(), b"A: b\nC: d\n\nx\n".as_slice());
+//! assert_eq!(rt; err.bytes(), b"line 2: NoSuchField\n".as_slice());
+//! ```
+//!
+//! The example is run by `a_message_is_edited` in `mk_run_tests/src/tests/examples.rt`. `Text` and `Page` are devices in
+//! memory.
+//!
+//! Tests: `mk_run_tests/src/tests.rt`, `mk_run_tests/src/tests/runs.rt`, `mk_run_tests/src/tests/journals.rt`,
+//! `mk_run_tests/src/tests/as_one.rt`, `mk_run_tests/src/tests/hostile.rt`; `mk_run_tests/src/tests/memory.rt` where memory
+//! is refused; `mk_run_tests/src/tests/failing.rt` where devices fail.
 #![tactic(auto)]
 
 mod engine;

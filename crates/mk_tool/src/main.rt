@@ -1,4 +1,21 @@
 //! `mimetool`: an editor for Internet messages with exact undo.
+//!
+//! ```
+//! let words = ["edit", "-e", "add 1 C: d", "-e", "del 1 Z 1"];
+//! let found = obeyed(&rt, &words, b"A: b\n\nx\n")?;
+//! assert_eq!(rt; found.output.bytes(), b"A: b\nC: d\n\nx\n".as_slice());
+//! assert_eq!(rt; found.errors.bytes(), b"line 2: NoSuchField\n".as_slice());
+//! assert_eq!(rt; found.code, 1);
+//! ```
+//!
+//! The example is run by `a_command_line_is_obeyed` in `mk_tool/src/tests/examples.rt`. `obeyed` runs the program on words
+//! and a message.
+//!
+//! Tests: `mk_tool/src/tests/commands.rt`, `mk_tool/src/tests/usage.rt`, `mk_tool/src/tests/files.rt`,
+//! `mk_tool/src/tests/in_place.rt`, `mk_tool/src/tests/journals.rt`, `mk_tool/src/tests/locks.rt`,
+//! `mk_tool/src/tests/letters.rt`, `mk_tool/src/tests/prepends.rt`, `mk_tool/src/tests/section_fields.rt`,
+//! `mk_tool/src/tests/mailboxes.rt`, `mk_tool/src/tests/forwarded.rt`, `mk_tool/src/tests/faults.rt`,
+//! `mk_tool/src/tests/tips.rt`, `mk_tool/src/tests/explained.rt`; the scripts in `checks/` on the built program.
 #![tactic(auto)]
 
 mod commands;

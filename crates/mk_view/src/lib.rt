@@ -1,4 +1,20 @@
 //! What a document shows: its sections listed, their contents decoded, and the names that its leaves get as files.
+//!
+//! ```
+//! let text = b"Content-Type: image/png\nContent-Transfer-Encoding: base64\n\naGk=\n";
+//! let text = Vec::from_slice(alloc, text)?;
+//! let doc = Doc::read(alloc, text).map_err(|(_, error)| error)?;
+//! let lines = list(alloc, &doc)?;
+//! let wanted = b"1 leaf image/png base64 0 59 64 2 1\n";
+//! assert_eq!(rt; lines.as_slice(), wanted.as_slice());
+//! let content = extract(alloc, &doc, &[1])?;
+//! assert_eq!(rt; content.as_slice(), b"hi".as_slice());
+//! ```
+//!
+//! The example is run by `a_document_is_listed` in `mk_mail_tests/src/tests/examples.rt`.
+//!
+//! Tests: `mk_mail_tests/src/tests.rt`, `mk_mail_tests/src/tests/text_names.rt`; `mk_mail_tests/src/tests/memory.rt` where
+//! memory is refused.
 #![tactic(auto)]
 
 mod extracting;

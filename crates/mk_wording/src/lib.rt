@@ -2,6 +2,17 @@
 //! parameters with a charset (RFC 2231).
 //!
 //! The calls fail only when memory runs out.
+//!
+//! ```
+//! let text = b"From: J\xc3\xb6rg <j@example.org>";
+//! let field = worded_field(alloc, text, Ending::Lf)?;
+//! let wanted = b"From: =?utf-8?B?SsO2cmc=?= <j@example.org>";
+//! assert_eq!(rt; field.as_slice(), wanted.as_slice());
+//! ```
+//!
+//! The example is run by `a_name_goes_into_encoded_words` in `mk_run_tests/src/tests/examples.rt`.
+//!
+//! Tests: `mk_run_tests/src/tests/wording.rt`.
 #![tactic(auto)]
 
 mod addresses;
