@@ -13,7 +13,8 @@
 //! Tests: `mk_run_tests/src/tests.rt`, `mk_run_tests/src/tests/groups.rt`, `mk_run_tests/src/tests/fields.rt`,
 //! `mk_run_tests/src/tests/pieces.rt`, `mk_run_tests/src/tests/jobs.rt`, `mk_run_tests/src/tests/texts.rt`,
 //! `mk_run_tests/src/tests/as_one.rt`; `mk_run_tests/src/tests/memory.rt` where memory is refused;
-//! `mk_tool/src/tests/usage.rt` for the reasons why lines are invalid.
+//! `mk_tool/src/tests/commands.rt`, `mk_tool/src/tests/files.rt`, `mk_tool/src/tests/explained.rt` and
+//! `checks/file_rows.py` for the reasons why lines are invalid.
 #![tactic(auto)]
 
 mod endings;
