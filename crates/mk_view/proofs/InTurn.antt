@@ -5,7 +5,7 @@ use Rattle.mk_view.specs.declared.storing.Leaf.{Leaf}
 use Rattle.mk_view.specs.FileNames.{Named}
 use Rattle.mk_view.specs.GivenNames.{AreGiven, IsGiven, given_after}
 use Rattle.mk_view.specs.LeafViews.{leaf_view}
-use Rattle.mk_view.specs.Taken.{Knows}
+use Rattle.mk_view.specs.inner.Taken.{Knows}
 
 after_more : (names : List (List ℕ)) (gs : List Named) (g : Named) → given_after names (gs ++ g ∷ []) ≡ g.1 ∷ given_after names gs
 after_more names [] g = refl

@@ -3,7 +3,7 @@ use Rattle.std.proofs.Common.{◌≡◌, ◌≤◌, ◌<◌, ◌+◌, ◌||◌, 
 use Rattle.std.specs.Cmp.Lexicographic.{bytes_decides, nat_list_eq_equiv}
 use Rattle.std.specs.Str.{bytes_eq}
 use Rattle.std.proofs.lemmas.Bool.{cases_Bool, cases_lt, cond-true, cond-false}
-use Rattle.mk_view.specs.Taken.{Knows}
+use Rattle.mk_view.specs.inner.Taken.{Knows}
 use Rattle.mk_view.specs.GivenNames.{is_taken, numbered, IsLeastFree, IsGivenBy, IsGiven}
 
 or_more : (a b : Bool) → b ≡ true → (a || b) ≡ true

@@ -6,4 +6,4 @@ pub mod TextNames
 pub mod NameViews
 pub mod LeafViews
 pub mod GivenNames
-pub mod Taken
+pub mod inner

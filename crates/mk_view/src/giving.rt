@@ -4,7 +4,7 @@ ghost use Rattle.std.specs.Str.{bytes_eq};
 ghost use Rattle.mk_view.specs.GivenNames.{AreGiven, IsGiven, is_safe, numbered as numbered_by};
 ghost use Rattle.mk_tree.specs.Documents.{Document};
 ghost use Rattle.mk_view.specs.LeafViews.{AreAt, leaf_view};
-ghost use Rattle.mk_view.specs.Taken.{Knows, number_at};
+ghost use Rattle.mk_view.specs.inner.Taken.{Knows, number_at};
 
 use crate::storing::Leaf;
 use crate::writing::push_number;

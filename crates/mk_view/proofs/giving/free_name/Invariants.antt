@@ -1,6 +1,6 @@
 use Rattle.std.proofs.Common.{◌≡◌, ◌<◌, ◌≤◌, ℕ, true, is_some}
 use Rattle.mk_view.specs.GivenNames.{numbered}
-use Rattle.mk_view.specs.Taken.{number_at}
+use Rattle.mk_view.specs.inner.Taken.{number_at}
 use Rattle.mk_view.proofs.giving.free_name.Given as goal
 
 abbrev pub invariant-loop-number : goal.invariant-loop-number

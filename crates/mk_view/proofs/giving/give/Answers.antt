@@ -1,5 +1,5 @@
 use Rattle.std.proofs.Common.{◌≡◌, sym, ap, ◌∙◌}
-use Rattle.mk_view.specs.Taken.{number_at}
+use Rattle.mk_view.specs.inner.Taken.{number_at}
 use Rattle.mk_view.proofs.NamesKnown.{given_own, given_numbered}
 use Rattle.mk_view.proofs.giving.give.Goals as goal
 

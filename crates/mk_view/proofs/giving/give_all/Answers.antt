@@ -1,7 +1,7 @@
 use Rattle.std.proofs.Common.{◌≡◌, rules, refl, sym, subst}
 use Rattle.std.specs.Vec.Iter.{into_iter_items}
 use Rattle.mk_view.specs.LeafViews.{AreAt}
-use Rattle.mk_view.specs.Taken.{number_at}
+use Rattle.mk_view.specs.inner.Taken.{number_at}
 use Rattle.mk_view.proofs.InTurn.{known_more, told_more}
 use Rattle.mk_view.proofs.LeavesAt.{at_named}
 use Rattle.mk_view.proofs.giving.give_all.Goals as goal

@@ -3,7 +3,7 @@ use Rattle.std.specs.Vec.Iter.{into_iter_items}
 use Rattle.mk_tree.specs.Documents.{Document}
 use Rattle.mk_view.specs.GivenNames.{AreGiven, given_after}
 use Rattle.mk_view.specs.LeafViews.{AreAt, leaf_view}
-use Rattle.mk_view.specs.Taken.{Knows, number_at}
+use Rattle.mk_view.specs.inner.Taken.{Knows, number_at}
 use Rattle.mk_view.proofs.giving.give_all.Given as goal
 
 abbrev pub invariant-loop-leaf : goal.invariant-loop-leaf
