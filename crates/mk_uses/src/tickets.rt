@@ -4,7 +4,8 @@ ghost use Rattle.mk_decide.specs.Edits.{Group, PlainEdit};
 ghost use Rattle.mk_decide.specs.Views.{edit_of};
 ghost use Rattle.mk_edit.specs.Answers.{IsGroupRefusedBy};
 ghost use Rattle.mk_edit.specs.Histories.{started, step};
-ghost use Rattle.mk_uses.specs.Uses.{KeepsEdits};
+ghost use Rattle.mk_edit.specs.Saving.{loaded};
+ghost use Rattle.mk_uses.specs.Uses.{KeepsEdits, RefusesRow};
 
 use mk_edit::laws::{histories_stay, saved_journals_are_loaded, texts_start};
 use mk_edit::{Edit, EditError, GroupError, LoadError, Session};
@@ -47,8 +48,9 @@ pub fn store(alloc: Global, message: Vec<u8>, edits: &[Edit]) -> Result<Row, Gro
 
 /// The message as it was before the edits of a row that `store` gave.
 pub fn restore(alloc: Global, row: Row) -> Result<Vec<u8>, RowError>
-    ensures { IfOk result (λ text. (message : List ℕ) (edits : List PlainEdit)
+    ensures restored { IfOk result (λ text. (message : List ℕ) (edits : List PlainEdit)
         → KeepsEdits message row.message.items row.journal.items edits → text.items ≡ message) }
+    ensures refused { IfErr result (λ error. RefusesRow error (loaded row.message.items row.journal.items)) }
 {
     texts_start();
     histories_stay();
