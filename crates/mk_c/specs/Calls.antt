@@ -1,0 +1,182 @@
+-- What the calls of C do (own): each is a step of mk_edit or a view of mk_view, or says why not.
+use Rattle.std.specs.Prelude.{◌≡◌, ◌⊎◌, ◌≢◌, ◌+◌, ◌++◌, ℕ, Option, Some, None, Result, Ok, Err, List, [], ◌∷◌, length}
+use Rattle.mk_tree.specs.Documents.{tree}
+use Rattle.mk_tree.specs.Sections.{Placed, section_at}
+use Rattle.mk_decide.specs.declared.edits.Edit.{Edit as HeldEdit}
+use Rattle.mk_decide.specs.Answers.{IsAccepted, IsRefusedBy, refusal_of}
+use Rattle.mk_decide.specs.Edits.{PlainEdit, Order, Group, Refusal, Member}
+use Rattle.mk_decide.specs.Outcomes.{edited}
+use Rattle.mk_decide.specs.Views.{edit_of}
+use Rattle.mk_edit.specs.History.{History}
+use Rattle.mk_edit.specs.Histories.{started, step, text_now}
+use Rattle.mk_edit.specs.Saving.{RefusesJournal, loaded, saved}
+use Rattle.mk_view.specs.declared.extracting.ExtractError.TheVariants as extract
+use Rattle.mk_view.specs.Extracts.{IsExtract, IsExtractRefused}
+use Rattle.mk_view.specs.Listing.{listing}
+use Rattle.mk_view.specs.TextNames.{text_name}
+use Rattle.mk_c.specs.declared.status.Place.{Place}
+use Rattle.mk_c.specs.declared.status.Reason.{Reason}
+use Rattle.mk_c.specs.declared.status.Reason.TheVariants.{Closed, Memory, BadSize, NoEdit, NoName, Edit, Journal, Content}
+use Rattle.mk_c.specs.Desks.{Desk, opened, put_down}
+use Rattle.mk_c.specs.Statuses.{status_of}
+
+-- how a call ends
+abbrev pub Ending : Type 0
+Ending = Result (Unit {0}) Reason
+
+-- a call with a handle: a closed one stays closed; an open one stays open, the status is how the call ends, and that is as it should be
+abbrev pub Calls : (Ending → Desk → Desk → Type 0) → ℕ → Place → Option Desk → Option Desk → Type 0
+Calls Does status place None new = ((status, place) ≡ status_of {X = Unit {0}} (Err Closed)) × (new ≡ None)
+Calls Does status place (Some old) None = ⊥
+Calls Does status place (Some old) (Some new) = (ending : Ending) × ((status, place) ≡ status_of ending) × Does ending old new
+
+-- an edit is put down after the others, or memory ran out
+abbrev pub PutsDown : PlainEdit → Ending → Desk → Desk → Type 0
+PutsDown e (Ok x) old new = (new.history ≡ old.history) × (put_down new ≡ put_down old ++ e ∷ []) × (new.answer ≡ old.answer)
+PutsDown e (Err reason) old new = (reason ≡ Memory) × (new ≡ old)
+
+-- the same of an edit that may not have been made
+abbrev pub PutsDownMade : {X : Type 0} → Result HeldEdit X → Ending → Desk → Desk → Type 0
+PutsDownMade (Ok e) ending old new = PutsDown (edit_of e) ending old new
+PutsDownMade (Err x) ending old new = (ending ≡ Err Memory) × (new ≡ old)
+
+-- nothing is put down any more
+abbrev pub Forgets : Ending → Desk → Desk → Type 0
+Forgets ending old new = (ending ≡ Ok tt) × (new ≡ record old { pending = [] })
+
+-- a reason is the one that is defined; running out of memory is none
+abbrev pub IsReason : {X : Type 0} → Reason → Result X Refusal → Type 0
+IsReason (Edit index error) defined = (index ≡ 0) × IsRefusedBy (refusal_of error) defined
+IsReason Memory defined = Unit {0}
+IsReason Closed defined = ⊥
+IsReason BadSize defined = ⊥
+IsReason NoEdit defined = ⊥
+IsReason NoName defined = ⊥
+IsReason (Journal error) defined = ⊥
+IsReason (Content error) defined = ⊥
+
+-- the same of a group, with the edit that is refused
+abbrev pub IsGroupReason : {X : Type 0} → Reason → Result X Refusal → Type 0
+IsGroupReason (Edit index error) defined = (refusal : Refusal) × (refusal_of error ≡ Some refusal) × (defined ≡ Err (Member index refusal))
+IsGroupReason Memory defined = Unit {0}
+IsGroupReason Closed defined = ⊥
+IsGroupReason BadSize defined = ⊥
+IsGroupReason NoEdit defined = ⊥
+IsGroupReason NoName defined = ⊥
+IsGroupReason (Journal error) defined = ⊥
+IsGroupReason (Content error) defined = ⊥
+
+-- an undo or a redo does what is defined; refused, it changes nothing
+abbrev pub Obeys : Order → Ending → Desk → Desk → Type 0
+Obeys order (Ok x) old new = (step order old.history ≡ Ok new.history) × (new ≡ record old { history = new.history })
+Obeys order (Err reason) old new = (new ≡ old) × IsReason reason (step order old.history)
+
+-- the edits that were put down are made as one step, all or none
+abbrev pub Makes : Ending → Desk → Desk → Type 0
+Makes (Ok x) old new = (step (Group (put_down old)) old.history ≡ Ok new.history) × (new ≡ record old { history = new.history; pending = [] })
+Makes (Err reason) old new = (new ≡ record old { pending = [] }) × IsGroupReason reason (step (Group (put_down old)) old.history)
+
+-- what an edit would answer; there has to be one
+abbrev pub IsChecked : List HeldEdit → List ℕ → Ending → Type 0
+IsChecked [] text ending = ending ≡ Err NoEdit
+IsChecked (e ∷ others) text (Ok x) = IsAccepted (edited (edit_of e) (tree text))
+IsChecked (e ∷ others) text (Err reason) = IsReason reason (edited (edit_of e) (tree text))
+
+-- the first of the edits that were put down is checked, and none is made
+abbrev pub Checks : Ending → Desk → Desk → Type 0
+Checks ending old new = IsChecked old.pending (text_now old.history) ending × (new ≡ record old { pending = [] })
+
+-- an answer that is as it should be; a call that is refused leaves the answer before
+abbrev pub Shows : (Desk → List ℕ → Type 0) → (Desk → Reason → Type 0) → Ending → Desk → Desk → Type 0
+Shows Is Refuses (Ok x) old new = Is old new.answer × (new ≡ record old { answer = new.answer })
+Shows Is Refuses (Err reason) old new = Refuses old reason × (new ≡ old)
+
+-- only memory can be missing
+abbrev pub IsMemory : Desk → Reason → Type 0
+IsMemory d reason = reason ≡ Memory
+
+-- the text as it stands
+abbrev pub IsText : Desk → List ℕ → Type 0
+IsText d answer = answer ≡ text_now d.history
+
+-- the journal
+abbrev pub IsJournal : Desk → List ℕ → Type 0
+IsJournal d answer = answer ≡ saved d.history
+
+-- the listing of the sections
+abbrev pub IsListing : Desk → List ℕ → Type 0
+IsListing d answer = answer ≡ listing (tree (text_now d.history))
+
+-- the content of the section at a path
+abbrev pub IsContentAt : List ℕ → Desk → List ℕ → Type 0
+IsContentAt path d answer = IsExtract (section_at path (tree (text_now d.history))) answer
+
+-- why no content of the section at a path is shown
+abbrev pub NoContentAt : List ℕ → Desk → Reason → Type 0
+NoContentAt path d (Content error) = IsExtractRefused (section_at path (tree (text_now d.history))) error
+NoContentAt path d Memory = Unit {0}
+NoContentAt path d (Edit index error) = ⊥
+NoContentAt path d (Journal error) = ⊥
+NoContentAt path d Closed = ⊥
+NoContentAt path d BadSize = ⊥
+NoContentAt path d NoEdit = ⊥
+NoContentAt path d NoName = ⊥
+
+-- the text that the fields of the section at a path say as its name
+abbrev pub IsNameAt : List ℕ → Desk → List ℕ → Type 0
+IsNameAt path d answer = (p : Placed) × (section_at path (tree (text_now d.history)) ≡ Some p) × (text_name p ≡ Some answer)
+
+-- why no name is shown: there is no section, or its fields say none
+abbrev pub NoNameAt : List ℕ → Desk → Reason → Type 0
+NoNameAt path d (Content error) = (error ≡ extract.NoSuchSection) × (section_at path (tree (text_now d.history)) ≡ None)
+NoNameAt path d NoName = (p : Placed) × (section_at path (tree (text_now d.history)) ≡ Some p) × (text_name p ≡ None)
+NoNameAt path d Memory = Unit {0}
+NoNameAt path d (Edit index error) = ⊥
+NoNameAt path d (Journal error) = ⊥
+NoNameAt path d Closed = ⊥
+NoNameAt path d BadSize = ⊥
+NoNameAt path d NoEdit = ⊥
+
+-- a text is begun with, or memory ran out
+abbrev pub Starts : List ℕ → Result Desk Reason → Type 0
+Starts text (Ok d) = d ≡ opened (started text)
+Starts text (Err reason) = reason ≡ Memory
+
+-- a journal is loaded with its text, or refused for the reason that is defined
+abbrev pub Loads : List ℕ → List ℕ → Result Desk Reason → Type 0
+Loads text journal (Ok d) = (h : History) × (loaded text journal ≡ Ok h) × (d ≡ opened h)
+Loads text journal (Err (Journal error)) = RefusesJournal error (loaded text journal)
+Loads text journal (Err Memory) = Unit {0}
+Loads text journal (Err (Edit index error)) = ⊥
+Loads text journal (Err (Content error)) = ⊥
+Loads text journal (Err Closed) = ⊥
+Loads text journal (Err BadSize) = ⊥
+Loads text journal (Err NoEdit) = ⊥
+Loads text journal (Err NoName) = ⊥
+
+-- what a handle holds after a call that opens it
+abbrev pub held : Result Desk Reason → Option Desk
+held (Ok d) = Some d
+held (Err reason) = None
+
+-- how a call ends that opens a handle with what was begun, where there is memory for it
+abbrev pub OpensWith : Result Desk Reason → ℕ → Place → Option Desk → Type 0
+OpensWith begun status place new = (ending : Result Desk Reason) × ((status, place) ≡ status_of ending) × (new ≡ held ending) × ((ending ≡ begun) ⊎ (ending ≡ Err Memory))
+
+-- a call that opens a handle
+abbrev pub Opens : (Result Desk Reason → Type 0) → ℕ → Place → Option Desk → Type 0
+Opens Does status place new = (ending : Result Desk Reason) × ((status, place) ≡ status_of ending) × (new ≡ held ending) × Does ending
+
+-- how many steps are done, and how many undone
+abbrev pub Counts : ℕ → ℕ → Ending → Desk → Desk → Type 0
+Counts done undone ending old new = (ending ≡ Ok tt) × (new ≡ old) × (done ≡ old.history.place) × (done + undone ≡ length old.history.steps)
+
+-- the bytes of the answer, where as many are wanted
+abbrev pub Copies : List ℕ → List ℕ → Ending → Desk → Desk → Type 0
+Copies before after (Ok x) old new = (after ≡ old.answer) × (new ≡ old)
+Copies before after (Err reason) old new = (reason ≡ BadSize) × (length before ≢ length old.answer) × (after ≡ before) × (new ≡ old)
+
+-- how many bytes the answer has
+abbrev pub answer_size : Option Desk → ℕ
+answer_size None = 0
+answer_size (Some d) = length d.answer

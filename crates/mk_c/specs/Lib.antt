@@ -1,0 +1,4 @@
+pub mod Owned
+pub mod Desks
+pub mod Statuses
+pub mod Calls

@@ -1,0 +1,108 @@
+-- How a call ended, as the numbers that C gets (own).
+use Rattle.std.specs.Prelude.{ℕ, Result, Ok, Err}
+use Rattle.mk_decide.specs.declared.errors.EditError.{EditError}
+use Rattle.mk_decide.specs.declared.errors.EditError.TheVariants as edit
+use Rattle.mk_edit.specs.declared.errors.GroupError.{GroupError}
+use Rattle.mk_edit.specs.declared.errors.GroupError.TheVariants as group
+use Rattle.mk_edit.specs.declared.errors.LoadError.{LoadError}
+use Rattle.mk_edit.specs.declared.errors.LoadError.TheVariants as load
+use Rattle.mk_view.specs.declared.extracting.ExtractError.{ExtractError}
+use Rattle.mk_view.specs.declared.extracting.ExtractError.TheVariants as extract
+use Rattle.mk_c.specs.declared.status.Reason.{Reason}
+use Rattle.mk_c.specs.declared.status.Reason.TheVariants.{Closed, Memory, BadSize, NoEdit, NoName, Edit, Journal, Content}
+use Rattle.mk_c.specs.declared.status.Place.{Place}
+
+-- the number of a reason against an edit
+abbrev pub edit_number : EditError → ℕ
+edit_number edit.Memory = 2
+edit_number edit.NoSuchSection = 10
+edit_number edit.NotMultipart = 11
+edit_number edit.NotLeaf = 12
+edit_number edit.NotPart = 13
+edit_number edit.NoSuchField = 14
+edit_number edit.BadPlace = 15
+edit_number edit.BadField = 16
+edit_number edit.BadName = 17
+edit_number edit.BadBoundary = 18
+edit_number edit.BadSubtype = 19
+edit_number edit.OpenLine = 20
+edit_number (edit.HoldsBoundary level) = 21
+edit_number edit.Recut = 22
+edit_number edit.NothingToUndo = 23
+edit_number edit.NothingToRedo = 24
+
+-- the number of a reason against a journal
+abbrev pub journal_number : LoadError → ℕ
+journal_number load.Memory = 2
+journal_number (load.JournalSyntax offset) = 30
+journal_number load.JournalOther = 31
+journal_number (load.JournalMismatch entry) = 32
+
+-- the number of a reason why no content is taken out
+abbrev pub content_number : ExtractError → ℕ
+content_number extract.Memory = 2
+content_number extract.NoSuchSection = 10
+content_number extract.BadBase64 = 40
+content_number extract.UnknownEncoding = 41
+
+-- the number of a reason
+abbrev pub number_of : Reason → ℕ
+number_of Closed = 1
+number_of Memory = 2
+number_of BadSize = 3
+number_of NoEdit = 4
+number_of NoName = 5
+number_of (Edit index error) = edit_number error
+number_of (Journal error) = journal_number error
+number_of (Content error) = content_number error
+
+-- how many numbers the path of the multipart has whose boundary a line holds
+abbrev pub level_of : EditError → ℕ
+level_of (edit.HoldsBoundary level) = level
+level_of edit.Memory = 0
+level_of edit.NoSuchSection = 0
+level_of edit.NotMultipart = 0
+level_of edit.NotLeaf = 0
+level_of edit.NotPart = 0
+level_of edit.NoSuchField = 0
+level_of edit.BadPlace = 0
+level_of edit.BadField = 0
+level_of edit.BadName = 0
+level_of edit.BadBoundary = 0
+level_of edit.BadSubtype = 0
+level_of edit.OpenLine = 0
+level_of edit.Recut = 0
+level_of edit.NothingToUndo = 0
+level_of edit.NothingToRedo = 0
+
+-- where in a journal the reason lies
+abbrev pub offset_of : LoadError → ℕ
+offset_of (load.JournalSyntax offset) = offset
+offset_of (load.JournalMismatch entry) = entry
+offset_of load.JournalOther = 0
+offset_of load.Memory = 0
+
+-- nowhere
+abbrev pub nowhere : Place
+nowhere = record { edit = 0; number = 0 }
+
+-- where a reason lies
+abbrev pub place_of : Reason → Place
+place_of (Edit index error) = record { edit = index; number = level_of error }
+place_of (Journal error) = record { edit = 0; number = offset_of error }
+place_of (Content error) = nowhere
+place_of Closed = nowhere
+place_of Memory = nowhere
+place_of BadSize = nowhere
+place_of NoEdit = nowhere
+place_of NoName = nowhere
+
+-- how a call ended, and where it was refused
+abbrev pub status_of : {X : Type 0} → Result X Reason → ℕ × Place
+status_of (Ok x) = (0, nowhere)
+status_of (Err reason) = (number_of reason, place_of reason)
+
+-- the reason against a group
+abbrev pub group_reason : GroupError → Reason
+group_reason (group.Member index error) = Edit index error
+group_reason group.Memory = Memory

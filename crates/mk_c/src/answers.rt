@@ -1,0 +1,116 @@
+//! The calls that answer bytes. The answer stays in the handle until the next one: its size is asked for first, and then it
+//! is copied into memory of C's.
+ghost use Rattle.std.specs.Prelude.{◌≡◌};
+ghost use Rattle.mk_c.specs.Calls.{Calls, Copies, IsContentAt, IsJournal, IsListing, IsMemory, IsNameAt, IsText, NoContentAt, NoNameAt, Shows, answer_size};
+
+use crate::handle::Handle;
+use crate::status::{Place, Reason, told};
+use std::alloc::Global;
+
+/// Answers the text as it stands.
+#[unsafe(no_mangle)]
+pub extern "C" fn mk_c_text(alloc: Global, handle: &mut Handle, place: &mut Place) -> u32
+    ensures { Calls (Shows IsText IsMemory) result place.new handle.old.desk handle.new.desk }
+{
+    let Some(mut editor) = handle.take(alloc) else {
+        return told(Err(Reason::Closed), place);
+    };
+    let ended = editor.show_text(alloc);
+    handle.give(editor);
+    told(ended, place)
+}
+
+/// Answers the journal: the steps, and the digest of the text.
+#[unsafe(no_mangle)]
+pub extern "C" fn mk_c_save(alloc: Global, handle: &mut Handle, place: &mut Place) -> u32
+    ensures { Calls (Shows IsJournal IsMemory) result place.new handle.old.desk handle.new.desk }
+{
+    let Some(mut editor) = handle.take(alloc) else {
+        return told(Err(Reason::Closed), place);
+    };
+    let ended = editor.show_journal();
+    handle.give(editor);
+    told(ended, place)
+}
+
+/// Answers the listing of the sections, a line each: path, kind, type, transfer encoding, the offsets in bytes of its start, of
+/// its body and of its end, and how many lines its fields and its body have.
+#[unsafe(no_mangle)]
+pub extern "C" fn mk_c_sections(alloc: Global, handle: &mut Handle, place: &mut Place) -> u32
+    ensures { Calls (Shows IsListing IsMemory) result place.new handle.old.desk handle.new.desk }
+{
+    let Some(mut editor) = handle.take(alloc) else {
+        return told(Err(Reason::Closed), place);
+    };
+    let ended = editor.show_sections(alloc);
+    handle.give(editor);
+    told(ended, place)
+}
+
+/// Answers the content of the section at a path: that of a leaf decoded (RFC 2045, 6), that of another as it stands.
+#[unsafe(no_mangle)]
+pub extern "C" fn mk_c_extract(
+    alloc: Global,
+    handle: &mut Handle,
+    path: &[u32],
+    place: &mut Place,
+) -> u32
+    ensures { Calls (Shows (IsContentAt path.now) (NoContentAt path.now)) result place.new handle.old.desk handle.new.desk }
+{
+    let Some(mut editor) = handle.take(alloc) else {
+        return told(Err(Reason::Closed), place);
+    };
+    let ended = editor.show_content(alloc, path);
+    handle.give(editor);
+    told(ended, place)
+}
+
+/// Answers the name that the fields of the section at a path say, in UTF-8 (RFC 2183, 2.3; RFC 2045, 5.1; RFC 2231).
+#[unsafe(no_mangle)]
+pub extern "C" fn mk_c_name(
+    alloc: Global,
+    handle: &mut Handle,
+    path: &[u32],
+    place: &mut Place,
+) -> u32
+    ensures { Calls (Shows (IsNameAt path.now) (NoNameAt path.now)) result place.new handle.old.desk handle.new.desk }
+{
+    let Some(mut editor) = handle.take(alloc) else {
+        return told(Err(Reason::Closed), place);
+    };
+    let ended = editor.show_name(alloc, path);
+    handle.give(editor);
+    told(ended, place)
+}
+
+/// How many bytes the answer has; 0 where the handle is closed.
+#[unsafe(no_mangle)]
+pub extern "C" fn mk_c_size(alloc: Global, handle: &mut Handle) -> usize
+    ensures size { result ≡ answer_size handle.old.desk }
+    ensures same { handle.new.desk ≡ handle.old.desk }
+{
+    let Some(editor) = handle.take(alloc) else {
+        return 0;
+    };
+    let size = editor.size();
+    handle.give(editor);
+    size
+}
+
+/// Copies the answer into bytes of just its size.
+#[unsafe(no_mangle)]
+pub extern "C" fn mk_c_copy(
+    alloc: Global,
+    handle: &mut Handle,
+    bytes: &mut [u8],
+    place: &mut Place,
+) -> u32
+    ensures { Calls (Copies bytes.old bytes.new) result place.new handle.old.desk handle.new.desk }
+{
+    let Some(editor) = handle.take(alloc) else {
+        return told(Err(Reason::Closed), place);
+    };
+    let ended = editor.copy(bytes);
+    handle.give(editor);
+    told(ended, place)
+}

@@ -1,0 +1,200 @@
+//! What a handle holds.
+ghost use Rattle.std.specs.Prelude.{◌≡◌, ◌+◌, length, Ok};
+ghost use Rattle.mk_decide.specs.Views.{edit_of};
+ghost use Rattle.mk_edit.specs.Histories.{started};
+ghost use Rattle.mk_edit.specs.Saving.{RefusesJournal, loaded};
+ghost use Rattle.mk_decide.specs.Edits.{Undo, Redo};
+ghost use Rattle.mk_c.specs.Desks.{opened};
+ghost use Rattle.mk_c.specs.Calls.{Checks, Copies, Forgets, IsContentAt, IsJournal, IsListing, IsMemory, IsNameAt, IsText, Loads, Makes, NoContentAt, NoNameAt, Obeys, PutsDown, Shows, Starts};
+
+use crate::status::Reason;
+use mk_edit::{Edit, Session};
+use mk_line::Meter;
+use mk_view::{ExtractError, extract, list, text_name};
+use std::alloc::Global;
+use std::marker::Model;
+
+/// A message under edit, the edits that were put down for the next call, and the bytes of the last answer.
+#[derive(Drop)]
+pub(crate) struct Editor {
+    session: Session,
+    pending: Vec<Edit>,
+    answer: Vec<u8>,
+}
+
+impl Model for Editor {
+    ghost use Rattle.mk_c.specs.Desks.{Desk};
+
+    ghost Value = { Desk };
+
+    ghost view = { λ e. record { history = e.session; pending = e.pending.items; answer = e.answer.items } };
+}
+
+impl Editor {
+    /// Begins with a message.
+    pub(crate) fn start(alloc: Global, text: &[u8]) -> Result<Editor, Reason>
+        ensures { Starts text.now result }
+    {
+        let text = Vec::from_slice(alloc, text)?;
+        match Session::start(alloc, text) {
+            Ok(session) => Ok(Editor::of(alloc, session)),
+            Err(_) => Err(Reason::Memory),
+        }
+    }
+
+    /// Begins with a message and its journal.
+    pub(crate) fn load(alloc: Global, text: &[u8], journal: &[u8]) -> Result<Editor, Reason>
+        ensures { Loads text.now journal.now result }
+    {
+        let text = Vec::from_slice(alloc, text)?;
+        match Session::load(alloc, text, journal) {
+            Ok(session) => Ok(Editor::of(alloc, session)),
+            Err((_, error)) => Err(Reason::Journal(error)),
+        }
+    }
+
+    fn of(alloc: Global, session: Session) -> Editor
+        ensures { result ≡ opened session }
+    {
+        Editor {
+            session,
+            pending: Vec::new(alloc),
+            answer: Vec::new(alloc),
+        }
+    }
+
+    /// Puts an edit down after the others.
+    pub(crate) fn put_down(&mut self, edit: Edit) -> Result<(), Reason>
+        ensures { PutsDown (edit_of edit) result self.old self.new }
+    {
+        match self.pending.push(edit) {
+            Ok(()) => Ok(()),
+            Err(_) => Err(Reason::Memory),
+        }
+    }
+
+    /// Forgets the edits that were put down.
+    pub(crate) fn forget(&mut self)
+        ensures { Forgets (Ok tt) self.old self.new }
+    {
+        self.pending.clear();
+    }
+
+    /// What the first edit that was put down would answer, short of memory. None is made, and all are forgotten.
+    pub(crate) fn check(&mut self) -> Result<(), Reason>
+        ensures { Checks result self.old self.new }
+    {
+        let checked = match self.pending.first() {
+            Some(edit) => match self.session.check(edit, &mut Meter::new()) {
+                Ok(()) => Ok(()),
+                Err(error) => Err(Reason::from(error)),
+            },
+            None => Err(Reason::NoEdit),
+        };
+        self.pending.clear();
+        checked
+    }
+
+    /// Makes the edits that were put down as one step, all or none, and forgets them.
+    pub(crate) fn make(&mut self) -> Result<(), Reason>
+        ensures { Makes result self.old self.new }
+    {
+        let made = match self.session.group(&self.pending, &mut Meter::new()) {
+            Ok(()) => Ok(()),
+            Err(error) => Err(Reason::from(error)),
+        };
+        self.pending.clear();
+        made
+    }
+
+    /// Takes the last step back.
+    pub(crate) fn undo(&mut self) -> Result<(), Reason>
+        ensures { Obeys Undo result self.old self.new }
+    {
+        self.session.undo()?;
+        Ok(())
+    }
+
+    /// Makes the step that was taken back last again.
+    pub(crate) fn redo(&mut self) -> Result<(), Reason>
+        ensures { Obeys Redo result self.old self.new }
+    {
+        self.session.redo()?;
+        Ok(())
+    }
+
+    /// How many steps are done, and how many undone.
+    pub(crate) fn counts(&self) -> (usize, usize)
+        ensures done { result.0 ≡ self.now.history.place }
+        ensures undone { result.0 + result.1 ≡ length self.now.history.steps }
+    {
+        (self.session.done(), self.session.undone())
+    }
+
+    /// Answers the text as it stands.
+    pub(crate) fn show_text(&mut self, alloc: Global) -> Result<(), Reason>
+        ensures { Shows IsText IsMemory result self.old self.new }
+    {
+        self.answer = Vec::from_slice(alloc, self.session.text())?;
+        Ok(())
+    }
+
+    /// Answers the journal.
+    pub(crate) fn show_journal(&mut self) -> Result<(), Reason>
+        ensures { Shows IsJournal IsMemory result self.old self.new }
+    {
+        self.answer = self.session.save()?;
+        Ok(())
+    }
+
+    /// Answers the listing of the sections.
+    pub(crate) fn show_sections(&mut self, alloc: Global) -> Result<(), Reason>
+        ensures { Shows IsListing IsMemory result self.old self.new }
+    {
+        self.answer = list(alloc, self.session.doc())?;
+        Ok(())
+    }
+
+    /// Answers the content of the section at a path.
+    pub(crate) fn show_content(&mut self, alloc: Global, path: &[u32]) -> Result<(), Reason>
+        ensures { Shows (IsContentAt path.now) (NoContentAt path.now) result self.old self.new }
+    {
+        self.answer = extract(alloc, self.session.doc(), path)?;
+        Ok(())
+    }
+
+    /// Answers the text that the fields of the section at a path say as its name.
+    pub(crate) fn show_name(&mut self, alloc: Global, path: &[u32]) -> Result<(), Reason>
+        ensures { Shows (IsNameAt path.now) (NoNameAt path.now) result self.old self.new }
+    {
+        let name = match self.session.doc().section(path) {
+            Some(section) => text_name(alloc, &section)?,
+            None => return Err(Reason::Content(ExtractError::NoSuchSection)),
+        };
+        match name {
+            Some(name) => {
+                self.answer = name.into_bytes();
+                Ok(())
+            }
+            None => Err(Reason::NoName),
+        }
+    }
+
+    /// How many bytes the answer has.
+    pub(crate) fn size(&self) -> usize
+        ensures { result ≡ length self.now.answer }
+    {
+        self.answer.len()
+    }
+
+    /// Copies the answer into bytes of its size.
+    pub(crate) fn copy(&self, bytes: &mut [u8]) -> Result<(), Reason>
+        ensures { Copies bytes.old bytes.new result self.now self.now }
+    {
+        if bytes.len() != self.answer.len() {
+            return Err(Reason::BadSize);
+        }
+        bytes.copy_from_slice(&self.answer);
+        Ok(())
+    }
+}
