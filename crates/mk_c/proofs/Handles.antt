@@ -28,8 +28,8 @@ use Rattle.std.proofs.alloc.Global.TheLaws as heap_laws
 use Rattle.mk_c.specs.Desks.{Desk}
 use Rattle.mk_c.specs.contracts.editor.Editor as editor
 use Rattle.mk_c.specs.contracts.handle.Handle as handle
-use Rattle.mk_c.specs.Owned as Owned
-use Rattle.mk_c.specs.Owned.{block_owns, handle_owns}
+use Rattle.mk_c.specs.inner.Owned as Owned
+use Rattle.mk_c.specs.inner.Owned.{block_owns, handle_owns}
 
 -- the heap's handle, as it is passed to generic code
 abbrev pub heap_row : RattleType

@@ -1,5 +1,5 @@
 -- What the calls of C do (own): each is a step of mk_edit or a view of mk_view, or says why not.
-use Rattle.std.specs.Prelude.{◌≡◌, ◌⊎◌, ◌≢◌, ◌+◌, ◌++◌, ℕ, Option, Some, None, Result, Ok, Err, List, [], ◌∷◌, length}
+use Rattle.std.specs.Prelude.{◌≡◌, ◌≢◌, ◌+◌, ◌++◌, ℕ, Option, Some, None, Result, Ok, Err, List, [], ◌∷◌, length}
 use Rattle.mk_tree.specs.Documents.{tree}
 use Rattle.mk_tree.specs.Sections.{Placed, section_at}
 use Rattle.mk_decide.specs.declared.edits.Edit.{Edit as HeldEdit}
@@ -18,7 +18,7 @@ use Rattle.mk_c.specs.declared.status.Place.{Place}
 use Rattle.mk_c.specs.declared.status.Reason.{Reason}
 use Rattle.mk_c.specs.declared.status.Reason.TheVariants.{Closed, Memory, BadSize, NoEdit, NoName, Edit, Journal, Content}
 use Rattle.mk_c.specs.Desks.{Desk, opened, put_down}
-use Rattle.mk_c.specs.Statuses.{status_of}
+use Rattle.mk_c.specs.Statuses.{status_and_place}
 
 -- how a call ends
 abbrev pub Ending : Type 0
@@ -26,34 +26,29 @@ Ending = Result (Unit {0}) Reason
 
 -- a call with a handle: a closed one stays closed; an open one stays open, the status is how the call ends, and that is as it should be
 abbrev pub Calls : (Ending → Desk → Desk → Type 0) → ℕ → Place → Option Desk → Option Desk → Type 0
-Calls Does status place None new = ((status, place) ≡ status_of {X = Unit {0}} (Err Closed)) × (new ≡ None)
+Calls Does status place None new = ((status, place) ≡ status_and_place {X = Unit {0}} (Err Closed)) × (new ≡ None)
 Calls Does status place (Some old) None = ⊥
-Calls Does status place (Some old) (Some new) = (ending : Ending) × ((status, place) ≡ status_of ending) × Does ending old new
+Calls Does status place (Some old) (Some new) = (ending : Ending) × ((status, place) ≡ status_and_place ending) × Does ending old new
 
 -- an edit is put down after the others, or memory ran out
 abbrev pub PutsDown : PlainEdit → Ending → Desk → Desk → Type 0
 PutsDown e (Ok x) old new = (new.history ≡ old.history) × (put_down new ≡ put_down old ++ e ∷ []) × (new.answer ≡ old.answer)
 PutsDown e (Err reason) old new = (reason ≡ Memory) × (new ≡ old)
 
--- the same of an edit that may not have been made
-abbrev pub PutsDownMade : {X : Type 0} → Result HeldEdit X → Ending → Desk → Desk → Type 0
-PutsDownMade (Ok e) ending old new = PutsDown (edit_of e) ending old new
-PutsDownMade (Err x) ending old new = (ending ≡ Err Memory) × (new ≡ old)
-
 -- nothing is put down any more
 abbrev pub Forgets : Ending → Desk → Desk → Type 0
 Forgets ending old new = (ending ≡ Ok tt) × (new ≡ record old { pending = [] })
 
 -- a reason is the one that is defined; running out of memory is none
-abbrev pub IsReason : {X : Type 0} → Reason → Result X Refusal → Type 0
-IsReason (Edit index error) defined = (index ≡ 0) × IsRefusedBy (refusal_of error) defined
-IsReason Memory defined = Unit {0}
-IsReason Closed defined = ⊥
-IsReason BadSize defined = ⊥
-IsReason NoEdit defined = ⊥
-IsReason NoName defined = ⊥
-IsReason (Journal error) defined = ⊥
-IsReason (Content error) defined = ⊥
+abbrev pub IsReasonAgainst : {X : Type 0} → Reason → Result X Refusal → Type 0
+IsReasonAgainst (Edit index error) defined = (index ≡ 0) × IsRefusedBy (refusal_of error) defined
+IsReasonAgainst Memory defined = Unit {0}
+IsReasonAgainst Closed defined = ⊥
+IsReasonAgainst BadSize defined = ⊥
+IsReasonAgainst NoEdit defined = ⊥
+IsReasonAgainst NoName defined = ⊥
+IsReasonAgainst (Journal error) defined = ⊥
+IsReasonAgainst (Content error) defined = ⊥
 
 -- the same of a group, with the edit that is refused
 abbrev pub IsGroupReason : {X : Type 0} → Reason → Result X Refusal → Type 0
@@ -69,27 +64,27 @@ IsGroupReason (Content error) defined = ⊥
 -- an undo or a redo does what is defined; refused, it changes nothing
 abbrev pub Obeys : Order → Ending → Desk → Desk → Type 0
 Obeys order (Ok x) old new = (step order old.history ≡ Ok new.history) × (new ≡ record old { history = new.history })
-Obeys order (Err reason) old new = (new ≡ old) × IsReason reason (step order old.history)
+Obeys order (Err reason) old new = (new ≡ old) × IsReasonAgainst reason (step order old.history)
 
 -- the edits that were put down are made as one step, all or none
-abbrev pub Makes : Ending → Desk → Desk → Type 0
-Makes (Ok x) old new = (step (Group (put_down old)) old.history ≡ Ok new.history) × (new ≡ record old { history = new.history; pending = [] })
-Makes (Err reason) old new = (new ≡ record old { pending = [] }) × IsGroupReason reason (step (Group (put_down old)) old.history)
+abbrev pub MakesPutDown : Ending → Desk → Desk → Type 0
+MakesPutDown (Ok x) old new = (step (Group (put_down old)) old.history ≡ Ok new.history) × (new ≡ record old { history = new.history; pending = [] })
+MakesPutDown (Err reason) old new = (new ≡ record old { pending = [] }) × IsGroupReason reason (step (Group (put_down old)) old.history)
 
 -- what an edit would answer; there has to be one
 abbrev pub IsChecked : List HeldEdit → List ℕ → Ending → Type 0
 IsChecked [] text ending = ending ≡ Err NoEdit
 IsChecked (e ∷ others) text (Ok x) = IsAccepted (edited (edit_of e) (tree text))
-IsChecked (e ∷ others) text (Err reason) = IsReason reason (edited (edit_of e) (tree text))
+IsChecked (e ∷ others) text (Err reason) = IsReasonAgainst reason (edited (edit_of e) (tree text))
 
 -- the first of the edits that were put down is checked, and none is made
 abbrev pub Checks : Ending → Desk → Desk → Type 0
 Checks ending old new = IsChecked old.pending (text_now old.history) ending × (new ≡ record old { pending = [] })
 
 -- an answer that is as it should be; a call that is refused leaves the answer before
-abbrev pub Shows : (Desk → List ℕ → Type 0) → (Desk → Reason → Type 0) → Ending → Desk → Desk → Type 0
-Shows Is Refuses (Ok x) old new = Is old new.answer × (new ≡ record old { answer = new.answer })
-Shows Is Refuses (Err reason) old new = Refuses old reason × (new ≡ old)
+abbrev pub AnswersWith : (Desk → List ℕ → Type 0) → (Desk → Reason → Type 0) → Ending → Desk → Desk → Type 0
+AnswersWith Is Refuses (Ok x) old new = Is old new.answer × (new ≡ record old { answer = new.answer })
+AnswersWith Is Refuses (Err reason) old new = Refuses old reason × (new ≡ old)
 
 -- only memory can be missing
 abbrev pub IsMemory : Desk → Reason → Type 0
@@ -100,8 +95,8 @@ abbrev pub IsText : Desk → List ℕ → Type 0
 IsText d answer = answer ≡ text_now d.history
 
 -- the journal
-abbrev pub IsJournal : Desk → List ℕ → Type 0
-IsJournal d answer = answer ≡ saved d.history
+abbrev pub IsSavedJournal : Desk → List ℕ → Type 0
+IsSavedJournal d answer = answer ≡ saved d.history
 
 -- the listing of the sections
 abbrev pub IsListing : Desk → List ℕ → Type 0
@@ -155,25 +150,21 @@ Loads text journal (Err NoEdit) = ⊥
 Loads text journal (Err NoName) = ⊥
 
 -- what a handle holds after a call that opens it
-abbrev pub held : Result Desk Reason → Option Desk
-held (Ok d) = Some d
-held (Err reason) = None
-
--- how a call ends that opens a handle with what was begun, where there is memory for it
-abbrev pub OpensWith : Result Desk Reason → ℕ → Place → Option Desk → Type 0
-OpensWith begun status place new = (ending : Result Desk Reason) × ((status, place) ≡ status_of ending) × (new ≡ held ending) × ((ending ≡ begun) ⊎ (ending ≡ Err Memory))
+abbrev pub held_by : Result Desk Reason → Option Desk
+held_by (Ok d) = Some d
+held_by (Err reason) = None
 
 -- a call that opens a handle
 abbrev pub Opens : (Result Desk Reason → Type 0) → ℕ → Place → Option Desk → Type 0
-Opens Does status place new = (ending : Result Desk Reason) × ((status, place) ≡ status_of ending) × (new ≡ held ending) × Does ending
+Opens Does status place new = (ending : Result Desk Reason) × ((status, place) ≡ status_and_place ending) × (new ≡ held_by ending) × Does ending
 
 -- how many steps are done, and how many undone
-abbrev pub Counts : ℕ → ℕ → Ending → Desk → Desk → Type 0
-Counts done undone ending old new = (ending ≡ Ok tt) × (new ≡ old) × (done ≡ old.history.place) × (done + undone ≡ length old.history.steps)
+abbrev pub CountsSteps : ℕ → ℕ → Ending → Desk → Desk → Type 0
+CountsSteps done undone ending old new = (ending ≡ Ok tt) × (new ≡ old) × (done ≡ old.history.place) × (done + undone ≡ length old.history.steps)
 
--- the bytes of the answer, where as many are wanted
+-- the bytes of the answer, where as many are wanted; it is let go then
 abbrev pub Copies : List ℕ → List ℕ → Ending → Desk → Desk → Type 0
-Copies before after (Ok x) old new = (after ≡ old.answer) × (new ≡ old)
+Copies before after (Ok x) old new = (after ≡ old.answer) × (new ≡ record old { answer = [] })
 Copies before after (Err reason) old new = (reason ≡ BadSize) × (length before ≢ length old.answer) × (after ≡ before) × (new ≡ old)
 
 -- how many bytes the answer has

@@ -1,4 +1,4 @@
-pub mod Owned
 pub mod Desks
 pub mod Statuses
 pub mod Calls
+pub mod inner

@@ -2,8 +2,6 @@
 use Rattle.std.specs.Prelude.{ℕ, Result, Ok, Err}
 use Rattle.mk_decide.specs.declared.errors.EditError.{EditError}
 use Rattle.mk_decide.specs.declared.errors.EditError.TheVariants as edit
-use Rattle.mk_edit.specs.declared.errors.GroupError.{GroupError}
-use Rattle.mk_edit.specs.declared.errors.GroupError.TheVariants as group
 use Rattle.mk_edit.specs.declared.errors.LoadError.{LoadError}
 use Rattle.mk_edit.specs.declared.errors.LoadError.TheVariants as load
 use Rattle.mk_view.specs.declared.extracting.ExtractError.{ExtractError}
@@ -46,15 +44,15 @@ content_number extract.BadBase64 = 40
 content_number extract.UnknownEncoding = 41
 
 -- the number of a reason
-abbrev pub number_of : Reason → ℕ
-number_of Closed = 1
-number_of Memory = 2
-number_of BadSize = 3
-number_of NoEdit = 4
-number_of NoName = 5
-number_of (Edit index error) = edit_number error
-number_of (Journal error) = journal_number error
-number_of (Content error) = content_number error
+abbrev pub reason_number : Reason → ℕ
+reason_number Closed = 1
+reason_number Memory = 2
+reason_number BadSize = 3
+reason_number NoEdit = 4
+reason_number NoName = 5
+reason_number (Edit index error) = edit_number error
+reason_number (Journal error) = journal_number error
+reason_number (Content error) = content_number error
 
 -- how many numbers the path of the multipart has whose boundary a line holds
 abbrev pub level_of : EditError → ℕ
@@ -87,22 +85,17 @@ abbrev pub nowhere : Place
 nowhere = record { edit = 0; number = 0 }
 
 -- where a reason lies
-abbrev pub place_of : Reason → Place
-place_of (Edit index error) = record { edit = index; number = level_of error }
-place_of (Journal error) = record { edit = 0; number = offset_of error }
-place_of (Content error) = nowhere
-place_of Closed = nowhere
-place_of Memory = nowhere
-place_of BadSize = nowhere
-place_of NoEdit = nowhere
-place_of NoName = nowhere
+abbrev pub reason_place : Reason → Place
+reason_place (Edit index error) = record { edit = index; number = level_of error }
+reason_place (Journal error) = record { edit = 0; number = offset_of error }
+reason_place (Content error) = nowhere
+reason_place Closed = nowhere
+reason_place Memory = nowhere
+reason_place BadSize = nowhere
+reason_place NoEdit = nowhere
+reason_place NoName = nowhere
 
 -- how a call ended, and where it was refused
-abbrev pub status_of : {X : Type 0} → Result X Reason → ℕ × Place
-status_of (Ok x) = (0, nowhere)
-status_of (Err reason) = (number_of reason, place_of reason)
-
--- the reason against a group
-abbrev pub group_reason : GroupError → Reason
-group_reason (group.Member index error) = Edit index error
-group_reason group.Memory = Memory
+abbrev pub status_and_place : {X : Type 0} → Result X Reason → ℕ × Place
+status_and_place (Ok x) = (0, nowhere)
+status_and_place (Err reason) = (reason_number reason, reason_place reason)

@@ -1,7 +1,7 @@
-//! The calls that answer bytes. The answer stays in the handle until the next one: its size is asked for first, and then it
-//! is copied into memory of C's.
+//! The calls that answer bytes. The answer stays in the handle: its size is asked for first, and then it
+//! is copied into memory of C's, and let go.
 ghost use Rattle.std.specs.Prelude.{◌≡◌};
-ghost use Rattle.mk_c.specs.Calls.{Calls, Copies, IsContentAt, IsJournal, IsListing, IsMemory, IsNameAt, IsText, NoContentAt, NoNameAt, Shows, answer_size};
+ghost use Rattle.mk_c.specs.Calls.{Calls, Copies, IsContentAt, IsSavedJournal, IsListing, IsMemory, IsNameAt, IsText, NoContentAt, NoNameAt, AnswersWith, answer_size};
 
 use crate::handle::Handle;
 use crate::status::{Place, Reason, told};
@@ -10,7 +10,7 @@ use std::alloc::Global;
 /// Answers the text as it stands.
 #[unsafe(no_mangle)]
 pub extern "C" fn mk_c_text(alloc: Global, handle: &mut Handle, place: &mut Place) -> u32
-    ensures { Calls (Shows IsText IsMemory) result place.new handle.old.desk handle.new.desk }
+    ensures { Calls (AnswersWith IsText IsMemory) result place.new handle.old.desk handle.new.desk }
 {
     let Some(mut editor) = handle.take(alloc) else {
         return told(Err(Reason::Closed), place);
@@ -23,7 +23,7 @@ pub extern "C" fn mk_c_text(alloc: Global, handle: &mut Handle, place: &mut Plac
 /// Answers the journal: the steps, and the digest of the text.
 #[unsafe(no_mangle)]
 pub extern "C" fn mk_c_save(alloc: Global, handle: &mut Handle, place: &mut Place) -> u32
-    ensures { Calls (Shows IsJournal IsMemory) result place.new handle.old.desk handle.new.desk }
+    ensures { Calls (AnswersWith IsSavedJournal IsMemory) result place.new handle.old.desk handle.new.desk }
 {
     let Some(mut editor) = handle.take(alloc) else {
         return told(Err(Reason::Closed), place);
@@ -37,7 +37,7 @@ pub extern "C" fn mk_c_save(alloc: Global, handle: &mut Handle, place: &mut Plac
 /// its body and of its end, and how many lines its fields and its body have.
 #[unsafe(no_mangle)]
 pub extern "C" fn mk_c_sections(alloc: Global, handle: &mut Handle, place: &mut Place) -> u32
-    ensures { Calls (Shows IsListing IsMemory) result place.new handle.old.desk handle.new.desk }
+    ensures { Calls (AnswersWith IsListing IsMemory) result place.new handle.old.desk handle.new.desk }
 {
     let Some(mut editor) = handle.take(alloc) else {
         return told(Err(Reason::Closed), place);
@@ -55,7 +55,7 @@ pub extern "C" fn mk_c_extract(
     path: &[u32],
     place: &mut Place,
 ) -> u32
-    ensures { Calls (Shows (IsContentAt path.now) (NoContentAt path.now)) result place.new handle.old.desk handle.new.desk }
+    ensures { Calls (AnswersWith (IsContentAt path.now) (NoContentAt path.now)) result place.new handle.old.desk handle.new.desk }
 {
     let Some(mut editor) = handle.take(alloc) else {
         return told(Err(Reason::Closed), place);
@@ -73,7 +73,7 @@ pub extern "C" fn mk_c_name(
     path: &[u32],
     place: &mut Place,
 ) -> u32
-    ensures { Calls (Shows (IsNameAt path.now) (NoNameAt path.now)) result place.new handle.old.desk handle.new.desk }
+    ensures { Calls (AnswersWith (IsNameAt path.now) (NoNameAt path.now)) result place.new handle.old.desk handle.new.desk }
 {
     let Some(mut editor) = handle.take(alloc) else {
         return told(Err(Reason::Closed), place);
@@ -97,7 +97,7 @@ pub extern "C" fn mk_c_size(alloc: Global, handle: &mut Handle) -> usize
     size
 }
 
-/// Copies the answer into bytes of just its size.
+/// Copies the answer into bytes of just its size, and lets it go.
 #[unsafe(no_mangle)]
 pub extern "C" fn mk_c_copy(
     alloc: Global,
@@ -107,10 +107,10 @@ pub extern "C" fn mk_c_copy(
 ) -> u32
     ensures { Calls (Copies bytes.old bytes.new) result place.new handle.old.desk handle.new.desk }
 {
-    let Some(editor) = handle.take(alloc) else {
+    let Some(mut editor) = handle.take(alloc) else {
         return told(Err(Reason::Closed), place);
     };
-    let ended = editor.copy(bytes);
+    let ended = editor.copy(alloc, bytes);
     handle.give(editor);
     told(ended, place)
 }

@@ -5,7 +5,7 @@ ghost use Rattle.mk_edit.specs.Histories.{started};
 ghost use Rattle.mk_edit.specs.Saving.{RefusesJournal, loaded};
 ghost use Rattle.mk_decide.specs.Edits.{Undo, Redo};
 ghost use Rattle.mk_c.specs.Desks.{opened};
-ghost use Rattle.mk_c.specs.Calls.{Checks, Copies, Forgets, IsContentAt, IsJournal, IsListing, IsMemory, IsNameAt, IsText, Loads, Makes, NoContentAt, NoNameAt, Obeys, PutsDown, Shows, Starts};
+ghost use Rattle.mk_c.specs.Calls.{Checks, Copies, Forgets, IsContentAt, IsSavedJournal, IsListing, IsMemory, IsNameAt, IsText, Loads, MakesPutDown, NoContentAt, NoNameAt, Obeys, PutsDown, AnswersWith, Starts};
 
 use crate::status::Reason;
 use mk_edit::{Edit, Session};
@@ -97,7 +97,7 @@ impl Editor {
 
     /// Makes the edits that were put down as one step, all or none, and forgets them.
     pub(crate) fn make(&mut self) -> Result<(), Reason>
-        ensures { Makes result self.old self.new }
+        ensures { MakesPutDown result self.old self.new }
     {
         let made = match self.session.group(&self.pending, &mut Meter::new()) {
             Ok(()) => Ok(()),
@@ -133,7 +133,7 @@ impl Editor {
 
     /// Answers the text as it stands.
     pub(crate) fn show_text(&mut self, alloc: Global) -> Result<(), Reason>
-        ensures { Shows IsText IsMemory result self.old self.new }
+        ensures { AnswersWith IsText IsMemory result self.old self.new }
     {
         self.answer = Vec::from_slice(alloc, self.session.text())?;
         Ok(())
@@ -141,7 +141,7 @@ impl Editor {
 
     /// Answers the journal.
     pub(crate) fn show_journal(&mut self) -> Result<(), Reason>
-        ensures { Shows IsJournal IsMemory result self.old self.new }
+        ensures { AnswersWith IsSavedJournal IsMemory result self.old self.new }
     {
         self.answer = self.session.save()?;
         Ok(())
@@ -149,7 +149,7 @@ impl Editor {
 
     /// Answers the listing of the sections.
     pub(crate) fn show_sections(&mut self, alloc: Global) -> Result<(), Reason>
-        ensures { Shows IsListing IsMemory result self.old self.new }
+        ensures { AnswersWith IsListing IsMemory result self.old self.new }
     {
         self.answer = list(alloc, self.session.doc())?;
         Ok(())
@@ -157,7 +157,7 @@ impl Editor {
 
     /// Answers the content of the section at a path.
     pub(crate) fn show_content(&mut self, alloc: Global, path: &[u32]) -> Result<(), Reason>
-        ensures { Shows (IsContentAt path.now) (NoContentAt path.now) result self.old self.new }
+        ensures { AnswersWith (IsContentAt path.now) (NoContentAt path.now) result self.old self.new }
     {
         self.answer = extract(alloc, self.session.doc(), path)?;
         Ok(())
@@ -165,7 +165,7 @@ impl Editor {
 
     /// Answers the text that the fields of the section at a path say as its name.
     pub(crate) fn show_name(&mut self, alloc: Global, path: &[u32]) -> Result<(), Reason>
-        ensures { Shows (IsNameAt path.now) (NoNameAt path.now) result self.old self.new }
+        ensures { AnswersWith (IsNameAt path.now) (NoNameAt path.now) result self.old self.new }
     {
         let name = match self.session.doc().section(path) {
             Some(section) => text_name(alloc, &section)?,
@@ -187,14 +187,15 @@ impl Editor {
         self.answer.len()
     }
 
-    /// Copies the answer into bytes of its size.
-    pub(crate) fn copy(&self, bytes: &mut [u8]) -> Result<(), Reason>
-        ensures { Copies bytes.old bytes.new result self.now self.now }
+    /// Copies the answer into bytes of its size, and lets it go.
+    pub(crate) fn copy(&mut self, alloc: Global, bytes: &mut [u8]) -> Result<(), Reason>
+        ensures { Copies bytes.old bytes.new result self.old self.new }
     {
         if bytes.len() != self.answer.len() {
             return Err(Reason::BadSize);
         }
         bytes.copy_from_slice(&self.answer);
+        self.answer = Vec::new(alloc);
         Ok(())
     }
 }

@@ -3,7 +3,8 @@
 ghost use Rattle.std.specs.Prelude.{◌≡◌, IfErr, IfOk};
 ghost use Rattle.mk_decide.specs.Edits.{AddField, InsertPart, RemoveField, RemovePart, RenameField, SetBody, SetField, SetSection, Wrap};
 ghost use Rattle.mk_decide.specs.Views.{edit_of};
-ghost use Rattle.mk_c.specs.Calls.{Calls, PutsDown, PutsDownMade};
+ghost use Rattle.mk_c.specs.Calls.{Calls, PutsDown};
+ghost use Rattle.mk_c.specs.inner.Steps.{PutsDownMade};
 
 use crate::handle::Handle;
 use crate::status::{Place, Reason, told};

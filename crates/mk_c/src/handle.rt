@@ -14,7 +14,7 @@ pub(crate) struct Loose<T> {
 }
 
 impl<T> Model for Loose<T> {
-    ghost use Rattle.mk_c.specs.Owned.{block_owns};
+    ghost use Rattle.mk_c.specs.inner.Owned.{block_owns};
 
     ghost also_owns = { λ l. block_owns T.row l.at l.value };
 }
@@ -46,7 +46,7 @@ pub struct Handle {
 }
 
 impl Model for Handle {
-    ghost use Rattle.mk_c.specs.Owned.{handle_owns};
+    ghost use Rattle.mk_c.specs.inner.Owned.{handle_owns};
     ghost use Rattle.mk_c.specs.contracts.editor.Editor.{the_row};
 
     ghost also_owns = { λ h. handle_owns the_row h.used h.at h.desk };

@@ -7,7 +7,7 @@
 //! mk_c_add_field(alloc, &mut handle, &[1], false, b"C: d\n", &mut place);
 //! mk_c_make(alloc, &mut handle, &mut place);
 //! mk_c_text(alloc, &mut handle, &mut place);
-//! assert_eq!(rt; mk_c_size(alloc, &mut handle), 16usize - 2);
+//! assert_eq!(rt; mk_c_size(alloc, &mut handle), 13usize);
 //! mk_c_close(alloc, &mut handle);
 //! ```
 //!
@@ -35,5 +35,5 @@ pub use edits::{
 };
 pub use handle::Handle;
 pub use opening::{mk_c_close, mk_c_load, mk_c_start};
-pub use status::{Place, Reason};
+pub use status::Place;
 pub use steps::{mk_c_check, mk_c_counts, mk_c_forget, mk_c_make, mk_c_redo, mk_c_undo};

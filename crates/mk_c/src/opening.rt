@@ -1,6 +1,7 @@
 //! The calls that open a handle and close it.
 ghost use Rattle.std.specs.Prelude.{◌≡◌, None};
-ghost use Rattle.mk_c.specs.Calls.{Loads, Opens, OpensWith, Starts};
+ghost use Rattle.mk_c.specs.Calls.{Loads, Opens, Starts};
+ghost use Rattle.mk_c.specs.inner.Steps.{OpensWith};
 
 use crate::editor::Editor;
 use crate::handle::Handle;

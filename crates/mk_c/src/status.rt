@@ -1,6 +1,7 @@
 //! How a call ended, as numbers.
 ghost use Rattle.std.specs.Prelude.{◌≡◌};
-ghost use Rattle.mk_c.specs.Statuses.{content_number, edit_number, group_reason, journal_number, level_of, number_of, offset_of, place_of, status_of};
+ghost use Rattle.mk_c.specs.Statuses.{content_number, edit_number, journal_number, level_of, reason_number, offset_of, reason_place, status_and_place};
+ghost use Rattle.mk_c.specs.inner.Steps.{group_reason};
 ghost use Rattle.mk_c.specs.declared.status.Reason.TheVariants as reason;
 
 use mk_edit::{EditError, GroupError, LoadError};
@@ -43,7 +44,7 @@ pub struct Place {
 
 impl Reason {
     fn number(self) -> u32
-        ensures { result ≡ number_of self }
+        ensures { result ≡ reason_number self }
     {
         match self {
             Reason::Closed => 1,
@@ -58,7 +59,7 @@ impl Reason {
     }
 
     fn place(self) -> Place
-        ensures { result ≡ place_of self }
+        ensures { result ≡ reason_place self }
     {
         match self {
             Reason::Edit { index, error } => Place {
@@ -140,8 +141,8 @@ fn offset(error: LoadError) -> usize
 
 /// The number of how a call ended, and where.
 pub(crate) fn told(ended: Result<(), Reason>, place: &mut Place) -> u32
-    ensures status { result ≡ (status_of ended).0 }
-    ensures place { place.new ≡ (status_of ended).1 }
+    ensures status { result ≡ (status_and_place ended).0 }
+    ensures place { place.new ≡ (status_and_place ended).1 }
 {
     match ended {
         Ok(()) => {

@@ -1,7 +1,7 @@
 //! What is done with the edits that were put down, and with the steps that were made.
 ghost use Rattle.std.specs.Prelude.{◌≡◌};
 ghost use Rattle.mk_decide.specs.Edits.{Redo, Undo};
-ghost use Rattle.mk_c.specs.Calls.{Calls, Checks, Counts, Forgets, Makes, Obeys};
+ghost use Rattle.mk_c.specs.Calls.{Calls, Checks, CountsSteps, Forgets, MakesPutDown, Obeys};
 
 use crate::handle::Handle;
 use crate::status::{Place, Reason, told};
@@ -36,7 +36,7 @@ pub extern "C" fn mk_c_check(alloc: Global, handle: &mut Handle, place: &mut Pla
 /// Makes the edits that were put down as one step, all or none, and forgets them. Where one is refused, `place.edit` says which.
 #[unsafe(no_mangle)]
 pub extern "C" fn mk_c_make(alloc: Global, handle: &mut Handle, place: &mut Place) -> u32
-    ensures { Calls Makes result place.new handle.old.desk handle.new.desk }
+    ensures { Calls MakesPutDown result place.new handle.old.desk handle.new.desk }
 {
     let Some(mut editor) = handle.take(alloc) else {
         return told(Err(Reason::Closed), place);
@@ -81,7 +81,7 @@ pub extern "C" fn mk_c_counts(
     undone: &mut usize,
     place: &mut Place,
 ) -> u32
-    ensures { Calls (Counts done.new undone.new) result place.new handle.old.desk handle.new.desk }
+    ensures { Calls (CountsSteps done.new undone.new) result place.new handle.old.desk handle.new.desk }
 {
     let Some(editor) = handle.take(alloc) else {
         return told(Err(Reason::Closed), place);

@@ -23,7 +23,7 @@ use Rattle.std.specs.Prelude.{Some}
 use Rattle.std.specs.contracts.impls.GlobalAllocator.TheImpl as heap_impl
 use Rattle.std.proofs.alloc.Calls.{Goes-blank}
 use Rattle.std.proofs.raw_atomic.Walks.{proved_at, leaves}
-use Rattle.mk_c.specs.Owned.{block_owns, heap}
+use Rattle.mk_c.specs.inner.Owned.{block_owns, heap}
 use Rattle.mk_c.specs.contracts.editor.Editor as editor
 use Rattle.mk_c.specs.contracts.handle.Loose as loose
 use Rattle.mk_c.specs.contracts.handle.Handle as handle

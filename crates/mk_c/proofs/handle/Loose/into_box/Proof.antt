@@ -46,7 +46,7 @@ use Rattle.std.proofs.impls.GlobalAllocator.TheImpl.Met as heap_met
 use Rattle.std.proofs.alloc.Global.TheLaws as heap_laws
 use Rattle.mk_c.proofs.Destruct++none.drop.Symbol as nothing_drop
 use Rattle.mk_c.specs.contracts.handle.Loose as loose
-use Rattle.mk_c.specs.Owned.{block_owns}
+use Rattle.mk_c.specs.inner.Owned.{block_owns}
 use Rattle.mk_c.proofs.Handles.{heap_row, heap_drop, heap_al}
 use denote.Param.{param, bounded}
 use mir.Syntax.{a_type, dcons}

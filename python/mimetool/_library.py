@@ -1,0 +1,109 @@
+"""The shared library: where it is found, and its calls as mimetool.h declares them."""
+
+import ctypes
+import ctypes.util
+import os
+import struct
+from ctypes import POINTER, c_bool, c_char, c_char_p, c_int, c_size_t, c_uint32, c_void_p
+from typing import Tuple
+
+# The version of the library that this module was written for. Another one fits if its first number is the same.
+WRITTEN_FOR = "1.0.0"
+VARIABLE = "MIMETOOL_LIBRARY"
+BESIDE = os.path.join(os.path.dirname(os.path.abspath(__file__)), "libmimetool.so")
+INSTALLED = "libmimetool.so.1"
+
+MEMORY = 2
+
+
+class Room(ctypes.Structure):
+    """Where the library puts what it answers to a session: a mimetool_session *, a mimetool_bytes, a mimetool_place, and a listing
+    with its length. A slice of a pointer to c_char is a copy in one go."""
+
+    _fields_ = [("session", c_void_p), ("bytes", POINTER(c_char)), ("size", c_size_t), ("edit", c_size_t), ("number", c_size_t),
+                ("listing", POINTER(c_char)), ("count", c_size_t)]
+
+
+class Edit(ctypes.Structure):
+    """mimetool_edit. A c_char_p takes a bytes object without a copy, keeps it alive, and may hold zeros: the sizes count."""
+
+    _fields_ = [("kind", c_int), ("path", c_char_p), ("depth", c_size_t), ("name", c_char_p), ("name_size", c_size_t),
+                ("number", c_uint32), ("top", c_bool), ("text", c_char_p), ("text_size", c_size_t)]
+
+
+# mimetool_section: path, depth, kind, encoding, type, start, body, end, field_lines, body_lines.
+SECTION = struct.Struct("PNIIPNNNNN")
+
+# All pointers to sessions, answers and sections are plain addresses here.
+SIGNATURES = {
+    "mimetool_reason": (c_char_p, [c_int]),
+    "mimetool_version": (c_char_p, []),
+    "mimetool_free": (None, [c_void_p]),
+    "mimetool_start": (c_int, [c_void_p, c_char_p, c_size_t]),
+    "mimetool_load": (c_int, [c_void_p, c_char_p, c_size_t, c_char_p, c_size_t, c_void_p]),
+    "mimetool_close": (None, [c_void_p]),
+    "mimetool_text": (c_int, [c_void_p, c_void_p]),
+    "mimetool_save": (c_int, [c_void_p, c_void_p]),
+    "mimetool_undo": (c_int, [c_void_p]),
+    "mimetool_redo": (c_int, [c_void_p]),
+    "mimetool_counts": (c_int, [c_void_p, c_void_p, c_void_p]),
+    "mimetool_sections": (c_int, [c_void_p, c_void_p, c_void_p]),
+    "mimetool_free_sections": (None, [c_void_p]),
+    "mimetool_extract": (c_int, [c_void_p, c_char_p, c_size_t, c_void_p]),
+    "mimetool_name": (c_int, [c_void_p, c_char_p, c_size_t, c_void_p]),
+    "mimetool_add_field": (c_int, [c_void_p, c_char_p, c_size_t, c_bool, c_char_p, c_size_t, c_void_p]),
+    "mimetool_group": (c_int, [c_void_p, c_void_p, c_size_t, c_void_p]),
+    "mimetool_check": (c_int, [c_void_p, c_void_p, c_void_p]),
+}
+
+
+def opened(path: str, why: str) -> ctypes.CDLL:
+    """The library at a path, which has to be there."""
+    try:
+        return ctypes.CDLL(path)
+    except OSError as error:
+        raise ImportError(f"the library of mimetool can't be loaded from {path} ({why}): {error}") from error
+
+
+def found() -> Tuple[ctypes.CDLL, str]:
+    """The library, and the path or name that it was found by."""
+    if os.path.exists(BESIDE):
+        return opened(BESIDE, "it lies beside the module"), BESIDE
+    named = os.environ.get(VARIABLE)
+    if named:
+        return opened(named, f"{VARIABLE} names it"), named
+    try:
+        return ctypes.CDLL(INSTALLED), INSTALLED
+    except OSError:
+        pass
+    other = ctypes.util.find_library("mimetool")
+    if other:
+        return opened(other, "the system names it"), other
+    raise ImportError(f"the library of mimetool isn't there: install it, so that the loader finds {INSTALLED}; or set {VARIABLE}"
+                      f" to the path of libmimetool.so; or copy that file to {os.path.dirname(BESIDE)}")
+
+
+def loaded() -> ctypes.CDLL:
+    """The library with the types of its calls, if it is of a version that fits."""
+    library, place = found()
+    for name, (answer, arguments) in SIGNATURES.items():
+        try:
+            call = getattr(library, name)
+        except AttributeError as error:
+            raise ImportError(f"{place} is no library of mimetool: it has no {name}") from error
+        call.restype, call.argtypes = answer, arguments
+    version: str = library.mimetool_version().decode()
+    if version.split(".")[0] != WRITTEN_FOR.split(".")[0]:
+        raise ImportError(f"{place} is version {version} of mimetool, and this module needs version {WRITTEN_FOR.split('.')[0]}")
+    return library
+
+
+library = loaded()
+
+# The size of a number of a path, and the largest one.
+NUMBER = 4
+MOST = 0xFFFFFFFF
+# A path has at most 101 numbers.
+PACKS = [struct.Struct(f"{depth}I").pack for depth in range(102)]
+UNPACKS = [struct.Struct(f"{depth}I").unpack for depth in range(102)]
+NUMBERS_AT = [(c_uint32 * depth).from_address for depth in range(102)]
