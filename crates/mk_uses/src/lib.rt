@@ -13,10 +13,12 @@
 //! Tests: `mk_uses/src/tests.rt`.
 #![tactic(auto)]
 
+mod listings;
 mod previews;
 #[cfg(test)]
 mod tests;
 mod tickets;
 
+pub use listings::{Attachment, attachments};
 pub use previews::preview;
 pub use tickets::{Row, RowError, restore, store};

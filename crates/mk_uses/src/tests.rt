@@ -1,6 +1,8 @@
 //! The callers on small messages. Expected values are worked out by hand.
-use super::{Row, RowError, preview, restore, store};
+use super::{Row, RowError, attachments, preview, restore, store};
 use mk_edit::{Edit, EditError, GroupError, LoadError};
+use mk_tree::Doc;
+use mk_view::ExtractError;
 use std::alloc::{AllocError, Global};
 use std::test::Fail;
 
@@ -74,5 +76,31 @@ fn a_row_of_another_message_is_refused(rt: HostRuntime) -> Result<(), Fail> {
     };
     let refused = restore(alloc, other).err();
     assert_eq!(rt; refused, Some(RowError::Load(LoadError::JournalOther)));
+    Ok(())
+}
+
+#[test]
+fn attachments_are_decoded(rt: HostRuntime) -> Result<(), Fail> {
+    let alloc = rt.alloc();
+    let text =
+        b"Content-Type: multipart/mixed; boundary=x\n\n--x\n\nhello\n--x\nContent-Type: image/png; name=a.png\nContent-Transfer-Encoding: base64\n\naGk=\n--x--\n";
+    let text = Vec::from_slice(alloc, text)?;
+    let doc = Doc::read(alloc, text).map_err(|(_, error)| error)?;
+    let found = attachments(alloc, &doc)?;
+    assert_eq!(rt; found.len(), 1usize);
+    assert_eq!(rt; found[0].path.as_slice(), [1, 2].as_slice());
+    assert_eq!(rt; found[0].name.as_slice(), b"a.png".as_slice());
+    assert_eq!(rt; found[0].content.as_slice(), b"hi".as_slice());
+    Ok(())
+}
+
+#[test]
+fn an_attachment_that_does_not_decode_is_refused(rt: HostRuntime) -> Result<(), Fail> {
+    let alloc = rt.alloc();
+    let text = b"Content-Type: image/png\nContent-Transfer-Encoding: base64\n\na\n";
+    let text = Vec::from_slice(alloc, text)?;
+    let doc = Doc::read(alloc, text).map_err(|(_, error)| error)?;
+    let refused = attachments(alloc, &doc).err();
+    assert_eq!(rt; refused, Some(ExtractError::BadBase64));
     Ok(())
 }
