@@ -89,17 +89,18 @@ static mimetool_edit edit_of(mimetool_edit_kind kind, const uint32_t *path, size
     return edit;
 }
 
-/* Gives an edit a name, and a text; both end before a 0. */
+/* Gives an edit a name, and a text; both end before a 0. NULL lacks a byte, so the
+   edit isn't whole then. */
 static void take_name(mimetool_edit *edit, const char *name)
 {
     edit->name = name;
-    edit->name_size = name != NULL ? strlen(name) : 0;
+    edit->name_size = name != NULL ? strlen(name) : 1;
 }
 
 static void take_text(mimetool_edit *edit, const char *text)
 {
     edit->text = text;
-    edit->text_size = text != NULL ? strlen(text) : 0;
+    edit->text_size = text != NULL ? strlen(text) : 1;
 }
 
 mimetool_status mimetool_add_field(mimetool_session *session, const uint32_t *path, size_t depth, bool top,
@@ -118,8 +119,6 @@ mimetool_status mimetool_remove_field(mimetool_session *session, const uint32_t 
 {
     mimetool_edit edit = edit_of(MIMETOOL_REMOVE_FIELD, path, depth);
 
-    if (name == NULL)
-        return MIMETOOL_NULL;
     take_name(&edit, name);
     edit.number = number;
     return mimetool_group(session, &edit, 1, where);
@@ -130,8 +129,6 @@ mimetool_status mimetool_rename_field(mimetool_session *session, const uint32_t 
 {
     mimetool_edit edit = edit_of(MIMETOOL_RENAME_FIELD, path, depth);
 
-    if (name == NULL || to == NULL)
-        return MIMETOOL_NULL;
     take_name(&edit, name);
     edit.number = number;
     take_text(&edit, to);
@@ -143,8 +140,6 @@ mimetool_status mimetool_set_field(mimetool_session *session, const uint32_t *pa
 {
     mimetool_edit edit = edit_of(MIMETOOL_SET_FIELD, path, depth);
 
-    if (name == NULL)
-        return MIMETOOL_NULL;
     take_name(&edit, name);
     edit.number = number;
     edit.text = field;
@@ -196,8 +191,6 @@ mimetool_status mimetool_wrap(mimetool_session *session, const uint32_t *path, s
 {
     mimetool_edit edit = edit_of(MIMETOOL_WRAP, path, depth);
 
-    if (subtype == NULL || boundary == NULL)
-        return MIMETOOL_NULL;
     take_name(&edit, subtype);
     take_text(&edit, boundary);
     return mimetool_group(session, &edit, 1, where);

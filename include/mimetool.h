@@ -34,7 +34,8 @@ typedef enum mimetool_status {
     MIMETOOL_OK = 0,
     MIMETOOL_MEMORY = 2,            /* memory ran out; nothing has changed */
     MIMETOOL_NO_NAME = 5,           /* the section's fields say no name */
-    MIMETOOL_NULL = 6,              /* a NULL was given where something is needed */
+    MIMETOOL_NULL = 6,              /* a NULL was given where something is needed, or an
+                                       edit of no kind */
     MIMETOOL_NO_SUCH_SECTION = 10,  /* there is no section at the path */
     MIMETOOL_NOT_MULTIPART = 11,    /* a part is to be put into what is no multipart */
     MIMETOOL_NOT_LEAF = 12,         /* the section whose body is to be set is no leaf */

@@ -255,27 +255,18 @@ static int extract(const char *word)
     return ACCEPTED;
 }
 
-/* Each call with a NULL in each place has to say so, and the session stays as it was. */
-static int give_nulls(void)
-{
-    mimetool_session *session = NULL, *other = NULL;
-    mimetool_bytes answer;
-    mimetool_section *all;
-    mimetool_edit edit = {.kind = MIMETOOL_SET_BODY, .path = NULL, .depth = 1};
-    mimetool_place place;
-    size_t count, wrong = 0;
-    const uint32_t path[] = {1};
-
 #define WANTS(wanted, call) (wrong += (call) != (wanted))
 #define NULLED(call) WANTS(MIMETOOL_NULL, call)
-    NULLED(mimetool_start(NULL, "", 0));
-    NULLED(mimetool_start(&session, NULL, 1));
-    WANTS(MIMETOOL_OK, mimetool_start(&session, NULL, 0));
-    NULLED(mimetool_load(NULL, "", 0, "", 0, &place));
-    NULLED(mimetool_load(&other, NULL, 1, "", 0, NULL));
-    NULLED(mimetool_load(&other, "", 0, NULL, 1, &place));
-    WANTS(MIMETOOL_JOURNAL_SYNTAX, mimetool_load(&other, NULL, 0, NULL, 0, NULL));
-    wrong += other != NULL;
+
+static const uint32_t root[] = {1};
+
+/* How many of the calls that show something take a NULL. */
+static size_t show_nulls(mimetool_session *session)
+{
+    mimetool_bytes answer;
+    mimetool_section *all;
+    size_t count, wrong = 0;
+
     NULLED(mimetool_text(NULL, &answer));
     NULLED(mimetool_text(session, NULL));
     NULLED(mimetool_save(NULL, &answer));
@@ -287,31 +278,64 @@ static int give_nulls(void)
     NULLED(mimetool_sections(NULL, &all, &count));
     NULLED(mimetool_sections(session, NULL, &count));
     NULLED(mimetool_sections(session, &all, NULL));
-    NULLED(mimetool_extract(NULL, path, 1, &answer));
+    NULLED(mimetool_extract(NULL, root, 1, &answer));
     NULLED(mimetool_extract(session, NULL, 1, &answer));
-    NULLED(mimetool_extract(session, path, 1, NULL));
+    NULLED(mimetool_extract(session, root, 1, NULL));
     WANTS(MIMETOOL_NO_SUCH_SECTION, mimetool_extract(session, NULL, 0, &answer));
-    NULLED(mimetool_name(NULL, path, 1, &answer));
+    NULLED(mimetool_name(NULL, root, 1, &answer));
     NULLED(mimetool_name(session, NULL, 1, &answer));
-    WANTS(MIMETOOL_NO_NAME, mimetool_name(session, path, 1, &answer));
+    WANTS(MIMETOOL_NO_NAME, mimetool_name(session, root, 1, &answer));
+    return wrong;
+}
+
+/* How many of the edits take a NULL, or leave the place of it as it was. */
+static size_t edit_nulls(mimetool_session *session)
+{
+    mimetool_edit edit = {.kind = MIMETOOL_SET_BODY, .path = NULL, .depth = 1};
+    mimetool_place place = {7, 7};
+    size_t wrong = 0;
+
+    NULLED(mimetool_rename_field(session, root, 1, "A", 1, NULL, &place));
+    wrong += place.edit != 0 || place.number != 0;
     NULLED(mimetool_group(NULL, NULL, 0, NULL));
     NULLED(mimetool_group(session, NULL, 1, NULL));
     NULLED(mimetool_group(session, &edit, 1, &place));
     NULLED(mimetool_check(NULL, &edit, &place));
     NULLED(mimetool_check(session, NULL, &place));
     NULLED(mimetool_check(session, &edit, NULL));
-    NULLED(mimetool_add_field(session, path, 1, false, NULL, 1, NULL));
-    NULLED(mimetool_remove_field(session, path, 1, NULL, 1, NULL));
-    NULLED(mimetool_rename_field(session, path, 1, NULL, 1, "A", NULL));
-    NULLED(mimetool_rename_field(session, path, 1, "A", 1, NULL, NULL));
-    NULLED(mimetool_set_field(session, path, 1, NULL, 1, "", 0, NULL));
-    NULLED(mimetool_set_field(session, path, 1, "A", 1, NULL, 1, NULL));
+    NULLED(mimetool_add_field(session, root, 1, false, NULL, 1, NULL));
+    NULLED(mimetool_remove_field(session, root, 1, NULL, 1, NULL));
+    NULLED(mimetool_rename_field(session, root, 1, NULL, 1, "A", NULL));
+    NULLED(mimetool_rename_field(session, root, 1, "A", 1, NULL, NULL));
+    NULLED(mimetool_set_field(session, root, 1, NULL, 1, "", 0, NULL));
+    NULLED(mimetool_set_field(session, root, 1, "A", 1, NULL, 1, NULL));
     NULLED(mimetool_set_body(session, NULL, 1, "", 0, NULL));
-    NULLED(mimetool_set_section(NULL, path, 1, "", 0, NULL));
-    NULLED(mimetool_insert_part(session, path, 1, 0, NULL, 1, NULL));
+    NULLED(mimetool_set_section(NULL, root, 1, "", 0, NULL));
+    NULLED(mimetool_insert_part(session, root, 1, 0, NULL, 1, NULL));
     NULLED(mimetool_remove_part(session, NULL, 1, NULL));
-    NULLED(mimetool_wrap(session, path, 1, NULL, "b", NULL));
-    NULLED(mimetool_wrap(session, path, 1, "mixed", NULL, NULL));
+    NULLED(mimetool_wrap(session, root, 1, NULL, "b", NULL));
+    NULLED(mimetool_wrap(session, root, 1, "mixed", NULL, NULL));
+    edit = (mimetool_edit){.kind = (mimetool_edit_kind)99, .path = root, .depth = 1};
+    NULLED(mimetool_group(session, &edit, 1, &place));
+    return wrong;
+}
+
+/* Each call with a NULL in each place has to say so, and the session stays as it was. */
+static int give_nulls(void)
+{
+    mimetool_session *session = NULL, *other = NULL;
+    mimetool_place place;
+    size_t wrong = 0;
+
+    NULLED(mimetool_start(NULL, "", 0));
+    NULLED(mimetool_start(&session, NULL, 1));
+    WANTS(MIMETOOL_OK, mimetool_start(&session, NULL, 0));
+    NULLED(mimetool_load(NULL, "", 0, "", 0, &place));
+    NULLED(mimetool_load(&other, NULL, 1, "", 0, NULL));
+    NULLED(mimetool_load(&other, "", 0, NULL, 1, &place));
+    WANTS(MIMETOOL_JOURNAL_SYNTAX, mimetool_load(&other, NULL, 0, NULL, 0, NULL));
+    wrong += other != NULL;
+    wrong += show_nulls(session) + edit_nulls(session);
     WANTS(MIMETOOL_NOTHING_TO_UNDO, mimetool_undo(session));
     mimetool_free(NULL);
     mimetool_free_sections(NULL);
