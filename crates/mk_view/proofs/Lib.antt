@@ -1,5 +1,6 @@
 pub mod Depths
 pub mod Sections
+pub mod Walks
 pub mod LeavesAt
 pub mod Taken
 pub mod NamesKnown

@@ -5,5 +5,6 @@ pub mod FileNames
 pub mod TextNames
 pub mod NameViews
 pub mod LeafViews
+pub mod ListedViews
 pub mod GivenNames
 pub mod inner

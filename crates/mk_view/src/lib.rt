@@ -24,6 +24,7 @@ mod naming;
 mod storing;
 mod text_names;
 mod typing;
+mod walking;
 mod writing;
 
 pub use extracting::{ExtractError, content, content_in, extract};
@@ -33,4 +34,5 @@ pub use naming::said_name;
 pub use storing::{Leaf, leaves, leaves_in, names};
 pub use text_names::{NameForm, text_name};
 pub use typing::{media_type, push_type};
+pub use walking::{Listed, all_sections};
 pub use writing::push_path;

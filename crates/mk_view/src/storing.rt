@@ -1,22 +1,21 @@
 //! The leaves of a document that are stored as files.
 ghost use Rattle.std.specs.Prelude.{◌≡◌, ◌++◌, [], Some, map, IfOk, OnOk};
-ghost use Rattle.std.specs.List.{flat_map};
 ghost use Rattle.mk_tree.specs.declared.shapes.Kind.TheVariants.{Leaf as leaf};
 ghost use Rattle.mk_tree.specs.Documents.{Document, tree};
 ghost use Rattle.mk_tree.specs.Sections.{section_at};
 ghost use Rattle.mk_view.specs.GivenNames.{AreDistinct, AreGiven, AreSafe};
 ghost use Rattle.mk_view.specs.LeafViews.{AreAt, leaf_view};
-ghost use Rattle.mk_view.specs.Listed.{listed_from};
+ghost use Rattle.mk_view.specs.ListedViews.{listed_view};
 ghost use Rattle.mk_view.specs.Listing.{type_of};
 ghost use Rattle.mk_view.specs.FileNames.{all_stored, raw_name as raw_name_of};
 ghost use Rattle.mk_view.specs.TextNames.{all_stored_in, stored_in, stored_named, text_in as text_in_form};
 ghost use Rattle.mk_view.specs.NameViews.{named_view};
 
 use crate::giving::give_all;
-use crate::listing::path_below;
 use crate::naming::{is_stored, raw_name};
 use crate::text_names::{NameForm, name_of, text_in};
 use crate::typing::media_type;
+use crate::walking::{Listed, all_sections};
 use mk_tree::{Doc, Kind, Section};
 use std::alloc::{AllocError, Global};
 
@@ -72,34 +71,10 @@ pub fn leaves_in(
     ensures placed { IfOk result (λ leaves. AreAt (tree doc.now) leaves.items) }
 {
     let mut list = Vec::new(alloc);
-    push_stored(alloc, form, texts, &mut list, &[1], doc.root())?;
-    give_all(alloc, list)
-}
-
-// Puts the leaves that are stored, from a section on, after others, with the names that they would get by themselves.
-fn push_stored<'a>(
-    alloc: Global,
-    form: NameForm,
-    texts: bool,
-    list: &mut Vec<Leaf<'a>>,
-    path: &[u32],
-    section: Section<'a>,
-) -> Result<(), AllocError>
-    ensures stored { OnOk result (map leaf_view list.new.items ≡ map leaf_view list.old.items ++ flat_map (stored_in form texts) (listed_from path.now section.entry)) }
-    ensures placed { OnOk result ((t : Document) → section_at path.now t ≡ Some section.entry → AreAt t list.old.items → AreAt t list.new.items) }
-{
-    let below = section.children();
-    push_own(alloc, form, texts, list, path, section)?;
-    let mut number = 1u32;
-    for child in below {
-        let child_path = path_below(alloc, path, number)?;
-        push_stored(alloc, form, texts, list, &child_path, child)?;
-        let Some(next) = number.checked_add(1) else {
-            return Ok(());
-        };
-        number = next;
+    for listed in all_sections(alloc, doc)? {
+        push_own(alloc, form, texts, &mut list, listed)?;
     }
-    Ok(())
+    give_all(alloc, list)
 }
 
 // Puts a section itself after others, if it is stored.
@@ -109,14 +84,13 @@ fn push_own<'a>(
     form: NameForm,
     texts: bool,
     list: &mut Vec<Leaf<'a>>,
-    path: &[u32],
-    section: Section<'a>,
+    listed: Listed<'a>,
 ) -> Result<(), AllocError>
-    ensures stored { OnOk result (map leaf_view list.new.items ≡ map leaf_view list.old.items ++ stored_in form texts (record { path = path.now; section = section.entry })) }
-    ensures placed { OnOk result ((t : Document) → section_at path.now t ≡ Some section.entry → AreAt t list.old.items → AreAt t list.new.items) }
+    ensures stored { OnOk result (map leaf_view list.new.items ≡ map leaf_view list.old.items ++ stored_in form texts (listed_view listed.entry)) }
+    ensures placed { OnOk result ((t : Document) → section_at listed.entry.path.items t ≡ Some listed.entry.section → AreAt t list.old.items → AreAt t list.new.items) }
 {
-    match section.kind() {
-        Kind::Leaf => push_leaf(alloc, form, texts, list, path, section),
+    match listed.section.kind() {
+        Kind::Leaf => push_leaf(alloc, form, texts, list, listed),
         Kind::Multi | Kind::Message => Ok(()),
     }
 }
@@ -127,20 +101,19 @@ fn push_leaf<'a>(
     form: NameForm,
     texts: bool,
     list: &mut Vec<Leaf<'a>>,
-    path: &[u32],
-    section: Section<'a>,
+    listed: Listed<'a>,
 ) -> Result<(), AllocError>
-    ensures stored { OnOk result (map leaf_view list.new.items ≡ map leaf_view list.old.items ++ stored_named texts leaf path.now (type_of section.entry) (text_in_form form section.entry) (raw_name_of section.entry)) }
-    ensures placed { OnOk result ((t : Document) → section_at path.now t ≡ Some section.entry → AreAt t list.old.items → AreAt t list.new.items) }
+    ensures stored { OnOk result (map leaf_view list.new.items ≡ map leaf_view list.old.items ++ stored_named texts leaf listed.entry.path.items (type_of listed.entry.section) (text_in_form form listed.entry.section) (raw_name_of listed.entry.section)) }
+    ensures placed { OnOk result ((t : Document) → section_at listed.entry.path.items t ≡ Some listed.entry.section → AreAt t list.old.items → AreAt t list.new.items) }
 {
+    let Listed { path, section } = listed;
     let media = media_type(alloc, &section)?;
     let text = text_in(alloc, form, &section, &media)?;
     let raw = raw_name(alloc, &section, &media)?;
     if !is_stored(texts, &media, &text, &raw) {
         return Ok(());
     }
-    let name = name_of(alloc, path, &text, &raw)?;
-    let path = Vec::from_slice(alloc, path)?;
+    let name = name_of(alloc, &path, &text, &raw)?;
     list.push(Leaf {
         path,
         name,

@@ -1,10 +1,7 @@
-use Rattle.std.proofs.Common.{◌≡◌, ap, ◌∙◌, subst, sym}
-use Rattle.mk_tree.specs.Sections.{section_at}
+use Rattle.std.proofs.Common.{subst, sym}
 use Rattle.mk_view.specs.LeafViews.{AreAt}
 use Rattle.mk_view.proofs.LeavesAt.{at_more}
 use Rattle.mk_view.proofs.storing.push_leaf.Goals as goal
 
 pub returns-clause-placed : goal.returns-clause-placed
-returns-clause-placed c = λ t here at_old.
-    let path : c.in_ok-path.path.items ≡ c.args.path.now = c.in_ok-path.ensures.items in
-    subst (AreAt t) (sym c.in_ok-push.ensures.items) (at_more t _ _ at_old (ap (λ ns. section_at ns t) path ∙ here))
+returns-clause-placed c = λ t here at_old. subst (AreAt t) (sym c.in_ok-push.ensures.items) (at_more t _ _ at_old here)
