@@ -13,6 +13,7 @@ pub mod MailChains
 pub mod FilteredMail
 pub mod RoundsMade
 pub mod SectionsApart
+pub mod ReplacedApart
 pub mod LackedNames
 pub mod Plainness
 pub mod PutIn

@@ -222,7 +222,7 @@ pub record IsKept (way : FromLines) (old new : List TextLine) : Type 0 where
   pub ends : ends_empty false old ≡ true → ends_empty false new ≡ true
   pub begins : begins_from way old ≡ true → begins_from way new ≡ true
 
-some_lines : (p : List ℕ) (ls : List TextLine) → cut p ≡ ls → is_left p ≡ true → has_line ls ≡ true
+pub some_lines : (p : List ℕ) (ls : List TextLine) → cut p ≡ ls → is_left p ≡ true → has_line ls ≡ true
 some_lines p [] e t = ap is_left (sym (ap text_of e) ∙ text_cut p) ∙ t
 some_lines p (l ∷ ls) e t = refl
 
@@ -230,7 +230,7 @@ ends_left : (p : List ℕ) → ends_empty false (cut p) ≡ true → is_left p �
 ends_left [] h = cc
 ends_left (x ∷ xs) h = refl
 
-begins_left : (way : FromLines) (p : List ℕ) → begins_from way (cut p) ≡ true → is_left p ≡ true
+pub begins_left : (way : FromLines) (p : List ℕ) → begins_from way (cut p) ≡ true → is_left p ≡ true
 begins_left way [] h = cc
 begins_left way (x ∷ xs) h = refl
 

@@ -26,7 +26,7 @@ by_other true b h t = h
 by_other false b h t = cc
 
 -- a text that takes the place of another
-placed : (way : FromLines) (old new : List ℕ) → takes_place way old new ≡ true → IsKept way (cut old) (cut new)
+pub placed : (way : FromLines) (old new : List ℕ) → takes_place way old new ≡ true → IsKept way (cut old) (cut new)
 placed way old new h =
     let begins = (not (begins_from way (cut old)) || begins_from way (cut new)) in
     let ends = (not (ends_empty false (cut old)) || ends_empty false (cut new)) in

@@ -4,5 +4,6 @@ pub mod Letters
 pub mod Filtered
 pub mod Rounds
 pub mod Apart
+pub mod Replaced
 pub mod LetterViews
 pub mod LetterWork

@@ -4,6 +4,7 @@ ghost use Rattle.mk_mail.specs.Apart.{SectionsStayApart};
 ghost use Rattle.mk_mail.specs.BuiltLaws.{BuiltMessagesGiveBack, BuiltMultipartsGiveBack, BuiltNamesAreSaid, ForwardedMessagesGiveBack};
 ghost use Rattle.mk_mail.specs.Filtered.{FilteredStayApart, LettersChangeFieldsAlone};
 ghost use Rattle.mk_mail.specs.Prepended.{PrependedFieldsKeepTheirBytes};
+ghost use Rattle.mk_mail.specs.Replaced.{ReplacedStayApart};
 ghost use Rattle.mk_mail.specs.Rounds.{OneRoundFilters, RoundsArePiped, RoundsStayApart};
 
 pub use mk_mailbox::laws::{
@@ -71,4 +72,10 @@ pub fn rounds_stay_apart()
 /// made doesn't fit its place is left as it came.
 pub fn sections_stay_apart()
     ensures { SectionsStayApart }
+{}
+
+/// The messages of a mailbox, each left out or replaced by a text that fits its place (`Place::fits`), are a mailbox of just these
+/// texts. One of no bytes doesn't count.
+pub fn replaced_stay_apart()
+    ensures { ReplacedStayApart }
 {}
