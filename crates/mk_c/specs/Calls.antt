@@ -43,23 +43,13 @@ Forgets ending old new = (ending ≡ Ok tt) × (new ≡ record old { pending = [
 abbrev pub IsReasonAgainst : {X : Type 0} → Reason → Result X Refusal → Type 0
 IsReasonAgainst (Edit index error) defined = (index ≡ 0) × IsRefusedBy (refusal_of error) defined
 IsReasonAgainst Memory defined = Unit {0}
-IsReasonAgainst Closed defined = ⊥
-IsReasonAgainst BadSize defined = ⊥
-IsReasonAgainst NoEdit defined = ⊥
-IsReasonAgainst NoName defined = ⊥
-IsReasonAgainst (Journal error) defined = ⊥
-IsReasonAgainst (Content error) defined = ⊥
+IsReasonAgainst other defined = ⊥
 
 -- the same of a group, with the edit that is refused
 abbrev pub IsGroupReason : {X : Type 0} → Reason → Result X Refusal → Type 0
 IsGroupReason (Edit index error) defined = (refusal : Refusal) × (refusal_of error ≡ Some refusal) × (defined ≡ Err (Member index refusal))
 IsGroupReason Memory defined = Unit {0}
-IsGroupReason Closed defined = ⊥
-IsGroupReason BadSize defined = ⊥
-IsGroupReason NoEdit defined = ⊥
-IsGroupReason NoName defined = ⊥
-IsGroupReason (Journal error) defined = ⊥
-IsGroupReason (Content error) defined = ⊥
+IsGroupReason other defined = ⊥
 
 -- an undo or a redo does what is defined; refused, it changes nothing
 abbrev pub Obeys : Order → Ending → Desk → Desk → Type 0
@@ -110,12 +100,7 @@ IsContentAt path d answer = IsExtract (section_at path (tree (text_now d.history
 abbrev pub NoContentAt : List ℕ → Desk → Reason → Type 0
 NoContentAt path d (Content error) = IsExtractRefused (section_at path (tree (text_now d.history))) error
 NoContentAt path d Memory = Unit {0}
-NoContentAt path d (Edit index error) = ⊥
-NoContentAt path d (Journal error) = ⊥
-NoContentAt path d Closed = ⊥
-NoContentAt path d BadSize = ⊥
-NoContentAt path d NoEdit = ⊥
-NoContentAt path d NoName = ⊥
+NoContentAt path d other = ⊥
 
 -- the text that the fields of the section at a path say as its name
 abbrev pub IsNameAt : List ℕ → Desk → List ℕ → Type 0
@@ -126,11 +111,7 @@ abbrev pub NoNameAt : List ℕ → Desk → Reason → Type 0
 NoNameAt path d (Content error) = (error ≡ extract.NoSuchSection) × (section_at path (tree (text_now d.history)) ≡ None)
 NoNameAt path d NoName = (p : Placed) × (section_at path (tree (text_now d.history)) ≡ Some p) × (text_name p ≡ None)
 NoNameAt path d Memory = Unit {0}
-NoNameAt path d (Edit index error) = ⊥
-NoNameAt path d (Journal error) = ⊥
-NoNameAt path d Closed = ⊥
-NoNameAt path d BadSize = ⊥
-NoNameAt path d NoEdit = ⊥
+NoNameAt path d other = ⊥
 
 -- a text is begun with, or memory ran out
 abbrev pub Starts : List ℕ → Result Desk Reason → Type 0
@@ -142,12 +123,7 @@ abbrev pub Loads : List ℕ → List ℕ → Result Desk Reason → Type 0
 Loads text journal (Ok d) = (h : History) × (loaded text journal ≡ Ok h) × (d ≡ opened h)
 Loads text journal (Err (Journal error)) = RefusesJournal error (loaded text journal)
 Loads text journal (Err Memory) = Unit {0}
-Loads text journal (Err (Edit index error)) = ⊥
-Loads text journal (Err (Content error)) = ⊥
-Loads text journal (Err Closed) = ⊥
-Loads text journal (Err BadSize) = ⊥
-Loads text journal (Err NoEdit) = ⊥
-Loads text journal (Err NoName) = ⊥
+Loads text journal (Err other) = ⊥
 
 -- what a handle holds after a call that opens it
 abbrev pub held_by : Result Desk Reason → Option Desk

@@ -6,8 +6,10 @@ use Rattle.mk_edit.specs.declared.errors.LoadError.{LoadError}
 use Rattle.mk_edit.specs.declared.errors.LoadError.TheVariants as load
 use Rattle.mk_view.specs.declared.extracting.ExtractError.{ExtractError}
 use Rattle.mk_view.specs.declared.extracting.ExtractError.TheVariants as extract
+use Rattle.mk_build.specs.declared.building.BuildError.{BuildError}
+use Rattle.mk_build.specs.declared.building.BuildError.TheVariants as build
 use Rattle.mk_c.specs.declared.status.Reason.{Reason}
-use Rattle.mk_c.specs.declared.status.Reason.TheVariants.{Closed, Memory, BadSize, NoEdit, NoName, Edit, Journal, Content}
+use Rattle.mk_c.specs.declared.status.Reason.TheVariants.{Closed, Memory, BadSize, NoEdit, NoName, NoMessage, NeedsMore, Edit, Journal, Content, Build}
 use Rattle.mk_c.specs.declared.status.Place.{Place}
 
 -- the number of a reason against an edit
@@ -43,6 +45,17 @@ content_number extract.NoSuchSection = 10
 content_number extract.BadBase64 = 40
 content_number extract.UnknownEncoding = 41
 
+-- the number of a reason why no message is built
+abbrev pub build_number : BuildError → ℕ
+build_number build.Memory = 2
+build_number (build.BadField index) = 16
+build_number build.BadBoundary = 18
+build_number build.BadSubtype = 19
+build_number (build.HoldsBoundary index) = 21
+build_number (build.BadType index) = 50
+build_number (build.BadName index) = 51
+build_number build.BadCharset = 52
+
 -- the number of a reason
 abbrev pub reason_number : Reason → ℕ
 reason_number Closed = 1
@@ -50,9 +63,12 @@ reason_number Memory = 2
 reason_number BadSize = 3
 reason_number NoEdit = 4
 reason_number NoName = 5
+reason_number NoMessage = 7
+reason_number NeedsMore = 8
 reason_number (Edit index error) = edit_number error
 reason_number (Journal error) = journal_number error
 reason_number (Content error) = content_number error
+reason_number (Build error) = build_number error
 
 -- how many numbers the path of the multipart has whose boundary a line holds
 abbrev pub level_of : EditError → ℕ
@@ -80,6 +96,17 @@ offset_of (load.JournalMismatch entry) = entry
 offset_of load.JournalOther = 0
 offset_of load.Memory = 0
 
+-- which field, part or message the reason is against
+abbrev pub index_of : BuildError → ℕ
+index_of (build.BadField index) = index
+index_of (build.BadType index) = index
+index_of (build.BadName index) = index
+index_of (build.HoldsBoundary index) = index
+index_of build.BadSubtype = 0
+index_of build.BadCharset = 0
+index_of build.BadBoundary = 0
+index_of build.Memory = 0
+
 -- nowhere
 abbrev pub nowhere : Place
 nowhere = record { edit = 0; number = 0 }
@@ -88,12 +115,15 @@ nowhere = record { edit = 0; number = 0 }
 abbrev pub reason_place : Reason → Place
 reason_place (Edit index error) = record { edit = index; number = level_of error }
 reason_place (Journal error) = record { edit = 0; number = offset_of error }
+reason_place (Build error) = record { edit = index_of error; number = 0 }
 reason_place (Content error) = nowhere
 reason_place Closed = nowhere
 reason_place Memory = nowhere
 reason_place BadSize = nowhere
 reason_place NoEdit = nowhere
 reason_place NoName = nowhere
+reason_place NoMessage = nowhere
+reason_place NeedsMore = nowhere
 
 -- how a call ended, and where it was refused
 abbrev pub status_and_place : {X : Type 0} → Result X Reason → ℕ × Place

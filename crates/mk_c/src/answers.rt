@@ -92,7 +92,7 @@ pub extern "C" fn mk_c_size(alloc: Global, handle: &mut Handle) -> usize
     let Some(editor) = handle.take(alloc) else {
         return 0;
     };
-    let size = editor.size();
+    let size = editor.answer.len();
     handle.give(editor);
     size
 }

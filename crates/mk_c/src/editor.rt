@@ -1,25 +1,35 @@
 //! What a handle holds.
-ghost use Rattle.std.specs.Prelude.{◌≡◌, ◌+◌, length, Ok};
+ghost use Rattle.std.specs.Prelude.{◌≡◌, ◌≢◌, ◌+◌, length, Ok};
 ghost use Rattle.mk_decide.specs.Views.{edit_of};
 ghost use Rattle.mk_edit.specs.Histories.{started};
 ghost use Rattle.mk_edit.specs.Saving.{RefusesJournal, loaded};
 ghost use Rattle.mk_decide.specs.Edits.{Undo, Redo};
+ghost use Rattle.mk_build.specs.Multiparts.{multipart_of};
 ghost use Rattle.mk_c.specs.Desks.{opened};
+ghost use Rattle.mk_c.specs.Building.{Builds};
 ghost use Rattle.mk_c.specs.Calls.{Checks, Copies, Forgets, IsContentAt, IsSavedJournal, IsListing, IsMemory, IsNameAt, IsText, Loads, MakesPutDown, NoContentAt, NoNameAt, Obeys, PutsDown, AnswersWith, Starts};
+ghost use Rattle.mk_c.specs.Mail.{GoesOn, OpensMailbox};
 
+use crate::draft::Draft;
+use crate::input::read_on;
 use crate::status::Reason;
+use mk_build::Multipart;
 use mk_edit::{Edit, Session};
-use mk_line::Meter;
+use mk_line::{Ending, Meter};
+use mk_mailbox::{FromLines, Mailbox};
 use mk_view::{ExtractError, extract, list, text_name};
 use std::alloc::Global;
 use std::marker::Model;
 
-/// A message under edit, the edits that were put down for the next call, and the bytes of the last answer.
+/// A message under edit, the edits that were put down for the next call, the bytes of the last answer, a mailbox, and what was put
+/// down for a message that is to be built.
 #[derive(Drop)]
 pub(crate) struct Editor {
     session: Session,
     pending: Vec<Edit>,
-    answer: Vec<u8>,
+    pub(crate) answer: Vec<u8>,
+    mailbox: Mailbox,
+    pub(crate) draft: Draft,
 }
 
 impl Model for Editor {
@@ -27,7 +37,7 @@ impl Model for Editor {
 
     ghost Value = { Desk };
 
-    ghost view = { λ e. record { history = e.session; pending = e.pending.items; answer = e.answer.items } };
+    ghost view = { λ e. record { history = e.session; pending = e.pending.items; answer = e.answer.items; mail = e.mailbox; draft = e.draft } };
 }
 
 impl Editor {
@@ -60,7 +70,18 @@ impl Editor {
             session,
             pending: Vec::new(alloc),
             answer: Vec::new(alloc),
+            mailbox: Mailbox::new(alloc),
+            draft: Draft::new(alloc),
         }
+    }
+
+    /// Begins with a mailbox that is cut at these From-lines.
+    pub(crate) fn of_mailbox(alloc: Global, from_lines: FromLines) -> Result<Editor, Reason>
+        ensures { OpensMailbox from_lines result }
+    {
+        let mut editor = Editor::start(alloc, b"")?;
+        editor.mailbox = Mailbox::cut_at(alloc, from_lines);
+        Ok(editor)
     }
 
     /// Puts an edit down after the others.
@@ -180,13 +201,6 @@ impl Editor {
         }
     }
 
-    /// How many bytes the answer has.
-    pub(crate) fn size(&self) -> usize
-        ensures { result ≡ length self.now.answer }
-    {
-        self.answer.len()
-    }
-
     /// Copies the answer into bytes of its size, and lets it go.
     pub(crate) fn copy(&mut self, alloc: Global, bytes: &mut [u8]) -> Result<(), Reason>
         ensures { Copies bytes.old bytes.new result self.old self.new }
@@ -196,6 +210,41 @@ impl Editor {
         }
         bytes.copy_from_slice(&self.answer);
         self.answer = Vec::new(alloc);
+        Ok(())
+    }
+
+    /// Answers the next message of the mailbox, which is given more bytes, the last ones or not. Also says how many were read.
+    pub(crate) fn next(&mut self, bytes: &[u8], last: bool) -> (usize, Result<(), Reason>)
+        ensures { GoesOn bytes.now last result.0 result.1 self.old self.new }
+    {
+        let (used, found) = if last {
+            read_on::<true>(&mut self.mailbox, bytes)
+        } else {
+            read_on::<false>(&mut self.mailbox, bytes)
+        };
+        match found {
+            Ok(Some(message)) => {
+                self.answer = message;
+                (used, Ok(()))
+            }
+            Ok(None) => (used, Err(Reason::NoMessage)),
+            Err(reason) => (used, Err(reason)),
+        }
+    }
+
+    /// Answers the message of what was put down, which is forgotten.
+    pub(crate) fn build(
+        &mut self,
+        alloc: Global,
+        multipart: &Multipart<'_>,
+        eol: Ending,
+    ) -> Result<(), Reason>
+        requires { eol ≢ Ending.Missing }
+        ensures { Builds eol (multipart_of multipart.now) result self.old self.new }
+    {
+        let built = self.draft.build(alloc, multipart, eol);
+        self.draft = Draft::new(alloc);
+        self.answer = built?;
         Ok(())
     }
 }

@@ -35,8 +35,13 @@ pub extern "C" fn mk_c_load(
     open(alloc, handle, Editor::load(alloc, text, journal), place)
 }
 
-// Opens a handle with what a call gave, or closes it.
-fn open(alloc: Global, handle: &mut Handle, begun: Result<Editor, Reason>, place: &mut Place) -> u32
+/// Opens a handle with what a call gave, or closes it.
+pub(crate) fn open(
+    alloc: Global,
+    handle: &mut Handle,
+    begun: Result<Editor, Reason>,
+    place: &mut Place,
+) -> u32
     ensures { OpensWith begun result place.new handle.new.desk }
 {
     let _before = handle.take(alloc);

@@ -1,9 +1,10 @@
 //! How a call ended, as numbers.
 ghost use Rattle.std.specs.Prelude.{◌≡◌};
-ghost use Rattle.mk_c.specs.Statuses.{content_number, edit_number, journal_number, level_of, reason_number, offset_of, reason_place, status_and_place};
+ghost use Rattle.mk_c.specs.Statuses.{build_number, content_number, edit_number, index_of, journal_number, level_of, reason_number, offset_of, reason_place, status_and_place};
 ghost use Rattle.mk_c.specs.inner.Steps.{group_reason};
 ghost use Rattle.mk_c.specs.declared.status.Reason.TheVariants as reason;
 
+use mk_build::BuildError;
 use mk_edit::{EditError, GroupError, LoadError};
 use mk_view::ExtractError;
 use std::alloc::AllocError;
@@ -23,19 +24,25 @@ pub enum Reason {
     NoEdit,
     /// The section's fields say no name.
     NoName,
+    /// The mailbox has no more messages.
+    NoMessage,
+    /// The next message isn't whole in what was read of the mailbox.
+    NeedsMore,
     /// An edit, an undo or a redo is refused. The first edit of a group has index 0.
     Edit { index: usize, error: EditError },
     /// A journal is refused.
     Journal(LoadError),
     /// No content is taken out.
     Content(ExtractError),
+    /// No message is built.
+    Build(BuildError),
 }
 
 /// Where a call was refused.
 #[repr(C)]
 #[derive(Clone, Copy, Debug, PartialEq, Eq)]
 pub struct Place {
-    /// Which edit of a group is refused, counted from 0.
+    /// Which edit of a group is refused, or which field, part or message of one that is to be built, counted from 0.
     pub edit: usize,
     /// With HoldsBoundary, how many numbers the path of the enclosing multipart has; with JournalSyntax, the offset in
     /// bytes; with JournalMismatch, the number of the step, counted from 1.
@@ -52,9 +59,12 @@ impl Reason {
             Reason::BadSize => 3,
             Reason::NoEdit => 4,
             Reason::NoName => 5,
+            Reason::NoMessage => 7,
+            Reason::NeedsMore => 8,
             Reason::Edit { error, .. } => number_of_edit(error),
             Reason::Journal(error) => number_of_journal(error),
             Reason::Content(error) => number_of_content(error),
+            Reason::Build(error) => number_of_build(error),
         }
     }
 
@@ -69,6 +79,10 @@ impl Reason {
             Reason::Journal(error) => Place {
                 edit: 0,
                 number: offset(error),
+            },
+            Reason::Build(error) => Place {
+                edit: index(error),
+                number: 0,
             },
             _ => Place { edit: 0, number: 0 },
         }
@@ -120,6 +134,21 @@ fn number_of_content(error: ExtractError) -> u32
     }
 }
 
+fn number_of_build(error: BuildError) -> u32
+    ensures { result ≡ build_number error }
+{
+    match error {
+        BuildError::Memory => 2,
+        BuildError::BadField { .. } => 16,
+        BuildError::BadBoundary => 18,
+        BuildError::BadSubtype => 19,
+        BuildError::HoldsBoundary { .. } => 21,
+        BuildError::BadType { .. } => 50,
+        BuildError::BadName { .. } => 51,
+        BuildError::BadCharset => 52,
+    }
+}
+
 fn level(error: EditError) -> usize
     ensures { result ≡ level_of error }
 {
@@ -135,6 +164,18 @@ fn offset(error: LoadError) -> usize
     match error {
         LoadError::JournalSyntax { offset } => offset,
         LoadError::JournalMismatch { entry } => entry,
+        _ => 0,
+    }
+}
+
+fn index(error: BuildError) -> usize
+    ensures { result ≡ index_of error }
+{
+    match error {
+        BuildError::BadField { index }
+        | BuildError::BadType { index }
+        | BuildError::BadName { index }
+        | BuildError::HoldsBoundary { index } => index,
         _ => 0,
     }
 }
@@ -199,5 +240,13 @@ impl From<ExtractError> for Reason {
 
     fn from(error: ExtractError) -> Reason {
         Reason::Content(error)
+    }
+}
+
+impl From<BuildError> for Reason {
+    ghost from_gives = { λ error r. r ≡ reason.Build error };
+
+    fn from(error: BuildError) -> Reason {
+        Reason::Build(error)
     }
 }

@@ -1,4 +1,7 @@
 //! Each call on small messages. Expected values are worked out by hand.
+mod building;
+mod mailboxes;
+
 use super::*;
 use std::alloc::{AllocError, Global};
 use std::test::Fail;
