@@ -1,2 +1,4 @@
 pub mod Uses
 pub mod Walked
+pub mod Inserted
+pub mod Tagged

@@ -13,12 +13,16 @@
 //! Tests: `mk_uses/src/tests.rt`.
 #![tactic(auto)]
 
+mod insertions;
 mod listings;
+mod mailboxes;
 mod previews;
 #[cfg(test)]
 mod tests;
 mod tickets;
 
+pub use insertions::add_to_each_multipart;
 pub use listings::{Attachment, attachments};
+pub use mailboxes::tag_each;
 pub use previews::preview;
 pub use tickets::{Row, RowError, restore, store};

@@ -1,4 +1,7 @@
 //! The callers on small messages. Expected values are worked out by hand.
+mod insertions;
+mod mailboxes;
+
 use super::{Row, RowError, attachments, preview, restore, store};
 use mk_edit::{Edit, EditError, GroupError, LoadError};
 use mk_tree::Doc;
