@@ -22,21 +22,21 @@ abbrev pub multipart_asked : List ℕ → Option (List ℕ) → List ℕ → Mul
 multipart_asked subtype charset boundary = record { subtype = subtype; charset = charset; boundary = boundary }
 
 -- a draft gets more, or memory ran out
-abbrev pub Puts : Drafted → Ending → Drafted → Drafted → Type 0
-Puts more (Ok x) old new = new ≡ more
-Puts more (Err reason) old new = (reason ≡ Memory) × (new ≡ old)
+abbrev pub Extends : Drafted → Ending → Drafted → Drafted → Type 0
+Extends more (Ok x) old new = new ≡ more
+Extends more (Err reason) old new = (reason ≡ Memory) × (new ≡ old)
 
 -- a field is put down after the others
 abbrev pub PutsField : List ℕ → Ending → Drafted → Drafted → Type 0
-PutsField text ending old new = Puts (record old { fields = old.fields ++ text ∷ [] }) ending old new
+PutsField text ending old new = Extends (record old { fields = old.fields ++ text ∷ [] }) ending old new
 
 -- a part is put down after the others
 abbrev pub PutsPart : List ℕ → Option (List ℕ) → List ℕ → Bool → Ending → Drafted → Drafted → Type 0
-PutsPart media name text base64 ending old new = Puts (record old { parts = old.parts ++ part_of media name text base64 ∷ [] }) ending old new
+PutsPart media name text base64 ending old new = Extends (record old { parts = old.parts ++ part_of media name text base64 ∷ [] }) ending old new
 
 -- a message that is forwarded is put down after the others
 abbrev pub PutsMessage : List ℕ → Bool → Ending → Drafted → Drafted → Type 0
-PutsMessage text inline ending old new = Puts (record old { messages = old.messages ++ forwarded text inline ∷ [] }) ending old new
+PutsMessage text inline ending old new = Extends (record old { messages = old.messages ++ forwarded text inline ∷ [] }) ending old new
 
 -- a call changes the draft, and nothing else
 abbrev pub Drafts : (Ending → Drafted → Drafted → Type 0) → Ending → Desk → Desk → Type 0

@@ -97,15 +97,15 @@ offset_of load.JournalOther = 0
 offset_of load.Memory = 0
 
 -- which field, part or message the reason is against
-abbrev pub index_of : BuildError → ℕ
-index_of (build.BadField index) = index
-index_of (build.BadType index) = index
-index_of (build.BadName index) = index
-index_of (build.HoldsBoundary index) = index
-index_of build.BadSubtype = 0
-index_of build.BadCharset = 0
-index_of build.BadBoundary = 0
-index_of build.Memory = 0
+abbrev pub refused_index : BuildError → ℕ
+refused_index (build.BadField index) = index
+refused_index (build.BadType index) = index
+refused_index (build.BadName index) = index
+refused_index (build.HoldsBoundary index) = index
+refused_index build.BadSubtype = 0
+refused_index build.BadCharset = 0
+refused_index build.BadBoundary = 0
+refused_index build.Memory = 0
 
 -- nowhere
 abbrev pub nowhere : Place
@@ -115,7 +115,7 @@ nowhere = record { edit = 0; number = 0 }
 abbrev pub reason_place : Reason → Place
 reason_place (Edit index error) = record { edit = index; number = level_of error }
 reason_place (Journal error) = record { edit = 0; number = offset_of error }
-reason_place (Build error) = record { edit = index_of error; number = 0 }
+reason_place (Build error) = record { edit = refused_index error; number = 0 }
 reason_place (Content error) = nowhere
 reason_place Closed = nowhere
 reason_place Memory = nowhere

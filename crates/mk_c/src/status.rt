@@ -1,6 +1,6 @@
 //! How a call ended, as numbers.
 ghost use Rattle.std.specs.Prelude.{◌≡◌};
-ghost use Rattle.mk_c.specs.Statuses.{build_number, content_number, edit_number, index_of, journal_number, level_of, reason_number, offset_of, reason_place, status_and_place};
+ghost use Rattle.mk_c.specs.Statuses.{build_number, content_number, edit_number, refused_index, journal_number, level_of, reason_number, offset_of, reason_place, status_and_place};
 ghost use Rattle.mk_c.specs.inner.Steps.{group_reason};
 ghost use Rattle.mk_c.specs.declared.status.Reason.TheVariants as reason;
 
@@ -169,7 +169,7 @@ fn offset(error: LoadError) -> usize
 }
 
 fn index(error: BuildError) -> usize
-    ensures { result ≡ index_of error }
+    ensures { result ≡ refused_index error }
 {
     match error {
         BuildError::BadField { index }

@@ -3,7 +3,7 @@ use Rattle.std.specs.List.{flat_map}
 use Rattle.std.specs.Vec.Iter.{into_iter_items}
 use Rattle.mk_decide.specs.Views.{edit_of}
 use Rattle.mk_view.specs.ListedViews.{listed_view}
-use Rattle.mk_view.proofs.Walks.{all_made, count_left, more_made, none_left}
+use Rattle.mk_uses.proofs.Walking.{all_gone, count_left, more_gone, none_left}
 use Rattle.mk_uses.specs.Inserted.{insertion}
 use Rattle.mk_uses.proofs.insertions.insertions.Goals as goal
 
@@ -19,11 +19,11 @@ loop-listed-init c =
 
 pub loop-listed-preserved : goal.loop-listed-preserved
 loop-listed-preserved c = record {
-  made = more_made (insertion c.args.part.now) (map edit_of c.loop-listed.edits.items) _ c.in-Some.listed _ _ _ c.in-Some.ensures.steps.0 c.loop-listed.invariant.made c.in_ok-push_insertion.ensures;
+  made = more_gone (insertion c.args.part.now) listed_view (map edit_of c.loop-listed.edits.items) _ c.in-Some.listed _ _ _ c.in-Some.ensures.steps.0 c.loop-listed.invariant.made c.in_ok-push_insertion.ensures;
   counted = count_left c.in-Some.listed _ _ _ _ c.loop-listed.invariant.counted c.in-Some.ensures.steps.0 c.in-Some.ensures.steps.1;
 }
 
 pub returns : goal.returns
 returns c =
     let none : into_iter_items c.loop-listed.listed-iterator ≡ [] = none_left _ (c.loop-listed.invariant.counted ∙ c.in-None.ensures.steps.0) in
-    all_made (insertion c.args.part.now) (map edit_of c.loop-listed.edits.items) _ _ none c.loop-listed.invariant.made
+    all_gone (insertion c.args.part.now) listed_view (map edit_of c.loop-listed.edits.items) _ _ none c.loop-listed.invariant.made
