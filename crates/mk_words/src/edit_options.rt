@@ -1,89 +1,106 @@
 //! The words of `edit`, `undo` and `redo`.
 
-use crate::mailbox_options::with_number;
+use crate::arguments::{Argument, FLAG, OPTION, OPTION_AGAIN, Subcommand};
+use crate::mailbox_options::{MBOX_OPTION, NUMBER_OPTION, RFC4155_OPTION, UNQUOTE_OPTION};
 use crate::options::{
-    ALL, EDIT, EOL, EXPLAIN, JOURNAL, LINE, NUMBER, PIECE, REDO, SCRIPT, UNDO, explain, flag, from,
-    in_place, with_wait,
+    ALL, EDIT, EOL, EXPLAIN, FROM, JOURNAL, LINE, NUMBER, PIECE, REDO, SCRIPT, UNDO,
 };
 use crate::script_words::EDIT_HELP;
-use clap::{Arg, ArgAction, Command};
-use std::alloc::{AllocError, Global};
+use crate::shared_options::{
+    EXPLAIN_OPTION, FROM_OPTION, IN_PLACE_OPTION, TEMPFAIL_OPTION, WAIT_OPTION,
+};
+use clap::ArgAction;
 
 /// mimetool undo [--from FILE|--in-place FILE] [--wait[=SECONDS]] [--tempfail] -j JOURNAL
-pub fn undo_command<'a>(alloc: Global) -> Result<Command<'a>, AllocError> {
-    let command = Command::new(alloc, UNDO)
-        .about("Undoes the last step of an earlier edit, and prints the message")
-        .after_help(
-            "Examples:\n  mimetool undo -j journal < edited > message\n  mimetool undo -j journal --in-place edited",
-        )
-        .arg(from(alloc))?
-        .arg(in_place(alloc)?)?
-        .arg(journal(alloc).required(true))?
-        .arg(explain(alloc))?;
-    with_wait(alloc, command)
-}
+pub const UNDO_COMMAND: Subcommand = Subcommand {
+    name: UNDO,
+    about: "Undoes the last step of an earlier edit, and prints the message",
+    after_help: "Examples:\n  mimetool undo -j journal < edited > message\n  mimetool undo -j journal --in-place edited",
+    arguments: &STEP_ARGUMENTS,
+};
 
 /// mimetool redo [--from FILE|--in-place FILE] [--wait[=SECONDS]] [--tempfail] -j JOURNAL
-pub fn redo_command<'a>(alloc: Global) -> Result<Command<'a>, AllocError> {
-    let command = Command::new(alloc, REDO)
-        .about("Redoes the last step that was undone, and prints the message")
-        .after_help(
-            "Examples:\n  mimetool redo -j journal < message > edited\n  mimetool redo -j journal --in-place message",
-        )
-        .arg(from(alloc))?
-        .arg(in_place(alloc)?)?
-        .arg(journal(alloc).required(true))?
-        .arg(explain(alloc))?;
-    with_wait(alloc, command)
-}
+pub const REDO_COMMAND: Subcommand = Subcommand {
+    name: REDO,
+    about: "Redoes the last step that was undone, and prints the message",
+    after_help: "Examples:\n  mimetool redo -j journal < message > edited\n  mimetool redo -j journal --in-place message",
+    arguments: &STEP_ARGUMENTS,
+};
 
-fn journal<'a>(alloc: Global) -> Arg<'a> {
-    Arg::new(alloc, JOURNAL)
-        .short('j')
-        .help("The file that keeps the steps for later runs; it is created if it doesn't exist")
-        .allow_hyphen_values(true)
-        .action(ArgAction::Set)
-}
+// What undo and redo take.
+const STEP_ARGUMENTS: [Argument; 6] = [
+    FROM_OPTION,
+    IN_PLACE_OPTION,
+    Argument {
+        is_required: true,
+        ..JOURNAL_OPTION
+    },
+    EXPLAIN_OPTION,
+    WAIT_OPTION,
+    TEMPFAIL_OPTION,
+];
+
+// -j JOURNAL
+const JOURNAL_OPTION: Argument = Argument {
+    id: JOURNAL,
+    short: Some('j'),
+    help: "The file that keeps the steps for later runs; it is created if it doesn't exist",
+    ..OPTION
+};
 
 /// mimetool edit [--from FILE|--in-place FILE] [--wait[=SECONDS]] [--tempfail] [-n N [--rfc4155|--mbox HOW] [--unquote]] [-j JOURNAL] [--all] [--eol] [--explain] [-e LINE].. [SCRIPT] [PIECE..]
-pub fn edit_command<'a>(alloc: Global) -> Result<Command<'a>, AllocError> {
-    let line = Arg::new(alloc, LINE)
-        .short('e')
-        .help(
-            "A line of the script, in place of SCRIPT; may be given more than once. Every other word is then a PIECE",
-        )
-        .allow_hyphen_values(true)
-        .action(ArgAction::Append);
-    let script = Arg::new(alloc, SCRIPT)
-        .help(
-            "The file with the script: one edit per line, such as `add 1 Subject: hello`, `del 1 Subject 2` or `undo`",
-        )
-        .action(ArgAction::Set);
-    let pieces = Arg::new(alloc, PIECE)
-        .help("Files that the script names by number, from 1")
-        .action(ArgAction::Append);
-    let command = Command::new(alloc, EDIT)
-        .about("Edits the message by the lines of a script, and prints it")
-        .after_help(EDIT_HELP)
-        .arg(from(alloc))?
-        .arg(in_place(alloc)?.conflicts_with(NUMBER)?)?;
-    let command = with_number(alloc, command)?
-        .arg(journal(alloc))?
-        .arg(flag(alloc, ALL, "Make all edits as one step, or none of them").long(ALL))?
-        .arg(flag(
-            alloc,
-            EOL,
-            "Give the lines of pieces the line endings of the message; what is encoded as base64 stays as it is",
-        )
-        .long(EOL))?
-        .arg(flag(
-            alloc,
-            EXPLAIN,
-            "Say why a line of SCRIPT is invalid, as is always done for -e, and what the reason for a refused line means",
-        )
-        .long(EXPLAIN))?
-        .arg(line)?
-        .arg(script)?
-        .arg(pieces)?;
-    with_wait(alloc, command)
-}
+pub const EDIT_COMMAND: Subcommand = Subcommand {
+    name: EDIT,
+    about: "Edits the message by the lines of a script, and prints it",
+    after_help: EDIT_HELP,
+    arguments: &[
+        FROM_OPTION,
+        Argument {
+            conflicts: &[FROM, NUMBER],
+            ..IN_PLACE_OPTION
+        },
+        NUMBER_OPTION,
+        RFC4155_OPTION,
+        MBOX_OPTION,
+        UNQUOTE_OPTION,
+        JOURNAL_OPTION,
+        Argument {
+            id: ALL,
+            long: Some(ALL),
+            help: "Make all edits as one step, or none of them",
+            ..FLAG
+        },
+        Argument {
+            id: EOL,
+            long: Some(EOL),
+            help: "Give the lines of pieces the line endings of the message; what is encoded as base64 stays as it is",
+            ..FLAG
+        },
+        Argument {
+            id: EXPLAIN,
+            long: Some(EXPLAIN),
+            help: "Say why a line of SCRIPT is invalid, as is always done for -e, and what the reason for a refused line means",
+            ..FLAG
+        },
+        Argument {
+            id: LINE,
+            short: Some('e'),
+            help: "A line of the script, in place of SCRIPT; may be given more than once. Every other word is then a PIECE",
+            ..OPTION_AGAIN
+        },
+        Argument {
+            id: SCRIPT,
+            help: "The file with the script: one edit per line, such as `add 1 Subject: hello`, `del 1 Subject 2` or `undo`",
+            action: ArgAction::Set,
+            ..FLAG
+        },
+        Argument {
+            id: PIECE,
+            help: "Files that the script names by number, from 1",
+            action: ArgAction::Append,
+            ..FLAG
+        },
+        WAIT_OPTION,
+        TEMPFAIL_OPTION,
+    ],
+};

@@ -17,6 +17,7 @@
 //! `mk_tool/src/tests/explained.rt`, `mk_tool/src/tests/locks.rt`; `checks/faults` tries each invalid command line.
 #![tactic(auto)]
 
+mod arguments;
 mod edit_options;
 mod field_options;
 pub mod hints;
@@ -25,4 +26,6 @@ pub mod options;
 mod pack_options;
 pub mod reasons;
 mod script_words;
+mod section_options;
+mod shared_options;
 pub mod waiting;

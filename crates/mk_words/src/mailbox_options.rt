@@ -1,69 +1,48 @@
 //! The words on mailboxes.
 
-use crate::options::{MBOX, MESSAGES, NUMBER, RFC4155, UNQUOTE, flag, from};
-use clap::{Arg, ArgAction, Command};
-use std::alloc::{AllocError, Global};
+use crate::arguments::{Argument, FLAG, OPTION, Subcommand};
+use crate::options::{MBOX, MESSAGES, NUMBER, RFC4155, UNQUOTE};
+use crate::shared_options::FROM_OPTION;
 
 /// mimetool messages [--from FILE] [--rfc4155|--mbox HOW]
-pub fn messages_command<'a>(alloc: Global) -> Result<Command<'a>, AllocError> {
-    let command = Command::new(alloc, MESSAGES)
-        .about("Lists the messages of a mailbox, one per line")
-        .after_help(
-            "Examples:\n  mimetool messages < mailbox\n  mimetool messages --mbox=date --from mailbox",
-        )
-        .arg(from(alloc))?;
-    with_cuts(alloc, command)
-}
-
-/// Takes -n N, --rfc4155, --mbox HOW and --unquote too.
-pub fn with_number<'a>(alloc: Global, command: Command<'a>) -> Result<Command<'a>, AllocError> {
-    with_cuts(alloc, command.arg(number(alloc))?)?.arg(unquote(alloc))
-}
-
-/// Takes --rfc4155 and --mbox HOW too.
-pub fn with_cuts<'a>(alloc: Global, command: Command<'a>) -> Result<Command<'a>, AllocError> {
-    command.arg(rfc4155(alloc))?.arg(mbox(alloc)?)
-}
-
-/// --unquote
-fn unquote<'a>(alloc: Global) -> Arg<'a> {
-    flag(
-        alloc,
-        UNQUOTE,
-        "With -n, remove one > from lines that begin with >From, >>From and so on",
-    )
-    .long(UNQUOTE)
-}
+pub const MESSAGES_COMMAND: Subcommand = Subcommand {
+    name: MESSAGES,
+    about: "Lists the messages of a mailbox, one per line",
+    after_help: "Examples:\n  mimetool messages < mailbox\n  mimetool messages --mbox=date --from mailbox",
+    arguments: &[FROM_OPTION, RFC4155_OPTION, MBOX_OPTION],
+};
 
 /// -n N
-pub fn number<'a>(alloc: Global) -> Arg<'a> {
-    Arg::new(alloc, NUMBER)
-        .short('n')
-        .value_name("N")
-        .help("Treat the input as a mailbox, and take its N-th message, from 1")
-        .allow_hyphen_values(true)
-        .action(ArgAction::Set)
-}
+pub const NUMBER_OPTION: Argument = Argument {
+    id: NUMBER,
+    short: Some('n'),
+    value_name: Some("N"),
+    help: "Treat the input as a mailbox, and take its N-th message, from 1",
+    ..OPTION
+};
 
-// --rfc4155
-fn rfc4155<'a>(alloc: Global) -> Arg<'a> {
-    flag(
-        alloc,
-        RFC4155,
-        "Cut the mailbox only at From-lines that end with a date, as --mbox=date does",
-    )
-    .long(RFC4155)
-}
+/// --rfc4155
+pub const RFC4155_OPTION: Argument = Argument {
+    id: RFC4155,
+    long: Some(RFC4155),
+    help: "Cut the mailbox only at From-lines that end with a date, as --mbox=date does",
+    ..FLAG
+};
 
-// --mbox HOW
-fn mbox<'a>(alloc: Global) -> Result<Arg<'a>, AllocError> {
-    Arg::new(alloc, MBOX)
-        .long(MBOX)
-        .value_name("HOW")
-        .help(
-            "Cut the mailbox at any From-line, only at those with a date, or only at those before a field: any, date or field",
-        )
-        .allow_hyphen_values(true)
-        .action(ArgAction::Set)
-        .conflicts_with(RFC4155)
-}
+/// --mbox HOW
+pub const MBOX_OPTION: Argument = Argument {
+    id: MBOX,
+    long: Some(MBOX),
+    value_name: Some("HOW"),
+    help: "Cut the mailbox at any From-line, only at those with a date, or only at those before a field: any, date or field",
+    conflicts: &[RFC4155],
+    ..OPTION
+};
+
+/// --unquote
+pub const UNQUOTE_OPTION: Argument = Argument {
+    id: UNQUOTE,
+    long: Some(UNQUOTE),
+    help: "With -n, remove one > from lines that begin with >From, >>From and so on",
+    ..FLAG
+};

@@ -1,10 +1,12 @@
 //! The command line.
 
-use crate::edit_options::{edit_command, redo_command, undo_command};
-use crate::field_options::field_command;
-use crate::mailbox_options::{messages_command, with_number};
-use crate::pack_options::pack_command;
-use clap::{Arg, ArgAction, Command};
+use crate::arguments::Subcommand;
+use crate::edit_options::{EDIT_COMMAND, REDO_COMMAND, UNDO_COMMAND};
+use crate::field_options::FIELD_COMMAND;
+use crate::mailbox_options::MESSAGES_COMMAND;
+use crate::pack_options::PACK_COMMAND;
+use crate::section_options::{EXTRACT_COMMAND, SECTIONS_COMMAND, UNPACK_COMMAND};
+use clap::Command;
 use std::alloc::{AllocError, Global};
 
 /// What `--version` prints after the program's name.
@@ -185,8 +187,16 @@ pub const MBOX: &str = "mbox";
 pub const UNQUOTE: &str = "unquote";
 
 /// The subcommands, in the order in which help lists them.
-const SUBCOMMANDS: [&str; 9] = [
-    EDIT, UNDO, REDO, SECTIONS, EXTRACT, UNPACK, PACK, FIELD, MESSAGES,
+static SUBCOMMANDS: [Subcommand; 9] = [
+    EDIT_COMMAND,
+    UNDO_COMMAND,
+    REDO_COMMAND,
+    SECTIONS_COMMAND,
+    EXTRACT_COMMAND,
+    UNPACK_COMMAND,
+    PACK_COMMAND,
+    FIELD_COMMAND,
+    MESSAGES_COMMAND,
 ];
 
 /// The command line of the program.
@@ -197,189 +207,18 @@ pub fn command<'a>(alloc: Global) -> Result<Command<'a>, AllocError> {
             "Edits an Internet message exactly: the message comes from standard input, the result goes to standard output.",
         )
         .subcommand_required(true);
-    for name in SUBCOMMANDS {
-        command = command.subcommand(subcommand(alloc, name)?)?;
+    for subcommand in &SUBCOMMANDS {
+        command = command.subcommand(subcommand.command(alloc)?)?;
     }
     Ok(command)
 }
 
 /// The subcommand of a name.
 pub fn subcommand<'a>(alloc: Global, name: &str) -> Result<Command<'a>, AllocError> {
-    if name == EDIT {
-        edit_command(alloc)
-    } else if name == UNDO {
-        undo_command(alloc)
-    } else if name == REDO {
-        redo_command(alloc)
-    } else if name == SECTIONS {
-        sections_command(alloc)
-    } else if name == EXTRACT {
-        extract_command(alloc)
-    } else if name == UNPACK {
-        unpack_command(alloc)
-    } else if name == PACK {
-        pack_command(alloc)
-    } else if name == MESSAGES {
-        messages_command(alloc)
-    } else {
-        field_command(alloc)
+    for subcommand in &SUBCOMMANDS {
+        if subcommand.name == name {
+            return subcommand.command(alloc);
+        }
     }
-}
-
-/// --from FILE
-pub fn from<'a>(alloc: Global) -> Arg<'a> {
-    Arg::new(alloc, FROM)
-        .long("from")
-        .value_name("FILE")
-        .help("Read the message from FILE, not from standard input")
-        .allow_hyphen_values(true)
-        .action(ArgAction::Set)
-}
-
-/// --in-place FILE
-pub fn in_place<'a>(alloc: Global) -> Result<Arg<'a>, AllocError> {
-    Arg::new(alloc, IN_PLACE)
-        .long("in-place")
-        .value_name("FILE")
-        .help("Read the message from FILE, and replace FILE with the result")
-        .allow_hyphen_values(true)
-        .action(ArgAction::Set)
-        .conflicts_with(FROM)
-}
-
-/// Takes --wait[=SECONDS] and --tempfail too.
-pub fn with_wait<'a>(alloc: Global, command: Command<'a>) -> Result<Command<'a>, AllocError> {
-    command.arg(wait(alloc))?.arg(flag(
-        alloc,
-        TEMPFAIL,
-        "Exit with 75, not 3 or 4, when a read or a write fails or memory runs out",
-    )
-    .long(TEMPFAIL))
-}
-
-// --wait[=SECONDS]
-fn wait<'a>(alloc: Global) -> Arg<'a> {
-    Arg::new(alloc, WAIT)
-        .long(WAIT)
-        .value_name("SECONDS")
-        .help("Wait while another run is using the same file or journal, for SECONDS at most")
-        .num_args(0..=1)
-        .require_equals(true)
-        .action(ArgAction::Set)
-}
-
-// mimetool sections [-n N [--rfc4155|--mbox HOW] [--unquote]] [--json [--utf8]] [--explain]
-fn sections_command<'a>(alloc: Global) -> Result<Command<'a>, AllocError> {
-    let command = Command::new(alloc, SECTIONS)
-        .about("Lists the sections of the message, one per line")
-        .after_help(
-            "Examples:\n  mimetool sections < message\n  mimetool sections --json --from message",
-        )
-        .arg(from(alloc))?
-        .arg(flag(alloc, JSON, "Print a JSON object for each section").long(JSON))?
-        .arg(utf8(
-            alloc,
-            "With --json, give the names that unpack --utf8 gives",
-        ))?
-        .arg(explain(alloc))?;
-    with_number(alloc, command)
-}
-
-// mimetool extract [-n N [--rfc4155|--mbox HOW] [--unquote]] -s PATH [--raw|--head|--prefix]
-fn extract_command<'a>(alloc: Global) -> Result<Command<'a>, AllocError> {
-    let path = Arg::new(alloc, PATH)
-        .short('s')
-        .help("The path of the section, such as 1 or 1.2")
-        .required(true)
-        .allow_hyphen_values(true)
-        .action(ArgAction::Set);
-    let command = Command::new(alloc, EXTRACT)
-        .about("Prints the content of a section, decoded if no sections are below it")
-        .after_help(
-            "Examples:\n  mimetool extract -s 1.2 < message > picture.gif\n  mimetool extract -s 1 --head --from message",
-        )
-        .arg(from(alloc))?
-        .arg(path)?
-        .arg(flag(alloc, RAW, "Print the content as it is, not decoded").long(RAW))?
-        .arg(
-            flag(
-                alloc,
-                HEAD,
-                "Print the fields of the section, not its content",
-            )
-            .long(HEAD)
-            .conflicts_with(RAW)?,
-        )?
-        .arg(
-            flag(
-                alloc,
-                PREFIX,
-                "Print what can be decoded of invalid base64; the fault is still reported",
-            )
-            .long(PREFIX)
-            .conflicts_with(RAW)?
-            .conflicts_with(HEAD)?,
-        )?
-        .arg(explain(alloc))?;
-    with_number(alloc, command)
-}
-
-// mimetool unpack [-n N [--rfc4155|--mbox HOW] [--unquote]] [-f] [-t] [-s PATH].. [--silent|--paths] [--utf8] [-C DIR]
-fn unpack_command<'a>(alloc: Global) -> Result<Command<'a>, AllocError> {
-    let section = Arg::new(alloc, PATH)
-        .short('s')
-        .help(
-            "Write only the leaves at and below this path, such as 1.2; may be given more than once",
-        )
-        .allow_hyphen_values(true)
-        .action(ArgAction::Append);
-    let paths = flag(
-        alloc,
-        PATHS,
-        "Print the path of each section before its name",
-    )
-    .long(PATHS);
-    let dir = Arg::new(alloc, DIR)
-        .short('C')
-        .help("The folder to write to; it is created if it doesn't exist")
-        .allow_hyphen_values(true)
-        .action(ArgAction::Set);
-    let command = Command::new(alloc, UNPACK)
-        .about("Writes the contents of the leaves to files, and prints their names and types")
-        .after_help(
-            "Examples:\n  mimetool unpack -C attachments < message\n  mimetool unpack -t -f --from message\n  mimetool unpack -s 1.2 -s 1.3 --paths < message",
-        )
-        .arg(from(alloc))?
-        .arg(flag(alloc, OVER, "Overwrite existing files").short('f'))?
-        .arg(flag(alloc, TEXTS, "Write texts without a name too").short('t'))?
-        .arg(section)?
-        .arg(flag(alloc, SILENT, "Print no names").long(SILENT))?
-        .arg(paths.conflicts_with(SILENT)?)?
-        .arg(utf8(
-            alloc,
-            "Name files in UTF-8, as the message does, not only in ASCII",
-        ))?
-        .arg(dir)?
-        .arg(explain(alloc))?;
-    with_number(alloc, command)
-}
-
-/// --explain
-pub fn explain<'a>(alloc: Global) -> Arg<'a> {
-    flag(
-        alloc,
-        EXPLAIN,
-        "Say what a reason means before the line that names it",
-    )
-    .long(EXPLAIN)
-}
-
-/// An option without a value.
-pub fn flag<'a>(alloc: Global, name: &'a str, help: &'a str) -> Arg<'a> {
-    Arg::new(alloc, name).help(help).action(ArgAction::SetTrue)
-}
-
-/// --utf8
-pub fn utf8<'a>(alloc: Global, help: &'a str) -> Arg<'a> {
-    flag(alloc, UTF8, help).long(UTF8)
+    FIELD_COMMAND.command(alloc)
 }
