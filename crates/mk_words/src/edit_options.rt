@@ -12,7 +12,7 @@ use crate::shared_options::{
 use clap::ArgAction;
 
 /// mimetool undo [--from FILE|--in-place FILE] [--wait[=SECONDS]] [--tempfail] -j JOURNAL
-pub const UNDO_COMMAND: Subcommand = Subcommand {
+pub static UNDO_COMMAND: Subcommand = Subcommand {
     name: UNDO,
     about: "Undoes the last step of an earlier edit, and prints the message",
     after_help: "Examples:\n  mimetool undo -j journal < edited > message\n  mimetool undo -j journal --in-place edited",
@@ -20,7 +20,7 @@ pub const UNDO_COMMAND: Subcommand = Subcommand {
 };
 
 /// mimetool redo [--from FILE|--in-place FILE] [--wait[=SECONDS]] [--tempfail] -j JOURNAL
-pub const REDO_COMMAND: Subcommand = Subcommand {
+pub static REDO_COMMAND: Subcommand = Subcommand {
     name: REDO,
     about: "Redoes the last step that was undone, and prints the message",
     after_help: "Examples:\n  mimetool redo -j journal < message > edited\n  mimetool redo -j journal --in-place message",
@@ -49,7 +49,7 @@ const JOURNAL_OPTION: Argument = Argument {
 };
 
 /// mimetool edit [--from FILE|--in-place FILE] [--wait[=SECONDS]] [--tempfail] [-n N [--rfc4155|--mbox HOW] [--unquote]] [-j JOURNAL] [--all] [--eol] [--explain] [-e LINE].. [SCRIPT] [PIECE..]
-pub const EDIT_COMMAND: Subcommand = Subcommand {
+pub static EDIT_COMMAND: Subcommand = Subcommand {
     name: EDIT,
     about: "Edits the message by the lines of a script, and prints it",
     after_help: EDIT_HELP,

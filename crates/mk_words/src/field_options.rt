@@ -23,7 +23,7 @@ const WITH_NAME: Argument = Argument {
 };
 
 /// mimetool field [--from FILE|--in-place FILE] [--wait[=SECONDS]] [--tempfail] [-p PATH] [--prepend NAME:TEXT] [--drop NAME:] [-a FIELD] [-A FIELD] [-i FIELD] [-I FIELD] [-u NAME:] [-U NAME:] [-x NAME:] [-X NAME:] [--rename OLD:NEW] [--unfold] [--decode] [--encode] [--eol] [--refused-ok] [-s [--rfc4155|--mbox HOW]]
-pub const FIELD_COMMAND: Subcommand = Subcommand {
+pub static FIELD_COMMAND: Subcommand = Subcommand {
     name: FIELD,
     about: "Adds, renames and removes fields of a message, or prints those of a name",
     after_help: "Letters work in this order, whatever the order of the command line: --prepend, --drop, --rename, -a, -A, -i, -I, -u, -U. A letter that is given again works on the result of the earlier ones, as in a pipe.\n\nExamples:\n  mimetool field -I 'X-Seen: yes' --in-place message\n  mimetool field -I 'X-Seen: yes' -I 'X-By: me' < message\n  mimetool field --prepend 'Subject:[list] ' < message\n  mimetool field -s -x Subject: --from mailbox\n  mimetool field -p 1.2 -x Content-Type: < message",

@@ -5,7 +5,7 @@ use crate::options::{MBOX, MESSAGES, NUMBER, RFC4155, UNQUOTE};
 use crate::shared_options::FROM_OPTION;
 
 /// mimetool messages [--from FILE] [--rfc4155|--mbox HOW]
-pub const MESSAGES_COMMAND: Subcommand = Subcommand {
+pub static MESSAGES_COMMAND: Subcommand = Subcommand {
     name: MESSAGES,
     about: "Lists the messages of a mailbox, one per line",
     after_help: "Examples:\n  mimetool messages < mailbox\n  mimetool messages --mbox=date --from mailbox",

@@ -187,16 +187,8 @@ pub const MBOX: &str = "mbox";
 pub const UNQUOTE: &str = "unquote";
 
 /// The subcommands, in the order in which help lists them.
-static SUBCOMMANDS: [Subcommand; 9] = [
-    EDIT_COMMAND,
-    UNDO_COMMAND,
-    REDO_COMMAND,
-    SECTIONS_COMMAND,
-    EXTRACT_COMMAND,
-    UNPACK_COMMAND,
-    PACK_COMMAND,
-    FIELD_COMMAND,
-    MESSAGES_COMMAND,
+const SUBCOMMANDS: [&str; 9] = [
+    EDIT, UNDO, REDO, SECTIONS, EXTRACT, UNPACK, PACK, FIELD, MESSAGES,
 ];
 
 /// The command line of the program.
@@ -207,18 +199,36 @@ pub fn command<'a>(alloc: Global) -> Result<Command<'a>, AllocError> {
             "Edits an Internet message exactly: the message comes from standard input, the result goes to standard output.",
         )
         .subcommand_required(true);
-    for subcommand in &SUBCOMMANDS {
-        command = command.subcommand(subcommand.command(alloc)?)?;
+    for name in &SUBCOMMANDS {
+        command = command.subcommand(subcommand(alloc, *name)?)?;
     }
     Ok(command)
 }
 
 /// The subcommand of a name.
 pub fn subcommand<'a>(alloc: Global, name: &str) -> Result<Command<'a>, AllocError> {
-    for subcommand in &SUBCOMMANDS {
-        if subcommand.name == name {
-            return subcommand.command(alloc);
-        }
+    row(name).command(alloc)
+}
+
+// What a subcommand takes.
+fn row(name: &str) -> &'static Subcommand {
+    if name == EDIT {
+        &EDIT_COMMAND
+    } else if name == UNDO {
+        &UNDO_COMMAND
+    } else if name == REDO {
+        &REDO_COMMAND
+    } else if name == SECTIONS {
+        &SECTIONS_COMMAND
+    } else if name == EXTRACT {
+        &EXTRACT_COMMAND
+    } else if name == UNPACK {
+        &UNPACK_COMMAND
+    } else if name == PACK {
+        &PACK_COMMAND
+    } else if name == MESSAGES {
+        &MESSAGES_COMMAND
+    } else {
+        &FIELD_COMMAND
     }
-    FIELD_COMMAND.command(alloc)
 }

@@ -7,7 +7,7 @@ use clap::ArgAction;
 
 /// mimetool pack [-b BOUNDARY] [-m SUBTYPE] [--inline] [--charset NAME] [--eol] [--utf8] [--forward FILE].. SPEC..
 /// mimetool pack [--inline] [--charset NAME] [--eol] [--utf8] --part SPEC
-pub const PACK_COMMAND: Subcommand = Subcommand {
+pub static PACK_COMMAND: Subcommand = Subcommand {
     name: PACK,
     about: "Builds a multipart from files, after the fields on standard input, and prints it",
     after_help: "Examples:\n  mimetool pack text/plain:letter image/gif:dot.gif < fields\n  printf 'Subject: report\\n' | mimetool pack -b =_b application/pdf:report.pdf\n  mimetool pack -m alternative --inline --charset utf-8 text/plain:letter text/html:letter.html < fields\n  mimetool pack text/plain:letter --forward message < fields\n  mimetool pack --part image/gif:dot.gif > part",

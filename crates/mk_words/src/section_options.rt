@@ -8,7 +8,7 @@ use crate::options::{
 use crate::shared_options::{EXPLAIN_OPTION, FROM_OPTION, UTF8_OPTION};
 
 /// mimetool sections [-n N [--rfc4155|--mbox HOW] [--unquote]] [--json [--utf8]] [--explain]
-pub const SECTIONS_COMMAND: Subcommand = Subcommand {
+pub static SECTIONS_COMMAND: Subcommand = Subcommand {
     name: SECTIONS,
     about: "Lists the sections of the message, one per line",
     after_help: "Examples:\n  mimetool sections < message\n  mimetool sections --json --from message",
@@ -33,7 +33,7 @@ pub const SECTIONS_COMMAND: Subcommand = Subcommand {
 };
 
 /// mimetool extract [-n N [--rfc4155|--mbox HOW] [--unquote]] -s PATH [--raw|--head|--prefix]
-pub const EXTRACT_COMMAND: Subcommand = Subcommand {
+pub static EXTRACT_COMMAND: Subcommand = Subcommand {
     name: EXTRACT,
     about: "Prints the content of a section, decoded if no sections are below it",
     after_help: "Examples:\n  mimetool extract -s 1.2 < message > picture.gif\n  mimetool extract -s 1 --head --from message",
@@ -75,7 +75,7 @@ pub const EXTRACT_COMMAND: Subcommand = Subcommand {
 };
 
 /// mimetool unpack [-n N [--rfc4155|--mbox HOW] [--unquote]] [-f] [-t] [-s PATH].. [--silent|--paths] [--utf8] [-C DIR]
-pub const UNPACK_COMMAND: Subcommand = Subcommand {
+pub static UNPACK_COMMAND: Subcommand = Subcommand {
     name: UNPACK,
     about: "Writes the contents of the leaves to files, and prints their names and types",
     after_help: "Examples:\n  mimetool unpack -C attachments < message\n  mimetool unpack -t -f --from message\n  mimetool unpack -s 1.2 -s 1.3 --paths < message",
