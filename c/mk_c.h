@@ -41,11 +41,31 @@ uint32_t mk_c_save(handle *, place *);
 uint32_t mk_c_sections(handle *, place *);
 uint32_t mk_c_extract(handle *, const uint32_t *path, size_t, place *);
 uint32_t mk_c_name(handle *, const uint32_t *path, size_t, place *);
+uint32_t mk_c_mailbox(handle *, uint32_t from_lines, place *);
+uint32_t mk_c_next(handle *, const uint8_t *bytes, size_t, bool last, size_t *used, place *);
+bool mk_c_fits(uint32_t from_lines, const uint8_t *message, size_t, const uint8_t *text, size_t);
+uint32_t mk_c_put_field(handle *, const uint8_t *text, size_t, place *);
+uint32_t mk_c_put_part(handle *, const uint8_t *media, size_t, bool named, const uint8_t *name, size_t,
+                       const uint8_t *text, size_t, bool base64, place *);
+uint32_t mk_c_put_message(handle *, const uint8_t *text, size_t, bool shown, place *);
+uint32_t mk_c_build(handle *, const uint8_t *subtype, size_t, bool charset_given, const uint8_t *charset, size_t,
+                    const uint8_t *boundary, size_t, bool crlf, place *);
 size_t mk_c_size(handle *);
 uint32_t mk_c_copy(handle *, uint8_t *bytes, size_t, place *);
 
+/* What mk_c_next says where it has read all bytes and needs more. */
+enum { MK_C_NEEDS_MORE = 8 };
+
+/* A block of memory, which grows. */
+typedef struct block {
+    void *at;
+    size_t size;
+} block;
+
 struct mimetool_session {
     handle handle;
+    block viewed; /* the bytes that the last view shows */
+    block listed; /* the sections that the last view shows */
 };
 
 /* Where a slice of no bytes or numbers points to: mk_c takes no NULL. */
@@ -67,10 +87,18 @@ static inline bool are_there(const void *at, size_t count)
     return at != NULL || count == 0;
 }
 
-/* Copies the answer of a call into memory of the caller's, or says why there is none. */
-mimetool_status mk_c_answered(mimetool_session *session, uint32_t status, mimetool_bytes *answer);
+/* Copies the answer of a call into memory of the caller's, or says why there is none.
+   Where there is no memory for it, the handle still has it. */
+mimetool_status mk_c_answered(handle *h, uint32_t status, mimetool_bytes *answer);
+
+/* Makes a block at least so large, or says that it can't be. What it holds stays. */
+bool mk_c_make_room(block *block, size_t size);
+
+/* Copies the answer into the session. */
+mimetool_status mk_c_viewed(mimetool_session *session, uint32_t status, mimetool_view *view);
 
 /* Whether a call has a session and a place for its answer, which is empty then. */
 bool mk_c_can_answer(mimetool_session *session, mimetool_bytes *answer);
+bool mk_c_can_view(mimetool_session *session, mimetool_view *view);
 
 #endif

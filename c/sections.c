@@ -11,7 +11,7 @@ mimetool_status mimetool_extract(mimetool_session *session, const uint32_t *path
 
     if (!mk_c_can_answer(session, content) || !are_there(path, depth))
         return MIMETOOL_NULL;
-    return mk_c_answered(session, mk_c_extract(&session->handle, numbers_at(path), depth, &unused), content);
+    return mk_c_answered(&session->handle, mk_c_extract(&session->handle, numbers_at(path), depth, &unused), content);
 }
 
 mimetool_status mimetool_name(mimetool_session *session, const uint32_t *path, size_t depth, mimetool_bytes *name)
@@ -20,7 +20,26 @@ mimetool_status mimetool_name(mimetool_session *session, const uint32_t *path, s
 
     if (!mk_c_can_answer(session, name) || !are_there(path, depth))
         return MIMETOOL_NULL;
-    return mk_c_answered(session, mk_c_name(&session->handle, numbers_at(path), depth, &unused), name);
+    return mk_c_answered(&session->handle, mk_c_name(&session->handle, numbers_at(path), depth, &unused), name);
+}
+
+mimetool_status mimetool_view_content(mimetool_session *session, const uint32_t *path, size_t depth,
+                                      mimetool_view *content)
+{
+    place unused;
+
+    if (!mk_c_can_view(session, content) || !are_there(path, depth))
+        return MIMETOOL_NULL;
+    return mk_c_viewed(session, mk_c_extract(&session->handle, numbers_at(path), depth, &unused), content);
+}
+
+mimetool_status mimetool_view_name(mimetool_session *session, const uint32_t *path, size_t depth, mimetool_view *name)
+{
+    place unused;
+
+    if (!mk_c_can_view(session, name) || !are_there(path, depth))
+        return MIMETOOL_NULL;
+    return mk_c_viewed(session, mk_c_name(&session->handle, numbers_at(path), depth, &unused), name);
 }
 
 /* The number that a text goes on with, and the byte after it, which is passed over. */
@@ -87,27 +106,52 @@ static void read_section(char **rest, mimetool_section *section, uint32_t **numb
 }
 
 /* How many sections a listing has, and how many numbers their paths have, at most. */
-static void count_listing(const mimetool_bytes *listing, size_t *lines, size_t *numbers)
+static void count_listing(const char *listing, size_t size, size_t *lines, size_t *numbers)
 {
-    size_t place;
+    size_t at, dots = 0;
 
     *lines = 0;
-    for (place = 0; place < listing->size; place++)
-        *lines += listing->bytes[place] == '\n';
-    *numbers = *lines;
-    for (place = 0; place < listing->size; place++)
-        *numbers += listing->bytes[place] == '.';
+    for (at = 0; at < size; at++) {
+        *lines += listing[at] == '\n';
+        dots += listing[at] == '.';
+    }
+    *numbers = *lines + dots;
+}
+
+/* Puts the sections into a block: first they, then the numbers of their paths, then
+   the listing, in which their types are. */
+static mimetool_status list(handle *h, block *block, size_t *count)
+{
+    place unused;
+    size_t size, front, numbers, index;
+    mimetool_section *sections;
+    uint32_t *path;
+    char *rest;
+    uint32_t status = mk_c_sections(h, &unused);
+
+    if (status != MIMETOOL_OK)
+        return (mimetool_status)status;
+    size = mk_c_size(h);
+    if (!mk_c_make_room(block, size))
+        return MIMETOOL_MEMORY;
+    mk_c_copy(h, block->at, size, &unused);
+    count_listing(block->at, size, count, &numbers);
+    front = *count * sizeof *sections + numbers * sizeof *path;
+    if (!mk_c_make_room(block, front + size))
+        return MIMETOOL_MEMORY;
+    sections = block->at;
+    path = (uint32_t *)(sections + *count);
+    rest = (char *)(path + numbers);
+    memmove(rest, block->at, size);
+    for (index = 0; index < *count; index++)
+        read_section(&rest, &sections[index], &path);
+    return MIMETOOL_OK;
 }
 
 mimetool_status mimetool_sections(mimetool_session *session, mimetool_section **sections, size_t *count)
 {
-    place unused;
-    mimetool_bytes listing;
+    block made = {NULL, 0};
     mimetool_status status;
-    size_t lines, depths, index;
-    mimetool_section *made;
-    uint32_t *numbers;
-    char *rest;
 
     if (sections == NULL || count == NULL)
         return MIMETOOL_NULL;
@@ -115,26 +159,32 @@ mimetool_status mimetool_sections(mimetool_session *session, mimetool_section **
     *count = 0;
     if (session == NULL)
         return MIMETOOL_NULL;
-    status = mk_c_answered(session, mk_c_sections(&session->handle, &unused), &listing);
-    if (status != MIMETOOL_OK)
-        return status;
-    count_listing(&listing, &lines, &depths);
-    /* One block has the sections, then the numbers of their paths, then the listing,
-       in which their types are. */
-    made = malloc(lines * sizeof *made + depths * sizeof *numbers + listing.size + 1);
-    if (made == NULL) {
-        mimetool_free(&listing);
-        return MIMETOOL_MEMORY;
+    status = list(&session->handle, &made, count);
+    if (status == MIMETOOL_OK) {
+        *sections = made.at;
+    } else {
+        free(made.at);
+        *count = 0;
     }
-    numbers = (uint32_t *)(made + lines);
-    rest = (char *)(numbers + depths);
-    memcpy(rest, listing.bytes, listing.size + 1);
-    mimetool_free(&listing);
-    for (index = 0; index < lines; index++)
-        read_section(&rest, &made[index], &numbers);
-    *sections = made;
-    *count = lines;
-    return MIMETOOL_OK;
+    return status;
+}
+
+mimetool_status mimetool_view_sections(mimetool_session *session, const mimetool_section **sections, size_t *count)
+{
+    mimetool_status status;
+
+    if (sections == NULL || count == NULL)
+        return MIMETOOL_NULL;
+    *sections = NULL;
+    *count = 0;
+    if (session == NULL)
+        return MIMETOOL_NULL;
+    status = list(&session->handle, &session->listed, count);
+    if (status == MIMETOOL_OK)
+        *sections = session->listed.at;
+    else
+        *count = 0;
+    return status;
 }
 
 void mimetool_free_sections(mimetool_section *sections)

@@ -15,6 +15,7 @@ const char *mimetool_reason(mimetool_status status)
     case MIMETOOL_MEMORY: return "Memory";
     case MIMETOOL_NO_NAME: return "NoName";
     case MIMETOOL_NULL: return "Null";
+    case MIMETOOL_NO_MESSAGE: return "NoMessage";
     case MIMETOOL_NO_SUCH_SECTION: return "NoSuchSection";
     case MIMETOOL_NOT_MULTIPART: return "NotMultipart";
     case MIMETOOL_NOT_LEAF: return "NotLeaf";
@@ -35,6 +36,12 @@ const char *mimetool_reason(mimetool_status status)
     case MIMETOOL_JOURNAL_MISMATCH: return "JournalMismatch";
     case MIMETOOL_BAD_BASE64: return "BadBase64";
     case MIMETOOL_UNKNOWN_ENCODING: return "UnknownEncoding";
+    case MIMETOOL_BAD_TYPE: return "BadType";
+    case MIMETOOL_BAD_PART_NAME: return "BadName";
+    case MIMETOOL_BAD_CHARSET: return "BadCharset";
+    case MIMETOOL_READ: return "Read";
+    case MIMETOOL_WRITE: return "Write";
+    case MIMETOOL_STOPPED: return "Stopped";
     }
     return "Unknown";
 }
@@ -54,7 +61,7 @@ static mimetool_session *new_session(void)
     mimetool_session *made = malloc(sizeof *made);
 
     if (made != NULL)
-        made->handle = (handle){NULL, false};
+        *made = (mimetool_session){{NULL, false}, {NULL, 0}, {NULL, 0}};
     return made;
 }
 
@@ -109,10 +116,45 @@ void mimetool_close(mimetool_session *session)
     if (session == NULL)
         return;
     mk_c_close(&session->handle);
+    free(session->viewed.at);
+    free(session->listed.at);
     free(session);
 }
 
-mimetool_status mk_c_answered(mimetool_session *session, uint32_t status, mimetool_bytes *answer)
+mimetool_status mk_c_answered(handle *h, uint32_t status, mimetool_bytes *answer)
+{
+    place unused;
+    size_t size;
+    unsigned char *bytes;
+
+    if (status != MIMETOOL_OK)
+        return (mimetool_status)status;
+    size = mk_c_size(h);
+    bytes = malloc(size + 1);
+    if (bytes == NULL)
+        return MIMETOOL_MEMORY;
+    mk_c_copy(h, bytes, size, &unused);
+    bytes[size] = 0;
+    answer->bytes = bytes;
+    answer->size = size;
+    return MIMETOOL_OK;
+}
+
+bool mk_c_make_room(block *block, size_t size)
+{
+    void *at;
+
+    if (size <= block->size)
+        return true;
+    at = realloc(block->at, size);
+    if (at == NULL)
+        return false;
+    block->at = at;
+    block->size = size;
+    return true;
+}
+
+mimetool_status mk_c_viewed(mimetool_session *session, uint32_t status, mimetool_view *view)
 {
     place unused;
     size_t size;
@@ -121,13 +163,12 @@ mimetool_status mk_c_answered(mimetool_session *session, uint32_t status, mimeto
     if (status != MIMETOOL_OK)
         return (mimetool_status)status;
     size = mk_c_size(&session->handle);
-    bytes = malloc(size + 1);
-    if (bytes == NULL)
+    if (!mk_c_make_room(&session->viewed, size + 1))
         return MIMETOOL_MEMORY;
+    bytes = session->viewed.at;
     mk_c_copy(&session->handle, bytes, size, &unused);
     bytes[size] = 0;
-    answer->bytes = bytes;
-    answer->size = size;
+    *view = (mimetool_view){bytes, size};
     return MIMETOOL_OK;
 }
 
@@ -140,13 +181,21 @@ bool mk_c_can_answer(mimetool_session *session, mimetool_bytes *answer)
     return session != NULL;
 }
 
+bool mk_c_can_view(mimetool_session *session, mimetool_view *view)
+{
+    if (view == NULL)
+        return false;
+    *view = (mimetool_view){NULL, 0};
+    return session != NULL;
+}
+
 mimetool_status mimetool_text(mimetool_session *session, mimetool_bytes *text)
 {
     place unused;
 
     if (!mk_c_can_answer(session, text))
         return MIMETOOL_NULL;
-    return mk_c_answered(session, mk_c_text(&session->handle, &unused), text);
+    return mk_c_answered(&session->handle, mk_c_text(&session->handle, &unused), text);
 }
 
 mimetool_status mimetool_save(mimetool_session *session, mimetool_bytes *journal)
@@ -155,7 +204,25 @@ mimetool_status mimetool_save(mimetool_session *session, mimetool_bytes *journal
 
     if (!mk_c_can_answer(session, journal))
         return MIMETOOL_NULL;
-    return mk_c_answered(session, mk_c_save(&session->handle, &unused), journal);
+    return mk_c_answered(&session->handle, mk_c_save(&session->handle, &unused), journal);
+}
+
+mimetool_status mimetool_view_text(mimetool_session *session, mimetool_view *text)
+{
+    place unused;
+
+    if (!mk_c_can_view(session, text))
+        return MIMETOOL_NULL;
+    return mk_c_viewed(session, mk_c_text(&session->handle, &unused), text);
+}
+
+mimetool_status mimetool_view_journal(mimetool_session *session, mimetool_view *journal)
+{
+    place unused;
+
+    if (!mk_c_can_view(session, journal))
+        return MIMETOOL_NULL;
+    return mk_c_viewed(session, mk_c_save(&session->handle, &unused), journal);
 }
 
 mimetool_status mimetool_undo(mimetool_session *session)

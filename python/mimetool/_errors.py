@@ -12,17 +12,27 @@ class MimetoolError(Exception):
     reason: its name, such as "HoldsBoundary"
     edit: which edit of a group was refused, counted from 0
     number: what the reason says of a number; 0 if it says nothing
+    item: "field", "part" or "message" where one of these is why `build` was refused, or ""
+    index: which one it is, counted from 0
     """
 
     _says = "the library refused the call: {reason}"
 
-    def __init__(self, status: int, reason: str, edit: int = 0, number: int = 0) -> None:
-        super().__init__(status, reason, edit, number)
-        self.status, self.reason, self.edit, self.number = status, reason, edit, number
+    def __init__(self, status: int, reason: str, edit: int = 0, number: int = 0, item: str = "") -> None:
+        super().__init__(status, reason, edit, number, item)
+        self.status, self.reason, self.edit, self.number, self.item = status, reason, edit, number, item
+
+    @property
+    def index(self) -> int:
+        return self.edit
 
     def __str__(self) -> str:
         says = self._says.format(reason=self.reason, number=self.number)
-        which = f"edit {self.edit} of the group, counted from 0, is refused: " if self.edit else ""
+        which = ""
+        if self.item:
+            which = f"{self.item} {self.edit}, counted from 0, is refused: "
+        elif self.edit:
+            which = f"edit {self.edit} of the group, counted from 0, is refused: "
         sentence = f"{which}{says}."
         return sentence[0].upper() + sentence[1:]
 
@@ -100,9 +110,17 @@ class OpenLine(MimetoolError):
 
 
 class HoldsBoundary(MimetoolError):
-    """`number` is the length of that multipart's path. Write another line, or take another boundary."""
+    """`number` is the length of that multipart's path. Write another line, or take another boundary.
+
+    With `build`, a line of a message begins with two hyphens and the boundary; `number` is 0.
+    """
 
     _says = "a line would be a delimiter of a multipart around it, whose path has the length {number}"
+
+    def __str__(self) -> str:
+        if self.number:
+            return super().__str__()
+        return f"Message {self.index}, counted from 0, is refused: one of its lines begins as a delimiter of the new multipart does."
 
 
 class Recut(MimetoolError):
@@ -153,11 +171,35 @@ class UnknownEncoding(MimetoolError):
     _says = "the transfer encoding is unknown, so the content can't be decoded"
 
 
+class BadType(MimetoolError):
+    """A part has a media type of at most 100 bytes (RFC 2045, 5.1), which is no multipart and no message."""
+
+    _says = "its media type isn't valid"
+
+
+class BadPartName(MimetoolError):
+    """A name is 1 to 255 bytes of UTF-8; one in printable ASCII has at most 100, no quote and no backslash."""
+
+    _says = "its name can't be written"
+
+
+class BadCharset(MimetoolError):
+    """A charset is a token (RFC 2045, 5.1)."""
+
+    _says = "the charset isn't valid"
+
+
+NO_NAME = 5
 BY_STATUS: Dict[int, Type[MimetoolError]] = {
-    5: NoName, 10: NoSuchSection, 11: NotMultipart, 12: NotLeaf, 13: NotPart, 14: NoSuchField, 15: BadPlace, 16: BadField,
+    NO_NAME: NoName, 10: NoSuchSection, 11: NotMultipart, 12: NotLeaf, 13: NotPart, 14: NoSuchField, 15: BadPlace, 16: BadField,
     17: BadName, 18: BadBoundary, 19: BadSubtype, 20: OpenLine, 21: HoldsBoundary, 22: Recut, 23: NothingToUndo, 24: NothingToRedo,
     30: JournalSyntax, 31: JournalOther, 32: JournalMismatch, 40: BadBase64, 41: UnknownEncoding,
+    50: BadType, 51: BadPartName, 52: BadCharset,
 }
+
+
+# Which item of a draft a reason against it is about.
+ITEMS = {BadField: "field", BadType: "part", BadPartName: "part", HoldsBoundary: "message"}
 
 
 def error(status: int, edit: int = 0, number: int = 0) -> Exception:
@@ -166,3 +208,11 @@ def error(status: int, edit: int = 0, number: int = 0) -> Exception:
         return MemoryError("memory ran out; nothing has changed")
     reason = library.mimetool_reason(status).decode()
     return BY_STATUS.get(status, MimetoolError)(status, reason, edit, number)
+
+
+def build_error(status: int, index: int) -> Exception:
+    """What to raise for a status against a message that is to be built."""
+    made = error(status, index)
+    if isinstance(made, MimetoolError):
+        return type(made)(status, made.reason, index, 0, ITEMS.get(type(made), ""))
+    return made

@@ -8,7 +8,7 @@ from ctypes import POINTER, c_bool, c_char, c_char_p, c_int, c_size_t, c_uint32,
 from typing import Tuple
 
 # The version of the library that this module was written for. Another one fits if its first number is the same.
-WRITTEN_FOR = "1.0.0"
+WRITTEN_FOR = "1.1.0"
 VARIABLE = "MIMETOOL_LIBRARY"
 BESIDE = os.path.join(os.path.dirname(os.path.abspath(__file__)), "libmimetool.so")
 INSTALLED = "libmimetool.so.1"
@@ -17,11 +17,23 @@ MEMORY = 2
 
 
 class Room(ctypes.Structure):
-    """Where the library puts what it answers to a session: a mimetool_session *, a mimetool_bytes, a mimetool_place, and a listing
-    with its length. A slice of a pointer to c_char is a copy in one go."""
+    """Where the library puts what it answers: a mimetool_view, a mimetool_place, a mimetool_session *, and a listing with its
+    length. A slice of a pointer to c_char is a copy in one go."""
 
-    _fields_ = [("session", c_void_p), ("bytes", POINTER(c_char)), ("size", c_size_t), ("edit", c_size_t), ("number", c_size_t),
+    _fields_ = [("bytes", POINTER(c_char)), ("size", c_size_t), ("edit", c_size_t), ("number", c_size_t), ("session", c_void_p),
                 ("listing", POINTER(c_char)), ("count", c_size_t)]
+
+
+class Answer(ctypes.Structure):
+    """mimetool_bytes."""
+
+    _fields_ = [("bytes", POINTER(c_char)), ("size", c_size_t)]
+
+
+class Place(ctypes.Structure):
+    """mimetool_place."""
+
+    _fields_ = [("edit", c_size_t), ("number", c_size_t)]
 
 
 class Edit(ctypes.Structure):
@@ -31,10 +43,40 @@ class Edit(ctypes.Structure):
                 ("number", c_uint32), ("top", c_bool), ("text", c_char_p), ("text_size", c_size_t)]
 
 
+class Field(ctypes.Structure):
+    """mimetool_field."""
+
+    _fields_ = [("text", c_char_p), ("size", c_size_t)]
+
+
+class Part(ctypes.Structure):
+    """mimetool_part."""
+
+    _fields_ = [("type", c_char_p), ("name", c_char_p), ("content", c_char_p), ("size", c_size_t), ("base64", c_bool)]
+
+
+class Forward(ctypes.Structure):
+    """mimetool_forward."""
+
+    _fields_ = [("text", c_char_p), ("size", c_size_t), ("shown", c_bool)]
+
+
+class Draft(ctypes.Structure):
+    """mimetool_draft."""
+
+    _fields_ = [("fields", POINTER(Field)), ("field_count", c_size_t), ("parts", POINTER(Part)), ("part_count", c_size_t),
+                ("messages", POINTER(Forward)), ("message_count", c_size_t), ("subtype", c_char_p), ("charset", c_char_p),
+                ("boundary", c_char_p), ("crlf", c_bool)]
+
+
+# mimetool_read: what is raised by one is lost, and it counts as failed then.
+READ = ctypes.CFUNCTYPE(c_int, c_void_p, c_void_p, c_size_t, POINTER(c_size_t))
+
 # mimetool_section: path, depth, kind, encoding, type, start, body, end, field_lines, body_lines.
 SECTION = struct.Struct("PNIIPNNNNN")
+SECTION_SIZE = SECTION.size
 
-# All pointers to sessions, answers and sections are plain addresses here.
+# All pointers to sessions, mailboxes, answers, views and sections are plain addresses here.
 SIGNATURES = {
     "mimetool_reason": (c_char_p, [c_int]),
     "mimetool_version": (c_char_p, []),
@@ -42,18 +84,22 @@ SIGNATURES = {
     "mimetool_start": (c_int, [c_void_p, c_char_p, c_size_t]),
     "mimetool_load": (c_int, [c_void_p, c_char_p, c_size_t, c_char_p, c_size_t, c_void_p]),
     "mimetool_close": (None, [c_void_p]),
-    "mimetool_text": (c_int, [c_void_p, c_void_p]),
-    "mimetool_save": (c_int, [c_void_p, c_void_p]),
+    "mimetool_view_text": (c_int, [c_void_p, c_void_p]),
+    "mimetool_view_journal": (c_int, [c_void_p, c_void_p]),
     "mimetool_undo": (c_int, [c_void_p]),
     "mimetool_redo": (c_int, [c_void_p]),
     "mimetool_counts": (c_int, [c_void_p, c_void_p, c_void_p]),
-    "mimetool_sections": (c_int, [c_void_p, c_void_p, c_void_p]),
-    "mimetool_free_sections": (None, [c_void_p]),
-    "mimetool_extract": (c_int, [c_void_p, c_char_p, c_size_t, c_void_p]),
-    "mimetool_name": (c_int, [c_void_p, c_char_p, c_size_t, c_void_p]),
+    "mimetool_view_sections": (c_int, [c_void_p, c_void_p, c_void_p]),
+    "mimetool_view_content": (c_int, [c_void_p, c_char_p, c_size_t, c_void_p]),
+    "mimetool_view_name": (c_int, [c_void_p, c_char_p, c_size_t, c_void_p]),
     "mimetool_add_field": (c_int, [c_void_p, c_char_p, c_size_t, c_bool, c_char_p, c_size_t, c_void_p]),
     "mimetool_group": (c_int, [c_void_p, c_void_p, c_size_t, c_void_p]),
     "mimetool_check": (c_int, [c_void_p, c_void_p, c_void_p]),
+    "mimetool_open_mailbox": (c_int, [c_void_p, c_int, READ, c_void_p]),
+    "mimetool_close_mailbox": (None, [c_void_p]),
+    "mimetool_next_message": (c_int, [c_void_p, c_void_p]),
+    "mimetool_fits": (c_bool, [c_int, c_char_p, c_size_t, c_char_p, c_size_t]),
+    "mimetool_build": (c_int, [c_void_p, c_void_p, c_void_p]),
 }
 
 
