@@ -153,6 +153,7 @@ static void close_session(mimetool_session *session, const char *journal)
     mimetool_bytes text, kept;
     mimetool_status status;
 
+    look_at_views(session);
     if (AGAIN(status, mimetool_text(session, &text)) != MIMETOOL_OK
         || AGAIN(status, mimetool_save(session, &kept)) != MIMETOOL_OK)
         give_up("out of memory");

@@ -53,6 +53,9 @@ void write_file(const char *name, const mimetool_bytes *whole);
 /* Numbers from 1, joined by dots. */
 bool read_path(bytes word, uint32_t *path, size_t *depth);
 
+/* Ends the program where a view shows something else than the call beside it answers. */
+void look_at_views(mimetool_session *session);
+
 /* Reads a whole script. Its first fault ends the program. */
 script read_script(bytes text, const bytes *pieces, size_t count);
 

@@ -33,16 +33,20 @@ class Session:
     """
 
     _handle: Optional[int] = None
+    # The ending of the message's first line; None after an edit that may have changed it.
+    _ending: Optional[bytes]
 
     def __init__(self, data: bytes) -> None:
         """Opens a session with a message, any bytes."""
         if type(data) is not bytes:
             data = data_of(data)
-        at = self._prepare(data)
+        room = self._room = Room()
+        self._at = at = addressof(room)
+        self._lock, self._ending = Lock(), ending_of(data)
         status = c_start(at + STARTED, data, len(data))
         if status:
             raise error(status)
-        self._handle = self._room.session
+        self._handle = room.session
 
     @classmethod
     def load(cls, data: bytes, journal: bytes) -> "Session":
@@ -58,18 +62,12 @@ class Session:
         """
         data, journal = data_of(data), data_of(journal)
         session = cls.__new__(cls)
-        at = session._prepare(data)
+        room = session._room = Room()
+        session._at = at = addressof(room)
+        session._lock, session._ending = Lock(), ending_of(data)
         session._end(library.mimetool_load(at + STARTED, data, len(data), journal, len(journal), at + PLACE))
-        session._handle = session._room.session
+        session._handle = room.session
         return session
-
-    def _prepare(self, data: bytes) -> int:
-        """All but the session of the library. Answers the address of the room."""
-        self._room = Room()
-        self._at = addressof(self._room)
-        self._lock = Lock()
-        self._ending: Optional[bytes] = ending_of(data)
-        return self._at
 
     def _end(self, status: int) -> None:
         """Raises the error of a call that says where it was refused."""
@@ -78,13 +76,9 @@ class Session:
 
     def close(self) -> None:
         """Frees what the session holds. Any later use raises ValueError, but for another close."""
-        lock = self._lock
-        lock.acquire()
-        try:
+        with self._lock:
             handle, self._handle = self._handle, None
             c_close(handle)
-        finally:
-            lock.release()
 
     def __del__(self) -> None:
         if self._handle is not None:
@@ -97,7 +91,14 @@ class Session:
 
     def __exit__(self, kind: Optional[Type[BaseException]], value: Optional[BaseException],
                  traceback: Optional[TracebackType]) -> None:
-        self.close()
+        lock = self._lock
+        # Where calls are frequent, this is used: it is twice as fast as a with statement.
+        lock.acquire()
+        try:
+            handle, self._handle = self._handle, None
+            c_close(handle)
+        finally:
+            lock.release()
 
     def __reduce__(self) -> NoReturn:
         raise TypeError("a Session can't be copied or pickled; load one with its text and its journal")
@@ -112,7 +113,6 @@ class Session:
     def text(self) -> bytes:
         """The message as it stands."""
         lock = self._lock
-        # Where calls are frequent, this is used: it is twice as fast as a with statement.
         lock.acquire()
         try:
             status = c_view_text(self._handle or _closed(), self._at)
