@@ -8,8 +8,8 @@
    callbacks build WORD..                   a message of files; see building.c
    callbacks nulls
 
-   KIND is a number of mimetool_from_lines. A read gives at most MOST bytes. Each
-   FAIL-th call of read or write fails, none where it is 0, and the call that it was
+   KIND is a number of mimetool_from_lines. A read gives at most MOST bytes. The first
+   of each FAIL calls of read and write fails, none where it is 0, and the call that it was
    for is made again. A line of RULES is a number of a message and what is done with
    it: drop, stop, odd (a number that is no verdict), field FILE or section FILE; an edit
    that is refused changes nothing. */
@@ -32,7 +32,7 @@ typedef struct device {
 static bool fails(device *device)
 {
     device->calls++;
-    return device->fail != 0 && device->calls % device->fail == 0;
+    return device->fail != 0 && device->calls % device->fail == 1;
 }
 
 static int read_some(void *context, void *buffer, size_t size, size_t *got)

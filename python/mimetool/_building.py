@@ -91,7 +91,6 @@ def build(fields: Iterable[Text], parts: Iterable[Part], *, messages: Iterable[U
     Content-Transfer-Encoding: base64
     <BLANKLINE>
     iVBORw==
-    <BLANKLINE>
     --b--
     <BLANKLINE>
 
