@@ -1,6 +1,7 @@
 """Where the Python module finds its library, its examples, and its wheels, for checks/python."""
 
 import os
+import re
 import shutil
 import subprocess
 import sys
@@ -76,6 +77,29 @@ def survey_example(cases, library, module):
     cases.expect("survey.py says how far it is", ("500 messages, 5 %", "10000 messages, 100 %\n", 22), (said[1], said[-1], len(said)))
 
 
+def readme(cases, library, module):
+    """The lines that python/README.md shows, one after another. The mailbox is that of examples/, with a program as its second message."""
+    folder = os.path.join(module, "readme")
+    os.mkdir(folder)
+    with open(os.path.join(TOP, "examples", "album.eml"), "rb") as file:
+        album = file.read()
+    box = [b"From a\nA: b\n\n1\n\n", b"From b\nContent-Type: application/x-msdownload\n\n2\n\n", b"From c\n" + album]
+    for name, text in [("album.eml", album), ("inbox.mbox", b"".join(box))]:
+        with open(os.path.join(folder, name), "wb") as file:
+            file.write(text)
+    with open(os.path.join(TOP, "python", "README.md"), encoding="utf-8") as file:
+        blocks = re.findall(r"^```python\n(.*?)^```", file.read(), re.M | re.S)
+    shown = "".join(f"{path} {kind} {media} {'dot.gif' if path == (1, 2) else None}\n" for path, kind, media, *_ in ALBUM)
+    lines = "\n".join([*blocks, "with mimetool.Session(message) as s: print(*[one.type for one in s.sections()][1:4])"])
+    shown += "text/plain image/gif message/rfc822\n"
+    found = child([sys.executable, "-c", lines], folder, MIMETOOL_LIBRARY=library, PYTHONPATH=module)
+    cases.expect("the lines of the README", (0, shown, 3), (found.returncode, found.stdout, len(blocks)))
+    with open(os.path.join(folder, "kept.mbox"), "rb") as file:
+        kept = file.read()
+    wanted = [box[0].replace(b"A: b\n", b"A: b\nX-Number: 1\n"), box[2].replace(b"\n\n", b"\nX-Number: 3\n\n", 1)]
+    cases.expect("the mailbox that they filter", b"".join(wanted), kept)
+
+
 def libraries(cases, library, folder):
     """Where the library is looked for, the first lines of the README, and the examples."""
     bare = os.path.join(folder, "bare")
@@ -87,12 +111,7 @@ def libraries(cases, library, folder):
                                        ("another library", "libc.so.6", 1, "ImportError: libc.so.6 is no library of mimetool")]:
         run = child(asks, bare, MIMETOOL_LIBRARY=named)
         cases.expect(f"the library: {shows}", (status, True), (run.returncode, said in run.stdout))
-    shutil.copy(os.path.join(TOP, "examples", "album.eml"), bare)
-    with open(os.path.join(TOP, "python", "README.md"), encoding="utf-8") as file:
-        lines = file.read().split("```python\n")[1].split("```")[0]
-    shown = "".join(f"{path} {kind} {media} {'dot.gif' if path == (1, 2) else None}\n" for path, kind, media, *_ in ALBUM)
-    found = child([sys.executable, "-c", lines], bare, MIMETOOL_LIBRARY=library)
-    cases.expect("the first lines of the README", (0, shown), (found.returncode, found.stdout))
+    readme(cases, library, bare)
     filter_example(cases, library, bare)
     survey_example(cases, library, bare)
 
