@@ -6,7 +6,7 @@ import operator
 import struct
 from typing import Sequence, Tuple, Union
 
-from ._library import MOST, PACKS
+from ._library import DEPTHS, MOST, PACKS, size
 
 Path = Sequence[int]
 Text = Union[bytes, str]
@@ -47,13 +47,14 @@ def counted(number: int, beyond: int) -> int:
     return number if number <= MOST else beyond
 
 
-def packed(path: Path) -> bytes:
-    """The numbers of a path one after another, as the library takes them."""
+def packed(path: Path) -> Tuple[bytes, object]:
+    """The numbers of a path one after another, and how many there are, as the library takes them."""
+    depth = len(path)
     try:
-        return PACKS[len(path)](*path)
+        return PACKS[depth](*path), DEPTHS[depth]
     except (IndexError, struct.error):
         # No section has the number 0, so a path that holds it leads nowhere, as one with a larger number does.
-        return struct.pack(f"{len(path)}I", *[counted(number, 0) for number in path])
+        return struct.pack(f"{depth}I", *[counted(number, 0) for number in path]), size(depth)
 
 
 def data_of(data: bytes) -> bytes:

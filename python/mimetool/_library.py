@@ -76,23 +76,24 @@ READ = ctypes.CFUNCTYPE(c_int, c_void_p, c_void_p, c_size_t, POINTER(c_size_t))
 SECTION = struct.Struct("PNIIPNNNNN")
 SECTION_SIZE = SECTION.size
 
-# All pointers to sessions, mailboxes, answers, views and sections are plain addresses here.
+# All pointers to sessions, mailboxes, answers, views and sections are plain addresses here. The calls that are most frequent have no
+# types of arguments: those are given as parameters that are made once (byref, address, size), in half the time.
 SIGNATURES = {
     "mimetool_reason": (c_char_p, [c_int]),
     "mimetool_version": (c_char_p, []),
     "mimetool_free": (None, [c_void_p]),
-    "mimetool_start": (c_int, [c_void_p, c_char_p, c_size_t]),
+    "mimetool_start": (c_int, None),
     "mimetool_load": (c_int, [c_void_p, c_char_p, c_size_t, c_char_p, c_size_t, c_void_p]),
     "mimetool_close": (None, [c_void_p]),
-    "mimetool_view_text": (c_int, [c_void_p, c_void_p]),
+    "mimetool_view_text": (c_int, None),
     "mimetool_view_journal": (c_int, [c_void_p, c_void_p]),
     "mimetool_undo": (c_int, [c_void_p]),
     "mimetool_redo": (c_int, [c_void_p]),
     "mimetool_counts": (c_int, [c_void_p, c_void_p, c_void_p]),
-    "mimetool_view_sections": (c_int, [c_void_p, c_void_p, c_void_p]),
-    "mimetool_view_content": (c_int, [c_void_p, c_char_p, c_size_t, c_void_p]),
-    "mimetool_view_name": (c_int, [c_void_p, c_char_p, c_size_t, c_void_p]),
-    "mimetool_add_field": (c_int, [c_void_p, c_char_p, c_size_t, c_bool, c_char_p, c_size_t, c_void_p]),
+    "mimetool_view_sections": (c_int, None),
+    "mimetool_view_content": (c_int, None),
+    "mimetool_view_name": (c_int, None),
+    "mimetool_add_field": (c_int, None),
     "mimetool_group": (c_int, [c_void_p, c_void_p, c_size_t, c_void_p]),
     "mimetool_check": (c_int, [c_void_p, c_void_p, c_void_p]),
     "mimetool_open_mailbox": (c_int, [c_void_p, c_int, READ, c_void_p]),
@@ -149,7 +150,10 @@ library = loaded()
 # The size of a number of a path, and the largest one.
 NUMBER = 4
 MOST = 0xFFFFFFFF
+# An address and a size as a parameter of a call.
+address, size = c_void_p.from_param, c_size_t.from_param
 # A path has at most 101 numbers.
+DEPTHS = [size(depth) for depth in range(102)]
 PACKS = [struct.Struct(f"{depth}I").pack for depth in range(102)]
 UNPACKS = [struct.Struct(f"{depth}I").unpack for depth in range(102)]
 NUMBERS_AT = [(c_uint32 * depth).from_address for depth in range(102)]

@@ -3,7 +3,7 @@
 import enum
 import io
 import os
-from ctypes import POINTER, addressof, c_size_t, c_void_p, memmove
+from ctypes import addressof, c_void_p, memmove
 from threading import RLock
 from types import TracebackType
 from typing import Any, BinaryIO, Callable, NoReturn, Optional, Tuple, Type, Union
@@ -49,7 +49,7 @@ class Reader:
         self._read: Callable[[int], bytes] = getattr(file, "read1", None) or file.read
         self._raised: Optional[BaseException] = None
 
-    def fill(self, _context: None, buffer: int, size: int, got: "POINTER(c_size_t)") -> int:
+    def fill(self, _context: None, buffer: int, size: int, got: Any) -> int:
         """A mimetool_read."""
         try:
             data = self._read(size)
@@ -231,4 +231,4 @@ def filter_mailbox(source: Source, sink: BinaryIO, visit: Visit, from_lines: Uni
             if text:
                 write_all(sink, text)
             if is_refused and refused is not None:
-                refused(number, error(RECUT))
+                refused(number, Recut(RECUT, "Recut"))

@@ -1,6 +1,6 @@
 """A message under edit."""
 
-from ctypes import addressof, byref, c_size_t
+from ctypes import byref, c_size_t
 from threading import Lock
 from types import TracebackType
 from typing import Callable, Iterable, List, NoReturn, Optional, Tuple, Type
@@ -9,7 +9,7 @@ from . import _library
 from ._edits import (ADD_FIELD, INSERT_PART, REMOVE_FIELD, REMOVE_PART, RENAME_FIELD, SET_BODY, SET_FIELD, SET_SECTION, WRAP, Edit,
                      EditKind, Path, Text, bytes_of, counted, data_of, ending_of, look_at, packed)
 from ._errors import NO_NAME, error
-from ._library import MOST, NUMBER, SECTION_SIZE, Room, library
+from ._library import MOST, NUMBER, SECTION_SIZE, Room, address, library, size
 from ._sections import Section, sections_in
 
 TAKE_A_FIELD = ADD_FIELD, SET_FIELD
@@ -32,7 +32,8 @@ class Session:
     b'Subject: hi\n\nBye\n' 1 0
     """
 
-    _handle: Optional[int] = None
+    # The session of the library as a parameter of its calls, which is never false.
+    _handle: Optional[object] = None
     # The ending of the message's first line; None after an edit that may have changed it.
     _ending: Optional[bytes]
 
@@ -41,12 +42,12 @@ class Session:
         if type(data) is not bytes:
             data = data_of(data)
         room = self._room = Room()
-        self._at = at = addressof(room)
+        self._view, self._place = byref(room), byref(room, PLACE)
         self._lock, self._ending = Lock(), ending_of(data)
-        status = c_start(at + STARTED, data, len(data))
+        status = c_start(byref(room, STARTED), data, size(len(data)))
         if status:
             raise error(status)
-        self._handle = room.session
+        self._handle = address(room.session)
 
     @classmethod
     def load(cls, data: bytes, journal: bytes) -> "Session":
@@ -63,10 +64,10 @@ class Session:
         data, journal = data_of(data), data_of(journal)
         session = cls.__new__(cls)
         room = session._room = Room()
-        session._at = at = addressof(room)
+        session._view, session._place = byref(room), byref(room, PLACE)
         session._lock, session._ending = Lock(), ending_of(data)
-        session._end(library.mimetool_load(at + STARTED, data, len(data), journal, len(journal), at + PLACE))
-        session._handle = room.session
+        session._end(library.mimetool_load(byref(room, STARTED), data, len(data), journal, len(journal), session._place))
+        session._handle = address(room.session)
         return session
 
     def _end(self, status: int) -> None:
@@ -115,7 +116,7 @@ class Session:
         lock = self._lock
         lock.acquire()
         try:
-            status = c_view_text(self._handle or _closed(), self._at)
+            status = c_view_text(self._handle or _closed(), self._view)
             if status:
                 raise error(status)
             room = self._room
@@ -126,7 +127,7 @@ class Session:
     def save(self) -> bytes:
         """The journal: all steps, and a digest of the message as it stands. `load` takes it with the message."""
         with self._lock:
-            return self._viewed(library.mimetool_view_journal(self._handle or _closed(), self._at))
+            return self._viewed(library.mimetool_view_journal(self._handle or _closed(), self._view))
 
     def undo(self) -> None:
         """Takes the last step back."""
@@ -172,7 +173,7 @@ class Session:
         room, lock = self._room, self._lock
         lock.acquire()
         try:
-            status = c_view_sections(self._handle or _closed(), self._at + LISTING, self._at + COUNT)
+            status = c_view_sections(self._handle or _closed(), byref(room, LISTING), byref(room, COUNT))
             if status:
                 raise error(status)
             return sections_in(room.listing[:room.count * SECTION_SIZE])
@@ -181,10 +182,11 @@ class Session:
 
     def extract(self, path: Path) -> bytes:
         """The content of a section: that of a leaf decoded, that of another as it stands."""
-        numbers, lock = packed(path), self._lock
+        numbers, depth = packed(path)
+        lock = self._lock
         lock.acquire()
         try:
-            status = c_view_content(self._handle or _closed(), numbers, len(numbers) // NUMBER, self._at)
+            status = c_view_content(self._handle or _closed(), numbers, depth, self._view)
             if status:
                 raise error(status)
             room = self._room
@@ -201,9 +203,9 @@ class Session:
         ...     print(s.name((1,)) == "\u00fc.txt")
         True
         """
-        numbers = packed(path)
+        numbers, depth = packed(path)
         with self._lock:
-            status = library.mimetool_view_name(self._handle or _closed(), numbers, len(numbers) // NUMBER, self._at)
+            status = library.mimetool_view_name(self._handle or _closed(), numbers, depth, self._view)
             return None if status == NO_NAME else self._viewed(status).decode()
 
     def add_field(self, path: Path, field: Text, top: bool = False) -> None:
@@ -218,14 +220,15 @@ class Session:
         ...     print(s.text())
         b'X-Long: a\r\n b\r\nA: b\r\nX-Seen: yes\r\n\r\n'
         """
-        text, numbers, lock = bytes_of(field), packed(path), self._lock
+        text, lock = bytes_of(field), self._lock
+        numbers, depth = packed(path)
         lock.acquire()
         try:
             handle = self._handle or _closed()
             is_bare = b"\n" not in text
             if is_bare:
                 text += self._ending or self._line_ending()
-            status = c_add_field(handle, numbers, len(numbers) // NUMBER, top, text, len(text), self._at + PLACE)
+            status = c_add_field(handle, numbers, depth, bool(top), text, size(len(text)), self._place)
             if status:
                 self._end(status)
             if not (is_bare or self._keeps_ending(ADD_FIELD, path, text)):
@@ -290,7 +293,7 @@ class Session:
         with self._lock:
             made = [self._c_edit(edit.kind, edit.path, edit.name, edit.number, edit.top, edit.text) for edit in given]
             rows = (_library.Edit * len(made))(*made)
-            self._end(library.mimetool_group(self._handle or _closed(), byref(rows), len(made), self._at + PLACE))
+            self._end(library.mimetool_group(self._handle or _closed(), byref(rows), len(made), self._place))
             if not all(self._keeps_ending(edit.kind, edit.path, edit.text) for edit in given):
                 self._ending = None
 
@@ -306,12 +309,12 @@ class Session:
         look_at(edit)
         with self._lock:
             made = self._c_edit(edit.kind, edit.path, edit.name, edit.number, edit.top, edit.text)
-            self._end(library.mimetool_check(self._handle or _closed(), byref(made), self._at + PLACE))
+            self._end(library.mimetool_check(self._handle or _closed(), byref(made), self._place))
 
     def _make_one(self, kind: EditKind, path: Path, name: bytes, number: int, top: bool, text: bytes) -> None:
         with self._lock:
             made = self._c_edit(kind, path, name, number, top, text)
-            self._end(library.mimetool_group(self._handle or _closed(), byref(made), 1, self._at + PLACE))
+            self._end(library.mimetool_group(self._handle or _closed(), byref(made), 1, self._place))
             if not self._keeps_ending(kind, path, text):
                 self._ending = None
 
@@ -321,13 +324,13 @@ class Session:
             text += self._line_ending()
         if number:
             number = counted(number, MOST if kind is INSERT_PART else 0)
-        numbers = packed(path)
+        numbers, _ = packed(path)
         return _library.Edit(kind, numbers, len(numbers) // NUMBER, name or None, len(name), number, top, text or None, len(text))
 
     def _line_ending(self) -> bytes:
         """The ending of the message's first line. It is looked for again only after an edit that may have changed it."""
         if self._ending is None:
-            self._ending = ending_of(self._viewed(c_view_text(self._handle or _closed(), self._at)))
+            self._ending = ending_of(self._viewed(c_view_text(self._handle or _closed(), self._view)))
         return self._ending
 
     def _keeps_ending(self, kind: EditKind, path: Path, text: bytes) -> bool:
