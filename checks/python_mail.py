@@ -315,12 +315,16 @@ def build_arguments(cases):
     found = [re.search(rb'boundary="(=_[0-9a-f]{24})"', build([], [])) for _ in range(2)]
     cases.expect("boundaries are random", (True, True), (all(found), found[0][1] != found[1][1]))
     for shows, wanted, call in [
-            ("another ending", "ValueError", lambda: build([], [], eol=b"\r")), ("a NUL in a name", "ValueError", lambda: build([], [part("a/b", b"", "c\0")])),
-            ("a NUL in a type", "BadType", lambda: build([], [part("a/b\0", b"")])), ("a NUL in a subtype", "BadSubtype", lambda: build([], [], subtype="a\0")),
+            ("another ending", "ValueError", lambda: build([], [], eol=b"\r")),
+            ("a NUL in a name", "ValueError", lambda: build([], [part("a/b", b"", "c\0")])),
+            ("a NUL in a type", "BadType", lambda: build([], [part("a/b\0", b"")])),
+            ("a NUL in a subtype", "BadSubtype", lambda: build([], [], subtype="a\0")),
             ("a NUL in a charset", "BadCharset", lambda: build([], [], charset="a\0")),
-            ("a NUL in a boundary", "BadBoundary", lambda: build([], [], boundary="a\0")), ("a NUL alone", "BadBoundary", lambda: build([], [], boundary="\0")),
-            ("a number", "TypeError", lambda: build([5], [])), ("a content that is a number", "TypeError", lambda: build([], [part("a/b", 5)])),
-            ("a message that is a str", "TypeError", lambda: build([], [], messages=["A: b"])), ("no part", "AttributeError", lambda: build([], [5])),
+            ("a NUL in a boundary", "BadBoundary", lambda: build([], [], boundary="a\0")),
+            ("a NUL alone", "BadBoundary", lambda: build([], [], boundary="\0")),
+            ("a number", "TypeError", lambda: build([5], [])), ("no part", "AttributeError", lambda: build([], [5])),
+            ("a content that is a number", "TypeError", lambda: build([], [part("a/b", 5)])),
+            ("a message that is a str", "TypeError", lambda: build([], [], messages=["A: b"])),
             ("a boundary beyond ASCII", "BadBoundary", lambda: build([], [], boundary="\u00fc"))]:
         cases.expect("build: " + shows, wanted, raised(call))
     nul = build([b"A: \0"], [part("text/plain", b"a\0b")], boundary="b")

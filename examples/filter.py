@@ -71,6 +71,8 @@ class Filter:
 
 
 def main():
+    if len(sys.argv) != 4:
+        sys.exit(__doc__)
     asked = Filter(*sys.argv[1:])
     mimetool.filter_mailbox(sys.stdin.buffer, sys.stdout.buffer, asked.visit, refused=asked.say_refused)
 

@@ -42,6 +42,8 @@ def survey(path, from_lines):
 
 
 def main():
+    if len(sys.argv) not in (2, 3):
+        sys.exit(__doc__)
     counts, sizes = survey(sys.argv[1], sys.argv[2] if len(sys.argv) > 2 else "any")
     print(f"{'type':30} {'leaves':>8} {'bytes':>12}")
     for media, size in sizes.most_common():

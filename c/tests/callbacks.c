@@ -9,10 +9,10 @@
    callbacks nulls
 
    KIND is a number of mimetool_from_lines. A read gives at most MOST bytes. The first
-   of each FAIL calls of read and write fails, none where it is 0, and the call that it was
-   for is made again. A line of RULES is a number of a message and what is done with
-   it: drop, stop, odd (a number that is no verdict), field FILE or section FILE; an edit
-   that is refused changes nothing. */
+   of each FAIL calls of read and write fails, none where it is 0, and the call that
+   it was for is made again. A line of RULES is a number of a message and what is done
+   with it: drop, stop, odd (a number that is no verdict), field FILE or section FILE;
+   an edit that is refused changes nothing. */
 #include "callbacks.h"
 
 #include <stdlib.h>

@@ -15,7 +15,7 @@ from ._sections import Section, sections_in
 TAKE_A_FIELD = ADD_FIELD, SET_FIELD
 # Where in the room of a session the place of a refusal, a new session, and a listing and its length are. A view is at its start.
 PLACE, STARTED, LISTING, COUNT = Room.edit.offset, Room.session.offset, Room.listing.offset, Room.count.offset
-# The calls that are frequent. A look-up in the library takes as long as ten in this module.
+# The calls that are frequent, so that they aren't looked up in the library each time.
 c_start, c_close, c_add_field = library.mimetool_start, library.mimetool_close, library.mimetool_add_field
 c_view_text, c_view_content, c_view_sections = (library.mimetool_view_text, library.mimetool_view_content,
                                                 library.mimetool_view_sections)
