@@ -206,7 +206,8 @@ def refusals(cases):
     def visit(session, number):
         session.set_body(ROOT, "no empty line\n" if number < 3 else "\nFrom z\n")
     module.filter_mailbox(BOX, sink, visit, refused=lambda *given: told.append(given))
-    cases.expect("refused", (BOX, [1, 2, 3], "Recut"), (sink.got, [number for number, _ in told], type(told[0][1]).__name__))
+    said = [(number, type(error).__name__) for number, error in told]
+    cases.expect("refused", (BOX, [(1, "Recut"), (2, "Recut"), (3, "Recut")]), (sink.got, said))
     sink = Sink()
     module.filter_mailbox(BOX, sink, visit)
     cases.expect("refused in silence", BOX, sink.got)
