@@ -195,7 +195,8 @@ fn gather(out: &mut Vec<u8>, text: &[u8]) -> Result<(), AllocError>
     Ok(())
 }
 
-fn before_equals(text: &[u8]) -> &[u8]
+/// What comes before the first `=`.
+pub(crate) fn before_equals(text: &[u8]) -> &[u8]
     ensures { result.now ≡ take_while (λ byte. not (byte == equals_sign)) text.now }
 {
     match split_at_first(text, EQUALS) {
@@ -276,8 +277,8 @@ fn last_letters(text: &[u8]) -> usize
     text.iter().take_while(|byte| is_letter(**byte)).count()
 }
 
-// Without branches, since which letter comes can't be foreseen.
-fn is_letter(byte: u8) -> bool
+/// Whether a byte is a letter of base64. Without branches, since which letter comes can't be foreseen.
+pub(crate) fn is_letter(byte: u8) -> bool
     ensures { result ≡ letter byte }
 {
     let upper_case = byte >= b'A' && byte <= b'Z';

@@ -1,6 +1,6 @@
 //! Runs of bytes of one class, tested sixteen at a time: which byte ends a run can't be foreseen, so a test byte by byte
-//! waits for each, and these runs are most of what is decoded and encoded.
-ghost use Rattle.std.specs.Prelude.{◌≡◌, ◌==◌, ◌+◌, ◌≤◌, if◌then◌else◌, length, take, drop};
+//! waits for each, and these runs are most of what is decoded and encoded. Bytes of a class are counted sixty-four at a time.
+ghost use Rattle.std.specs.Prelude.{◌≡◌, ◌==◌, ◌+◌, ◌≤◌, if◌then◌else◌, count_by, length, take, drop};
 ghost use Rattle.std.specs.Int.{w64, trailing_zeros};
 ghost use Rattle.std.specs.List.{prefix_len};
 ghost use Rattle.mk_code.specs.Base64Text.{is_letter as letter};
@@ -11,6 +11,9 @@ use std::simd::prelude::*;
 
 /// How many bytes are tested at once.
 pub(crate) const LANES: usize = 16;
+
+/// How many bytes are counted at once.
+pub(crate) const COUNTED: usize = 64;
 
 /// What a lower-case letter has and its capital lacks.
 const LOWER_CASE: u8 = 0x20;
@@ -66,6 +69,22 @@ pub(crate) fn strays_at(text: &[u8], at: usize) -> usize
         | from_slash.simd_lt(u8x16::splat(SLASH_AND_DIGITS))
         | bytes.simd_eq(u8x16::splat(b'+'));
     first_set(letters.to_bitmask())
+}
+
+/// How many of the sixty-four bytes at a place are letters of base64.
+#[inline(always)]
+pub(crate) fn letter_count_at(text: &[u8], at: usize) -> usize
+    requires { at + 64 ≤ length text.now }
+    ensures count { result ≡ count_by letter (take 64 (drop at text.now)) }
+    ensures few { result ≤ 64 }
+{
+    let bytes = u8x64::from_slice(&text[at..]);
+    let from_a = (bytes | u8x64::splat(LOWER_CASE)) - u8x64::splat(b'a');
+    let from_slash = bytes - u8x64::splat(b'/');
+    let letters = from_a.simd_lt(u8x64::splat(LETTERS))
+        | from_slash.simd_lt(u8x64::splat(SLASH_AND_DIGITS))
+        | bytes.simd_eq(u8x64::splat(b'+'));
+    letters.to_bitmask().count_ones() as usize
 }
 
 /// How many bytes that stand for themselves in quoted-printable come first of the sixteen bytes at a place.

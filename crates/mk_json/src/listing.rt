@@ -3,14 +3,17 @@
 use mk_head::{content_type, is_token};
 use mk_line::leading_blanks;
 use mk_tree::{Children, Doc, Kind, Section};
-use mk_view::{ExtractError, Leaf, NameForm, content, leaves_in, media_type, said_name, text_name};
+use mk_view::{Described, ExtractError, Leaf, NameForm, content_size, leaves_in};
 use serde_json::Value;
 use std::alloc::{AllocError, Global};
 
 const LINE_FEED: u8 = b'\n';
 
 /// What stands between the columns of the plain listing.
-const COLUMN_END: char = ' ';
+const COLUMN_END: u8 = b' ';
+
+/// What ends the word of a disposition, before its parameters.
+const SEMICOLON: u8 = b';';
 
 /// What stands between the numbers of a path.
 const PATH_DOT: u8 = b'.';
@@ -103,11 +106,12 @@ fn push_object(
 ) -> Result<(), AllocError> {
     push_columns(alloc, text, line)?;
     push_member(alloc, text, "boundary", section.boundary())?;
-    let media = media_type(alloc, section)?;
-    push_member(alloc, text, "charset", media.param(b"charset"))?;
-    let disposition = disposition(alloc, section)?;
-    push_member(alloc, text, "disposition", disposition.as_deref())?;
-    push_names(alloc, text, section)?;
+    let described = Described::read(alloc, section)?;
+    push_member(alloc, text, "charset", described.media.param(b"charset"))?;
+    if let Some(disposition) = &described.disposition {
+        push_disposition(alloc, text, &disposition.value)?;
+    }
+    push_names(alloc, text, &described)?;
     push_member(
         alloc,
         text,
@@ -121,59 +125,74 @@ fn push_object(
     Ok(())
 }
 
-// The disposition of a section, in lower case: what its Content-Disposition says before the first semicolon, where that is a
-// token (RFC 2183, 2.1 and 2.2). It is read as the value of a parameter, with a letter before it that keeps quotes as they are.
-fn disposition(alloc: Global, section: &Section<'_>) -> Result<Option<Vec<u8>>, AllocError> {
-    let Some(value) = section.value(alloc, b"Content-Disposition")? else {
-        return Ok(None);
+// Writes a disposition in lower case: what the value of Content-Disposition says before the first semicolon, where that is a
+// token (RFC 2183, 2.1 and 2.2).
+fn push_disposition(alloc: Global, text: &mut Vec<u8>, value: &[u8]) -> Result<(), AllocError> {
+    let front = match value.iter().position(|byte| *byte == SEMICOLON) {
+        Some(end) => &value[..end],
+        None => value,
     };
-    let mut text = Vec::from_slice(alloc, b";type=_")?;
-    text.extend_from_slice(&value)?;
-    let read = content_type(alloc, &text)?;
-    let word = match read.param(b"type") {
-        Some([_, word @ ..]) => &word[leading_blanks(word)..],
-        _ => return Ok(None),
-    };
-    if !is_token(word) {
-        return Ok(None);
+    let word = &front[leading_blanks(front)..];
+    if is_token(word) {
+        return push_lower_case(alloc, text, word);
     }
-    let word = word.iter().map(|byte| byte.to_ascii_lowercase());
-    Ok(Some(word.collect(alloc)?))
+    push_commented(alloc, text, value)
 }
 
-// Writes the size of the content of a leaf, where it can be decoded. One content at a time is in memory.
+// The same where comments or blanks stand around the word: it is read as the value of a parameter, with a letter before it that
+// keeps quotes as they are.
+fn push_commented(alloc: Global, text: &mut Vec<u8>, value: &[u8]) -> Result<(), AllocError> {
+    let mut parameter = Vec::from_slice(alloc, b";type=_")?;
+    parameter.extend_from_slice(value)?;
+    let read = content_type(alloc, &parameter)?;
+    let word = match read.param(b"type") {
+        Some([_, word @ ..]) => &word[leading_blanks(word)..],
+        _ => return Ok(()),
+    };
+    if is_token(word) {
+        push_lower_case(alloc, text, word)
+    } else {
+        Ok(())
+    }
+}
+
+// Writes the word of a disposition.
+fn push_lower_case(alloc: Global, text: &mut Vec<u8>, word: &[u8]) -> Result<(), AllocError> {
+    let word = word.iter().map(|byte| byte.to_ascii_lowercase());
+    let word: Vec<u8> = word.collect(alloc)?;
+    push_member(alloc, text, "disposition", Some(&word))
+}
+
+// Writes the size of the content of a leaf, where it can be decoded.
 fn push_size(alloc: Global, text: &mut Vec<u8>, section: &Section<'_>) -> Result<(), AllocError> {
-    match content(alloc, section) {
-        Ok(bytes) => {
-            let size = bytes.len();
-            text.extend_from_slice(format!(in alloc; ",\"size\":{size}")?.as_bytes())
-        }
+    match content_size(alloc, section) {
+        Ok(size) => text.extend_from_slice(format!(in alloc; ",\"size\":{size}")?.as_bytes()),
         Err(ExtractError::Memory) => Err(AllocError),
         Err(_) => Ok(()),
     }
 }
 
 // Writes the name that the fields of a section say: as a text, else as it stands there, and once more as it stands there.
-fn push_names(alloc: Global, text: &mut Vec<u8>, section: &Section<'_>) -> Result<(), AllocError> {
-    let raw = said_name(alloc, section)?;
-    match text_name(alloc, section)? {
+fn push_names(alloc: Global, text: &mut Vec<u8>, described: &Described) -> Result<(), AllocError> {
+    let raw = described.raw_name();
+    match described.text_name(alloc)? {
         Some(name) => push_member(alloc, text, "filename", Some(name.as_bytes()))?,
-        None => push_member(alloc, text, "filename", raw.as_deref())?,
+        None => push_member(alloc, text, "filename", raw)?,
     }
-    push_member(alloc, text, "raw_filename", raw.as_deref())
+    push_member(alloc, text, "raw_filename", raw)
 }
 
 // Writes the columns of a line of the listing after a text, as the first members of an object.
 fn push_columns(alloc: Global, text: &mut Vec<u8>, line: &[u8]) -> Result<(), AllocError> {
-    let line = String::from_utf8_lossy(alloc, line)?;
+    let columns = line.split(|byte| *byte == COLUMN_END);
     let mut before = b'{';
-    for (number, (key, column)) in KEYS.iter().zip(line.split(COLUMN_END)).enumerate() {
+    for (number, (key, column)) in KEYS.iter().zip(columns).enumerate() {
         text.push(before)?;
         push_key(text, *key)?;
         if number < WORDS {
-            push_string(alloc, text, column.as_bytes())?;
+            push_string(alloc, text, column)?;
         } else {
-            text.extend_from_slice(column.as_bytes())?;
+            text.extend_from_slice(column)?;
         }
         before = b',';
     }
@@ -202,9 +221,19 @@ fn push_key(text: &mut Vec<u8>, key: &str) -> Result<(), AllocError> {
     Ok(())
 }
 
-// Writes bytes as a string.
+// Writes bytes as a string. Most have nothing that JSON escapes.
 fn push_string(alloc: Global, text: &mut Vec<u8>, bytes: &[u8]) -> Result<(), AllocError> {
+    if bytes.iter().all(|byte| stands_for_itself(*byte)) {
+        text.push(b'"')?;
+        text.extend_from_slice(bytes)?;
+        text.push(b'"')?;
+        return Ok(());
+    }
     let string = Value::String(String::from_utf8_lossy(alloc, bytes)?);
-    text.extend_from_slice(string.to_string(alloc)?.as_bytes())?;
-    Ok(())
+    text.extend_from_slice(string.to_string(alloc)?.as_bytes())
+}
+
+// Whether a byte is written in a string as it is: printable ASCII, but for quotes and backslashes (RFC 8259, 7).
+fn stands_for_itself(byte: u8) -> bool {
+    byte >= b' ' && byte <= b'~' && byte != b'"' && byte != b'\\'
 }

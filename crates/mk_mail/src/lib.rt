@@ -31,8 +31,8 @@ pub use letters::{Letters, field_edits, field_edits_at};
 pub use mk_build::{Attach, AttachError, BuildError, attach, build, build_in_utf8};
 pub use mk_mailbox::{Fault, FromLines, MailFault, Mailbox, Place, Sink, Source};
 pub use mk_view::{
-    ExtractError, Leaf, NameForm, content, content_in, extract, leaves, leaves_in, list, names,
-    numbered, push_path, push_type,
+    Described, ExtractError, Leaf, NameForm, content, content_in, content_size, extract, leaves,
+    leaves_in, list, names, numbered, push_path, push_type,
 };
 pub use patterns::NamePattern;
 pub use prepending::Prepend;

@@ -1,12 +1,11 @@
 //! The messages of a mailbox, listed.
 ghost use Rattle.std.specs.Prelude.{◌≡◌, ◌<◌, ◌+◌, ◌^◌, List, ℕ, length, true, IfErr, IfOk, MatchResult, OnErr, OnOk};
 ghost use Rattle.std.specs.Io.KnownBytes.{Appends, Consumes, IsAtEnd};
-ghost use Rattle.mk_line.specs.Lines.{cut as lines_of};
 ghost use Rattle.mk_mailbox.specs.Devices.{AppendsFront};
 ghost use Rattle.mk_messages.specs.MessageLines.{mailbox_listing, message_line as line_of, section_count};
 ghost use Rattle.mk_transfer.specs.RunClauses.{IsBlamed, SameFailures, Sends, counts};
 
-use mk_line::cut;
+use mk_line::line_count;
 use mk_mailbox::{FromLines, MailFault, Mailbox, Sink, Source};
 use mk_transfer::{Cause, Stop, finish, send, writing};
 use mk_tree::Doc;
@@ -126,10 +125,4 @@ fn count_sections(alloc: Global, message: Vec<u8>) -> Result<usize, AllocError>
         Ok(doc) => Ok(line_count(&list(alloc, &doc)?)),
         Err(_) => Err(AllocError),
     }
-}
-
-fn line_count(text: &[u8]) -> usize
-    ensures { result ≡ length (lines_of text.now) }
-{
-    cut(text).count()
 }

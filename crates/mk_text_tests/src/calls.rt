@@ -86,7 +86,8 @@ pub fn check_words(
     Ok(())
 }
 
-fn given(alloc: Global, call: Call, row: &Row) -> Result<Vec<u8>, Fail> {
+/// What a call gives for a row.
+pub fn given(alloc: Global, call: Call, row: &Row) -> Result<Vec<u8>, Fail> {
     let text = row.bytes("text");
     match call {
         Call::Lines => lines(alloc, text),
@@ -218,7 +219,8 @@ fn type_of(alloc: Global, text: &[u8]) -> Result<Vec<u8>, Fail> {
     Ok(line)
 }
 
-fn encoding_in(row: &Row) -> Encoding {
+/// The encoding that a row names.
+pub fn encoding_in(row: &Row) -> Encoding {
     match row.text("encoding") {
         "identity" => Encoding::Identity,
         "quoted-printable" => Encoding::Qp,

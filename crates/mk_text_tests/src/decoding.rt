@@ -3,7 +3,7 @@ use super::calls::{Call, check};
 use mk_code::{CodeError, Encoding, decode};
 use std::test::Fail;
 
-const IDENTITY: &str = r"
+pub const IDENTITY: &str = r"
 == all bytes stay as they are
 encoding: identity
 text: a=3D b \r\n=\n
@@ -15,7 +15,7 @@ fn identity_gives_the_text_itself(rt: HostRuntime) -> Result<(), Fail> {
     check(&rt, rt.alloc(), Call::Decode, IDENTITY)
 }
 
-const QP: &str = r#"
+pub const QP: &str = r#"
 == digits in small letters, a soft break, and what is no code
 encoding: quoted-printable
 text: =c3=A9 =\n =zz \n
@@ -82,7 +82,7 @@ fn quoted_printable_decoded(rt: HostRuntime) -> Result<(), Fail> {
     check(&rt, rt.alloc(), Call::Decode, QP)
 }
 
-const BASE64: &str = r#"
+pub const BASE64: &str = r#"
 == other characters are skipped, and so is all after the padding
 encoding: base64
 text: aG\n!k=zz
@@ -124,7 +124,7 @@ fn base64_decoded(rt: HostRuntime) -> Result<(), Fail> {
     check(&rt, rt.alloc(), Call::Decode, BASE64)
 }
 
-const BAD_BASE64: &str = "
+pub const BAD_BASE64: &str = "
 == unused bits of three letters
 encoding: base64
 text: aGl=
@@ -199,7 +199,7 @@ fn the_longest_whole_front_of_base64_is_decoded(rt: HostRuntime) -> Result<(), F
     check(&rt, rt.alloc(), Call::DecodeFront, CUT_BASE64)
 }
 
-const UNKNOWN: &str = r"
+pub const UNKNOWN: &str = r"
 == a text
 encoding: unknown
 text: x

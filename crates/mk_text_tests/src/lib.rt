@@ -20,6 +20,8 @@ mod params;
 #[cfg(test)]
 mod rooms;
 #[cfg(test)]
+mod sizes;
+#[cfg(test)]
 mod types;
 #[cfg(test)]
 mod words;

@@ -1,6 +1,7 @@
 pub mod Listed
 pub mod Listing
 pub mod Extracts
+pub mod Described
 pub mod FileNames
 pub mod TextNames
 pub mod NameViews

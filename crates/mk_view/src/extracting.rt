@@ -1,10 +1,10 @@
 //! The content of a section, taken out of a document.
-ghost use Rattle.std.specs.Prelude.{◌≡◌, ◌↔◌, Err, None, Some, IfErr, IfOk, OnOk};
+ghost use Rattle.std.specs.Prelude.{◌≡◌, ◌↔◌, ℕ, List, Err, None, Some, length, IfErr, IfOk, OnOk};
 ghost use Rattle.mk_tree.specs.Documents.{tree};
 ghost use Rattle.mk_tree.specs.Sections.{section_at};
 ghost use Rattle.mk_view.specs.Extracts.{IsContentOf, IsExtract, IsExtractRefused, IsRefusedOf, extract_reason};
 
-use mk_code::{CodeError, Encoding, decode_in};
+use mk_code::{CodeError, Encoding, decode_in, decoded_size};
 use mk_tree::{Doc, Kind, Section};
 use std::alloc::Global;
 use thiserror::Error;
@@ -58,6 +58,26 @@ pub fn content_in(memory: &mut Vec<u8>, section: &Section<'_>) -> Result<(), Ext
     match content_of(memory, section) {
         Ok(()) => Ok(()),
         Err(error) => Err(extract_error(error)),
+    }
+}
+
+/// How many bytes `content` gives, and its error otherwise. Nothing is decoded: memory is asked for only to read which
+/// encoding the section has.
+pub fn content_size(alloc: Global, section: &Section<'_>) -> Result<usize, ExtractError>
+    ensures size { IfOk result (λ size. (bytes : List ℕ) × IsExtract (Some section.now) bytes × (size ≡ length bytes)) }
+    ensures refused { IfErr result (λ error. IsExtractRefused (Some section.now) error) }
+{
+    size_of(alloc, section).map_err(extract_error)
+}
+
+// The size of the content of a section, decoded where it is a leaf.
+fn size_of(alloc: Global, section: &Section<'_>) -> Result<usize, CodeError>
+    ensures size { IfOk result (λ size. (bytes : List ℕ) × IsContentOf section.now bytes × (size ≡ length bytes)) }
+    ensures refused { IfErr result (λ error. IsRefusedOf section.now error) }
+{
+    match section.kind() {
+        Kind::Leaf => decoded_size(section.encoding(alloc)?, section.content()),
+        Kind::Multi | Kind::Message => Ok(section.content().len()),
     }
 }
 

@@ -17,6 +17,7 @@
 //! memory is refused.
 #![tactic(auto)]
 
+mod described;
 mod extracting;
 mod giving;
 mod listing;
@@ -27,7 +28,8 @@ mod typing;
 mod walking;
 mod writing;
 
-pub use extracting::{ExtractError, content, content_in, extract};
+pub use described::{Described, Disposition};
+pub use extracting::{ExtractError, content, content_in, content_size, extract};
 pub use giving::numbered;
 pub use listing::list;
 pub use naming::said_name;

@@ -1,17 +1,13 @@
 //! Names that leaves stored as files would get by themselves.
-ghost use Rattle.std.specs.Prelude.{◌≡◌, codes, IfOk};
+ghost use Rattle.std.specs.Prelude.{◌≡◌, IfOk};
 ghost use Rattle.std.specs.Option.{option_map, option_or};
 ghost use Rattle.std.specs.String.{string_bytes};
-ghost use Rattle.mk_head.specs.Types.{field_value};
-ghost use Rattle.mk_head.specs.Values.{param_of};
 ghost use Rattle.mk_head.specs.ValueViews.{media_type_of};
-ghost use Rattle.mk_tree.specs.Tree.{field_lines};
-ghost use Rattle.mk_view.specs.Listing.{type_of};
-ghost use Rattle.mk_view.specs.FileNames.{after_last, cleaned as cleaned_of, is_divider as divides, is_stored_by, leading as leading_of, name_by, part_name as name_of_part, plain as plain_of, raw_name as raw_name_of, disposed_name};
+ghost use Rattle.mk_view.specs.FileNames.{after_last, cleaned as cleaned_of, is_divider as divides, is_stored_by, leading as leading_of, name_by, part_name as name_of_part, plain as plain_of, raw_name as raw_name_of};
 
-use crate::typing::media_type;
+use crate::described::Described;
 use crate::writing::push_path;
-use mk_head::{ContentType, content_type};
+use mk_head::ContentType;
 use mk_tree::Section;
 use std::alloc::{AllocError, Global};
 
@@ -36,9 +32,9 @@ pub(crate) fn is_stored(
     texts: bool,
     media: &ContentType,
     text: &Option<String>,
-    raw: &Option<Vec<u8>>,
+    raw: Option<&[u8]>,
 ) -> bool
-    ensures { result ≡ is_stored_by texts (media_type_of media.now) (option_or (option_map string_bytes text.now) (option_map (λ name. name.items) raw.now)) }
+    ensures { result ≡ is_stored_by texts (media_type_of media.now) (option_or (option_map string_bytes text.now) (option_map (λ name. name.now) raw.entry)) }
 {
     match (text, raw) {
         (None, None) => texts || media.main.as_slice() != TEXT,
@@ -51,41 +47,9 @@ pub(crate) fn is_stored(
 pub fn said_name(alloc: Global, section: &Section<'_>) -> Result<Option<Vec<u8>>, AllocError>
     ensures { IfOk result (λ raw. option_map (λ name. name.items) raw ≡ raw_name_of section.now) }
 {
-    let media = media_type(alloc, section)?;
-    raw_name(alloc, section, &media)
-}
-
-/// The name that the fields of a section with this content type say.
-pub(crate) fn raw_name(
-    alloc: Global,
-    section: &Section<'_>,
-    media: &ContentType,
-) -> Result<Option<Vec<u8>>, AllocError>
-    requires { media_type_of media.now ≡ type_of section.now }
-    ensures { IfOk result (λ raw. option_map (λ name. name.items) raw ≡ raw_name_of section.now) }
-{
-    match file_name(alloc, section)? {
-        Some(name) => Ok(Some(name)),
-        None => parameter(alloc, media, b"name"),
-    }
-}
-
-// The name that the disposition of a section says (RFC 2183, 2.3).
-fn file_name(alloc: Global, section: &Section<'_>) -> Result<Option<Vec<u8>>, AllocError>
-    ensures { IfOk result (λ raw. option_map (λ name. name.items) raw ≡ disposed_name (field_value (codes "Content-Disposition") (field_lines section.now.entity))) }
-{
-    match section.value(alloc, b"Content-Disposition")? {
-        Some(value) => parameter(alloc, &content_type(alloc, &value)?, b"filename"),
-        None => Ok(None),
-    }
-}
-
-// A copy of the value of a parameter.
-fn parameter(alloc: Global, media: &ContentType, name: &[u8]) -> Result<Option<Vec<u8>>, AllocError>
-    ensures { IfOk result (λ found. option_map (λ value. value.items) found ≡ param_of name.now (media_type_of media.now).params) }
-{
-    match media.param(name) {
-        Some(value) => Ok(Some(Vec::from_slice(alloc, value)?)),
+    let described = Described::read(alloc, section)?;
+    match described.raw_name() {
+        Some(name) => Ok(Some(Vec::from_slice(alloc, name)?)),
         None => Ok(None),
     }
 }
@@ -94,9 +58,9 @@ fn parameter(alloc: Global, media: &ContentType, name: &[u8]) -> Result<Option<V
 pub(crate) fn own_name(
     alloc: Global,
     path: &[u32],
-    raw: &Option<Vec<u8>>,
+    raw: Option<&[u8]>,
 ) -> Result<Vec<u8>, AllocError>
-    ensures { IfOk result (λ name. name.items ≡ name_by path.now (option_map (λ name. name.items) raw.now)) }
+    ensures { IfOk result (λ name. name.items ≡ name_by path.now (option_map (λ name. name.now) raw.entry)) }
 {
     if let Some(raw) = raw {
         let name = cleaned(alloc, raw)?;

@@ -11,10 +11,10 @@ ghost use Rattle.mk_view.specs.FileNames.{all_stored, raw_name as raw_name_of};
 ghost use Rattle.mk_view.specs.TextNames.{all_stored_in, stored_in, stored_named, text_in as text_in_form};
 ghost use Rattle.mk_view.specs.NameViews.{named_view};
 
+use crate::described::Described;
 use crate::giving::give_all;
-use crate::naming::{is_stored, raw_name};
-use crate::text_names::{NameForm, name_of, text_in};
-use crate::typing::media_type;
+use crate::naming::is_stored;
+use crate::text_names::{NameForm, name_of};
 use crate::walking::{Listed, all_sections};
 use mk_tree::{Doc, Kind, Section};
 use std::alloc::{AllocError, Global};
@@ -107,13 +107,13 @@ fn push_leaf<'a>(
     ensures placed { OnOk result ((t : Document) → section_at listed.entry.path.items t ≡ Some listed.entry.section → AreAt t list.old.items → AreAt t list.new.items) }
 {
     let Listed { path, section } = listed;
-    let media = media_type(alloc, &section)?;
-    let text = text_in(alloc, form, &section, &media)?;
-    let raw = raw_name(alloc, &section, &media)?;
-    if !is_stored(texts, &media, &text, &raw) {
+    let described = Described::read(alloc, &section)?;
+    let text = described.text_in(alloc, form)?;
+    let raw = described.raw_name();
+    if !is_stored(texts, &described.media, &text, raw) {
         return Ok(());
     }
-    let name = name_of(alloc, &path, &text, &raw)?;
+    let name = name_of(alloc, &path, &text, raw)?;
     list.push(Leaf {
         path,
         name,

@@ -1,19 +1,13 @@
 //! Names in the letters of Unicode, for leaves whose fields say a text.
-ghost use Rattle.std.specs.Prelude.{◌≡◌, ◌++◌, codes, map, encode_utf8_all, IfOk, OnOk};
+ghost use Rattle.std.specs.Prelude.{◌≡◌, ◌++◌, map, encode_utf8_all, IfOk, OnOk};
 ghost use Rattle.std.specs.Option.{option_map};
 ghost use Rattle.std.specs.Str.{chars};
 ghost use Rattle.std.specs.String.{string_bytes};
-ghost use Rattle.mk_head.specs.Types.{field_value};
-ghost use Rattle.mk_head.specs.ValueViews.{media_type_of};
-ghost use Rattle.mk_tree.specs.Tree.{field_lines};
-ghost use Rattle.mk_view.specs.Listing.{type_of};
 ghost use Rattle.mk_view.specs.FileNames.{after_last, is_divider as divides, leading as leading_of, name_or, part_name as name_of_part};
-ghost use Rattle.mk_view.specs.TextNames.{cleaned_text as cleaned_of, disposed_text as text_of_disposition, fitting, named_by, plain_character as plain_of, text_in as text_in_form, text_name as text_of_section};
+ghost use Rattle.mk_view.specs.TextNames.{cleaned_text as cleaned_of, fitting, named_by, plain_character as plain_of, text_name as text_of_section};
 
+use crate::described::Described;
 use crate::naming::{MOST_BYTES, own_name, part_name};
-use crate::typing::media_type;
-use mk_head::{ContentType, content_type};
-use mk_param::text_of;
 use mk_tree::Section;
 use std::alloc::{AllocError, Global};
 
@@ -41,49 +35,7 @@ pub enum NameForm {
 pub fn text_name(alloc: Global, section: &Section<'_>) -> Result<Option<String>, AllocError>
     ensures { IfOk result (λ text. option_map string_bytes text ≡ text_of_section section.now) }
 {
-    let media = media_type(alloc, section)?;
-    said_text(alloc, section, &media)
-}
-
-/// The text that counts in a form, for a section with this content type.
-pub(crate) fn text_in(
-    alloc: Global,
-    form: NameForm,
-    section: &Section<'_>,
-    media: &ContentType,
-) -> Result<Option<String>, AllocError>
-    requires { media_type_of media.now ≡ type_of section.now }
-    ensures { IfOk result (λ text. option_map string_bytes text ≡ text_in_form form section.now) }
-{
-    match form {
-        NameForm::Plain => Ok(None),
-        NameForm::Utf8 => said_text(alloc, section, media),
-    }
-}
-
-// The text that the fields of a section with this content type say.
-fn said_text(
-    alloc: Global,
-    section: &Section<'_>,
-    media: &ContentType,
-) -> Result<Option<String>, AllocError>
-    requires { media_type_of media.now ≡ type_of section.now }
-    ensures { IfOk result (λ text. option_map string_bytes text ≡ text_of_section section.now) }
-{
-    match disposed_text(alloc, section)? {
-        Some(text) => Ok(Some(text)),
-        None => text_of(alloc, media, b"name"),
-    }
-}
-
-// The text that the disposition of a section says.
-fn disposed_text(alloc: Global, section: &Section<'_>) -> Result<Option<String>, AllocError>
-    ensures { IfOk result (λ text. option_map string_bytes text ≡ text_of_disposition (field_value (codes "Content-Disposition") (field_lines section.now.entity))) }
-{
-    match section.value(alloc, b"Content-Disposition")? {
-        Some(value) => text_of(alloc, &content_type(alloc, &value)?, b"filename"),
-        None => Ok(None),
-    }
+    Described::read(alloc, section)?.text_name(alloc)
 }
 
 /// The name that a section at a path would get by itself: from the text that counts, else from the bytes of its name.
@@ -91,9 +43,9 @@ pub(crate) fn name_of(
     alloc: Global,
     path: &[u32],
     text: &Option<String>,
-    raw: &Option<Vec<u8>>,
+    raw: Option<&[u8]>,
 ) -> Result<Vec<u8>, AllocError>
-    ensures { IfOk result (λ name. name.items ≡ named_by path.now (option_map string_bytes text.now) (option_map (λ name. name.items) raw.now)) }
+    ensures { IfOk result (λ name. name.items ≡ named_by path.now (option_map string_bytes text.now) (option_map (λ name. name.now) raw.entry)) }
 {
     match text {
         Some(text) => text_file_name(alloc, path, text.as_str()),

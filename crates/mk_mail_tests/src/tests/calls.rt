@@ -2,7 +2,7 @@
 use super::builds::{message, part};
 use super::edits::lines;
 use super::letters::{allowed, filtered};
-use mk_mail::{content, extract, leaves, list, names};
+use mk_mail::{content, content_size, extract, leaves, list, names};
 use mk_rows::{Row, rows};
 use mk_tree::Doc;
 use std::alloc::{AllocError, Global};
@@ -84,9 +84,24 @@ fn listing(alloc: Global, row: &Row) -> Result<Vec<u8>, Fail> {
 fn extracted(alloc: Global, row: &Row) -> Result<Vec<u8>, Fail> {
     let doc = read(alloc, row.bytes("message"))?;
     let path = row.path(alloc, "at")?;
+    if !is_size_told(alloc, &doc, &path) {
+        return Err(Fail::new("the size that is told is another"));
+    }
     match extract(alloc, &doc, &path) {
         Ok(content) => Ok(content),
         Err(error) => refused(alloc, format!(in alloc; "{error:?}")?.as_str()),
+    }
+}
+
+// What is told of the size of a content, where its section is there: that of what is taken out, or the same error.
+fn is_size_told(alloc: Global, doc: &Doc, path: &[u32]) -> bool {
+    let Some(section) = doc.section(path) else {
+        return true;
+    };
+    match (extract(alloc, doc, path), content_size(alloc, &section)) {
+        (Ok(content), Ok(size)) => content.len() == size,
+        (Err(error), Err(told)) => error == told,
+        _ => false,
     }
 }
 
