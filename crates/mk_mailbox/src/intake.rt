@@ -90,9 +90,9 @@ impl Intake {
         Err(MailFault::ReadFault)
     }
 
-    // Takes lines from the chunk until one begins the next message, and gives the message before it; none where all
-    // lines of the chunk are taken.
-    fn take_lines(&mut self) -> Result<Option<Vec<u8>>, AllocError>
+    /// Takes lines from the chunk until one begins the next message, and gives the message before it; none where all
+    /// lines of the chunk are taken.
+    pub(crate) fn take_lines(&mut self) -> Result<Option<Vec<u8>>, AllocError>
         requires { IsIntake self.old }
         ensures intake { IsIntake self.new }
         ensures piece { IfOk result (λ o. MatchOption o (kept_by self.new ≡ kept_by self.old) (λ piece. IsSplit self.old.gathered.from_lines piece.items (kept_by self.old) (kept_by self.new))) }
