@@ -1,9 +1,10 @@
 -- What a call of a mailbox answers, by what was gathered.
 use Rattle.mk_mailbox.specs.declared.from_lines.FromLines.{FromLines}
-use Rattle.std.proofs.Common.{◌≡◌, ◌<◌, ◌≤◌, ◌+◌, ◌*◌, ◌-◌, ◌^◌, ◌⊎◌, ◌++◌, ℕ, zero, suc, nat_lt, if◌then◌else◌, Bool, true, false, List, [], ◌∷◌, Option, None, Some, Result, Ok, Err, IfOk, IfNone, MatchOption, refl, ap, sym, ◌∙◌, length, slice_get, subst, length-append, append-nil, append_assoc, inl, inr, drop, take, take-append-drop, arith}
+use Rattle.std.proofs.Common.{◌≡◌, ◌<◌, ◌≤◌, ◌+◌, ◌*◌, ◌-◌, ◌^◌, ◌⊎◌, ◌++◌, ℕ, zero, suc, nat_lt, if◌then◌else◌, Bool, true, false, List, [], ◌∷◌, Option, None, Some, Result, Ok, Err, IfOk, IfNone, MatchOption, MatchResult, OnErr, refl, ap, sym, ◌∙◌, length, slice_get, subst, length-append, append-nil, append_assoc, inl, inr, drop, take, take-append-drop, arith}
 use Rattle.std.proofs.lemmas.Bool.{ltb-false}
 use Rattle.std.proofs.lemmas.List.{drop-drop, drop-take}
 use Rattle.std.specs.Global.{Vec}
+use Rattle.std.specs.Option.{option_map}
 use Rattle.std.proofs.KnownBytes.{Consumes-trans}
 use Rattle.std.specs.Io.KnownBytes.{Consumes}
 use Rattle.mk_line.specs.Lines.{cut, has_line_feed}
@@ -13,7 +14,7 @@ use Rattle.mk_mailbox.specs.Devices.{IsFull}
 use Rattle.mk_mailbox.specs.Held.{Held, unread}
 use Rattle.mk_mailbox.specs.declared.intake.Intake.{Intake}
 use Rattle.mk_mailbox.specs.Intakes.{IsIntake, held_of, kept_by}
-use Rattle.mk_mailbox.specs.Mailboxes.{FitsReads, IsKnownWhole, IsNextPiece, IsOpenInFront, chunk_bytes}
+use Rattle.mk_mailbox.specs.Mailboxes.{Answers, FitsReads, IsKnownWhole, IsNextPiece, IsOpenInFront, chunk_bytes}
 use Rattle.mk_mailbox.specs.Pieces.{mailbox_pieces}
 use Rattle.mk_mailbox.proofs.LinesGathered.{gathered_unknown}
 use Rattle.mk_mailbox.proofs.MessageLines.{pieces_of}
@@ -65,6 +66,15 @@ last_next piece read old new e s = record {
   all = λ _. e;
   closed = λ _. e;
 }
+
+-- what is answered where the input has ended
+pub last_answers : {E : Type 0} (r : Result (Option (Vec ℕ)) E) (way : FromLines) (mid read : List ℕ) (old new : Held) → new.ended ≡ true → way ≡ old.from_lines → mid ≡ old.kept ++ read
+    → IfOk r (λ o. MatchOption o (mid ≡ []) (λ piece. IsLastSplit way piece.items mid new.kept)) → IfOk r (λ o. IfNone o (new.kept ≡ [])) → OnErr r (new.kept ≡ mid)
+    → MatchResult r (λ o. Answers (option_map (λ v. v.items) o) old read new) (λ _. new.kept ≡ old.kept ++ read)
+last_answers (Ok None) way mid read old new t w e h n k = record { none = sym e ∙ h; kept = n; ended = t }
+last_answers (Ok (Some piece)) way mid read old new t w e h n k =
+    last_next piece.items read old new t (subst (λ x. IsLastSplit old.from_lines piece.items x new.kept) e (subst (λ v. IsLastSplit v piece.items mid new.kept) w h))
+last_answers (Err x) way mid read old new t w e h n k = k ∙ e
 
 -- a chunk of which all was taken
 pub unread_none : (chunk : List ℕ) (at filled : ℕ) → at ≡ filled → unread chunk at filled ≡ []
