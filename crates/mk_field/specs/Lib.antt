@@ -6,3 +6,4 @@ pub mod Filtering
 pub mod FilterViews
 pub mod FilterClauses
 pub mod WordLaws
+pub mod inner

@@ -1,72 +1,58 @@
 //! One message of which the fields are filtered by letters, or given.
 
-ghost use Rattle.std.specs.Prelude.{◌≡◌, ◌⊎◌, ℕ, List, true, false, map, IfOk, IfErr, IfSome, OnOk, OnErr};
+ghost use Rattle.std.specs.Prelude.{◌≡◌, ℕ, List, true, false, map, IfOk, IfSome, OnOk};
 ghost use Rattle.std.specs.List.{list_all};
 ghost use Rattle.mk_decide.specs.Answers.{is_memory};
 ghost use Rattle.mk_edit.specs.Histories.{first_text, started, text_now};
-ghost use Rattle.mk_mailbox.specs.Devices.{Rose};
-ghost use Rattle.mk_transfer.specs.RunClauses.{Sends};
 ghost use Rattle.mk_mail.specs.Apart.{always_fits as fits_always, section_made};
 ghost use Rattle.mk_mail.specs.LetterViews.{bytes_in, letters_of};
 ghost use Rattle.mk_mail.specs.Letters.{are_allowed, is_root as is_root_path};
 ghost use Rattle.mk_mail.specs.Rounds.{rounds_made_at};
-ghost use Rattle.mk_field.specs.FilterClauses.{IsEdited, IsFitted, IsRoundMade, SaysAll, SaysSome, fitted};
+ghost use Rattle.mk_field.specs.FilterClauses.{IsEdited, IsFitted, IsRoundMade, fitted};
 ghost use Rattle.mk_field.specs.FilterViews.{filter_of, is_allowed, is_round, round_of};
-ghost use Rattle.mk_field.specs.Filtering.{filter_made, given_of, given_said, rounds_ask as do_rounds_ask, said_alone, said_filtered, said_of, said_of_made};
+ghost use Rattle.mk_field.specs.Filtering.{filter_made, given_of, given_said, missing_report, rounds_ask as do_rounds_ask, said_alone, said_filtered, said_of, said_of_made};
+ghost use Rattle.mk_field.specs.inner.Telling.{reported, told_said};
 
 use crate::filters::{FieldFilter, Round, ask};
 use crate::giving::given;
+use crate::telling::{Printed, Told};
 use mk_edit::{EditError, GroupError, Session};
 use mk_line::Meter;
-use mk_mail::{FromLines, Letters, Place, Sink, field_edits_at};
-use mk_report::report_message_at;
-use mk_transfer::{Stop, send};
+use mk_mail::{FromLines, Letters, Place, field_edits_at};
 use mk_tree::Doc;
 use std::alloc::{AllocError, Global};
 
-/// Prints what a filter gives or leaves of a message, one of a mailbox or by itself. Where an edit is refused, it is printed as
-/// it came, and reported by its number from 1. Answers whether it was reported.
-pub fn filter_message<O: Sink, E: Sink>(
+/// What a filter says of a message, one of a mailbox or by itself. Where an edit is refused, the message is printed as it came.
+pub(crate) fn filter_message(
     alloc: Global,
     filter: &FieldFilter<'_>,
     each: bool,
-    number: u64,
     message: Vec<u8>,
-    out: &mut O,
-    err: &mut E,
-) -> Result<bool, Stop>
+) -> Result<Told, AllocError>
     requires { is_allowed (filter_of filter.now) ≡ true }
-    ensures all { IfOk result (λ refused. SaysAll (said_of each (filter_of filter.now) number message.items) refused
-        (O.contents out.old) (O.contents out.new) (E.contents err.old) (E.contents err.new)) }
-    ensures some { OnErr result (SaysSome (said_of each (filter_of filter.now) number message.items)
-        (O.contents out.old) (O.contents out.new) (E.contents err.old) (E.contents err.new)) }
-    ensures failed { IfErr result (λ stop. stop ≡ Stop.Fault
-        → Rose (O.failures out.old) (O.failures out.new) ⊎ Rose (E.failures err.old) (E.failures err.new)) }
-    ensures memory { IfErr result (λ stop. stop ≡ Stop.Memory
-        → (O.failures out.new ≡ O.failures out.old) × (E.failures err.new ≡ E.failures err.old)) }
-    ensures output_well { OnOk result (O.failures out.new ≡ O.failures out.old) }
-    ensures errors_well { OnOk result (E.failures err.new ≡ E.failures err.old) }
-    ensures unfinished { O.finished out.new ≡ O.finished out.old }
+    ensures told { IfOk result (λ told. (number : ℕ) → told_said filter.now.path.now number told ≡ said_of each (filter_of filter.now) number message.items) }
+    ensures named { IfOk result (λ told. IfSome told.refusal (λ error. is_memory error ≡ false)) }
 {
     if filter.from_lines.leaves_alone(&message) {
-        leave_message(filter.rounds, &message, out)?;
-        return Ok(false);
+        return Ok(leave_message(alloc, filter.rounds, message));
     }
-    say_message(alloc, filter, each, number, message, out, err)
+    tell_message(alloc, filter, each, message)
 }
 
-// Prints a message that is left as it is, or nothing where rounds ask for fields.
-fn leave_message<O: Sink>(rounds: &[Round<'_>], message: &[u8], out: &mut O) -> Result<(), Stop>
-    ensures sends { Sends result (said_alone (map round_of rounds.now) message.now).output
-        (O.contents out.old) (O.contents out.new) (O.failures out.old) (O.failures out.new) }
-    ensures unfinished { O.finished out.new ≡ O.finished out.old }
+// A message that is left as it is, or nothing where rounds ask for fields.
+fn leave_message(alloc: Global, rounds: &[Round<'_>], message: Vec<u8>) -> Told
+    ensures told { (path : List ℕ) (number : ℕ) → told_said path number result ≡ said_alone (map round_of rounds.now) message.items }
+    ensures named { IfSome result.refusal (λ error. is_memory error ≡ false) }
 {
-    let text = if rounds_ask(rounds, message) {
-        b""
+    let text = if rounds_ask(rounds, &message) {
+        Vec::new(alloc)
     } else {
         message
     };
-    send(out, text)
+    Told {
+        text: Printed::Given(text),
+        refusal: None,
+    }
 }
 
 // Whether rounds ask for fields of a message.
@@ -79,38 +65,26 @@ fn rounds_ask(rounds: &[Round<'_>], message: &[u8]) -> bool
     }
 }
 
-// Prints what a filter gives or leaves of a message that isn't left as it is.
-fn say_message<O: Sink, E: Sink>(
+// What a filter says of a message that isn't left as it is.
+fn tell_message(
     alloc: Global,
     filter: &FieldFilter<'_>,
     each: bool,
-    number: u64,
     message: Vec<u8>,
-    out: &mut O,
-    err: &mut E,
-) -> Result<bool, Stop>
+) -> Result<Told, AllocError>
     requires { is_allowed (filter_of filter.now) ≡ true }
-    ensures all { IfOk result (λ refused. SaysAll (said_filtered each (filter_of filter.now) number message.items) refused
-        (O.contents out.old) (O.contents out.new) (E.contents err.old) (E.contents err.new)) }
-    ensures some { OnErr result (SaysSome (said_filtered each (filter_of filter.now) number message.items)
-        (O.contents out.old) (O.contents out.new) (E.contents err.old) (E.contents err.new)) }
-    ensures failed { IfErr result (λ stop. stop ≡ Stop.Fault
-        → Rose (O.failures out.old) (O.failures out.new) ⊎ Rose (E.failures err.old) (E.failures err.new)) }
-    ensures memory { IfErr result (λ stop. stop ≡ Stop.Memory
-        → (O.failures out.new ≡ O.failures out.old) × (E.failures err.new ≡ E.failures err.old)) }
-    ensures output_well { OnOk result (O.failures out.new ≡ O.failures out.old) }
-    ensures errors_well { OnOk result (E.failures err.new ≡ E.failures err.old) }
-    ensures unfinished { O.finished out.new ≡ O.finished out.old }
+    ensures told { IfOk result (λ told. (number : ℕ) → told_said filter.now.path.now number told ≡ said_filtered each (filter_of filter.now) number message.items) }
+    ensures named { IfOk result (λ told. IfSome told.refusal (λ error. is_memory error ≡ false)) }
 {
     let place = place_to_keep(filter, each, &message);
-    let mut session = match Session::start(alloc, message) {
+    let session = match Session::start(alloc, message) {
         Ok(session) => session,
-        Err(_) => return Err(Stop::Memory),
+        Err(_) => return Err(AllocError),
     };
     match given(alloc, filter, session.doc()) {
-        Ok(Some(text)) => give_fields(alloc, filter.path, number, session.doc(), &text, out, err),
-        Ok(None) => edit_message(alloc, filter, place, number, &mut session, out, err),
-        Err(_) => Err(Stop::Memory),
+        Ok(Some(text)) => Ok(tell_given(filter.path, session.doc(), text)),
+        Ok(None) => tell_edited(alloc, filter, place, session),
+        Err(_) => Err(AllocError),
     }
 }
 
@@ -141,72 +115,48 @@ fn is_root(path: &[u32]) -> bool
     }
 }
 
-// Prints what is given of a document, and reports it if it has no section at a path.
-fn give_fields<O: Sink, E: Sink>(
-    alloc: Global,
-    path: &[u32],
-    number: u64,
-    doc: &Doc,
-    text: &[u8],
-    out: &mut O,
-    err: &mut E,
-) -> Result<bool, Stop>
-    ensures all { IfOk result (λ refused. SaysAll (given_said path.now number doc.now text.now) refused
-        (O.contents out.old) (O.contents out.new) (E.contents err.old) (E.contents err.new)) }
-    ensures some { OnErr result (SaysSome (given_said path.now number doc.now text.now)
-        (O.contents out.old) (O.contents out.new) (E.contents err.old) (E.contents err.new)) }
-    ensures failed { IfErr result (λ stop. stop ≡ Stop.Fault
-        → Rose (O.failures out.old) (O.failures out.new) ⊎ Rose (E.failures err.old) (E.failures err.new)) }
-    ensures memory { IfErr result (λ stop. stop ≡ Stop.Memory
-        → (O.failures out.new ≡ O.failures out.old) × (E.failures err.new ≡ E.failures err.old)) }
-    ensures output_well { OnOk result (O.failures out.new ≡ O.failures out.old) }
-    ensures errors_well { OnOk result (E.failures err.new ≡ E.failures err.old) }
-    ensures unfinished { O.finished out.new ≡ O.finished out.old }
+// What is given of a document, and whether it has no section at a path.
+fn tell_given(path: &[u32], doc: &Doc, text: Vec<u8>) -> Told
+    ensures told { (number : ℕ) → told_said path.now number result ≡ given_said path.now number doc.now text.items }
+    ensures named { IfSome result.refusal (λ error. is_memory error ≡ false) }
 {
-    send(out, text)?;
-    if doc.section(path).is_some() {
-        return Ok(false);
+    Told {
+        text: Printed::Given(text),
+        refusal: missing_section(path, doc),
     }
-    report_message_at(alloc, err, number, path, EditError::NoSuchSection)?;
-    Ok(true)
 }
 
-// Prints what the edits of a filter leave of a message that was just read, and reports it where one is refused.
-fn edit_message<O: Sink, E: Sink>(
+// The refusal where a document has no section at a path.
+fn missing_section(path: &[u32], doc: &Doc) -> Option<EditError>
+    ensures told { (number : ℕ) → reported path.now number result ≡ missing_report path.now number doc.now }
+    ensures named { IfSome result (λ error. is_memory error ≡ false) }
+{
+    if doc.section(path).is_some() {
+        None
+    } else {
+        Some(EditError::NoSuchSection)
+    }
+}
+
+// What the edits of a filter leave of a message that was just read, and the reason where one is refused.
+fn tell_edited(
     alloc: Global,
     filter: &FieldFilter<'_>,
     place: Option<Place>,
-    number: u64,
-    session: &mut Session,
-    out: &mut O,
-    err: &mut E,
-) -> Result<bool, Stop>
+    session: Session,
+) -> Result<Told, AllocError>
     requires { is_allowed (filter_of filter.now) ≡ true }
-    ensures all { IfOk result (λ refused. (text : List ℕ) → session.old ≡ started text
-        → SaysAll (said_of_made filter.now.path.now number text (fitted place (section_made filter.now.path.now (map round_of filter.now.rounds.now) text))) refused
-        (O.contents out.old) (O.contents out.new) (E.contents err.old) (E.contents err.new)) }
-    ensures some { OnErr result ((text : List ℕ) → session.old ≡ started text
-        → SaysSome (said_of_made filter.now.path.now number text (fitted place (section_made filter.now.path.now (map round_of filter.now.rounds.now) text)))
-        (O.contents out.old) (O.contents out.new) (E.contents err.old) (E.contents err.new)) }
-    ensures failed { IfErr result (λ stop. stop ≡ Stop.Fault
-        → Rose (O.failures out.old) (O.failures out.new) ⊎ Rose (E.failures err.old) (E.failures err.new)) }
-    ensures memory { IfErr result (λ stop. stop ≡ Stop.Memory
-        → (O.failures out.new ≡ O.failures out.old) × (E.failures err.new ≡ E.failures err.old)) }
-    ensures output_well { OnOk result (O.failures out.new ≡ O.failures out.old) }
-    ensures errors_well { OnOk result (E.failures err.new ≡ E.failures err.old) }
-    ensures unfinished { O.finished out.new ≡ O.finished out.old }
+    ensures told { IfOk result (λ told. (text : List ℕ) → session ≡ started text → (number : ℕ)
+        → told_said filter.now.path.now number told ≡ said_of_made filter.now.path.now number text (fitted place (section_made filter.now.path.now (map round_of filter.now.rounds.now) text))) }
+    ensures named { IfOk result (λ told. IfSome told.refusal (λ error. is_memory error ≡ false)) }
 {
-    let refusal = match edit_section(alloc, filter, place, session) {
-        Ok(refusal) => refusal,
-        Err(_) => return Err(Stop::Memory),
-    };
-    send(out, session.text())?;
-    match refusal {
-        Some(reason) => {
-            report_message_at(alloc, err, number, filter.path, reason)?;
-            Ok(true)
-        }
-        None => Ok(false),
+    let mut session = session;
+    match edit_section(alloc, filter, place, &mut session) {
+        Ok(refusal) => Ok(Told {
+            text: Printed::Left(session),
+            refusal,
+        }),
+        Err(_) => Err(AllocError),
     }
 }
 

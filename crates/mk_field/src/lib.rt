@@ -26,6 +26,7 @@ mod filters;
 mod forms;
 mod giving;
 mod letters;
+mod telling;
 pub mod word_laws;
 mod wording;
 mod words;

@@ -1,8 +1,10 @@
 -- What a call of a mailbox answers, by what was gathered.
 use Rattle.mk_mailbox.specs.declared.from_lines.FromLines.{FromLines}
-use Rattle.std.proofs.Common.{◌≡◌, ◌<◌, ◌≤◌, ◌+◌, ◌*◌, ◌-◌, ◌^◌, ◌⊎◌, ◌++◌, ℕ, zero, suc, nat_lt, if◌then◌else◌, Bool, true, false, List, [], ◌∷◌, Option, Some, refl, ap, sym, ◌∙◌, length, slice_get, subst, length-append, append-nil, append_assoc, inl, inr, drop, take, take-append-drop, arith}
+use Rattle.std.proofs.Common.{◌≡◌, ◌<◌, ◌≤◌, ◌+◌, ◌*◌, ◌-◌, ◌^◌, ◌⊎◌, ◌++◌, ℕ, zero, suc, nat_lt, if◌then◌else◌, Bool, true, false, List, [], ◌∷◌, Option, None, Some, Result, Ok, Err, IfOk, IfNone, MatchOption, MatchResult, OnErr, refl, ap, sym, ◌∙◌, length, slice_get, subst, length-append, append-nil, append_assoc, inl, inr, drop, take, take-append-drop, arith}
 use Rattle.std.proofs.lemmas.Bool.{ltb-false}
 use Rattle.std.proofs.lemmas.List.{drop-drop, drop-take}
+use Rattle.std.specs.Global.{Vec}
+use Rattle.std.specs.Option.{option_map}
 use Rattle.std.proofs.KnownBytes.{Consumes-trans}
 use Rattle.std.specs.Io.KnownBytes.{Consumes}
 use Rattle.mk_line.specs.Lines.{cut, has_line_feed}
@@ -11,8 +13,8 @@ use Rattle.mk_line.specs.Meters.{ticked}
 use Rattle.mk_mailbox.specs.Devices.{IsFull}
 use Rattle.mk_mailbox.specs.Held.{Held, unread}
 use Rattle.mk_mailbox.specs.declared.intake.Intake.{Intake}
-use Rattle.mk_mailbox.specs.Intakes.{IsIntake, kept_by}
-use Rattle.mk_mailbox.specs.Mailboxes.{FitsReads, IsKnownWhole, IsNextPiece, IsOpenInFront, chunk_bytes}
+use Rattle.mk_mailbox.specs.Intakes.{IsIntake, held_of, kept_by}
+use Rattle.mk_mailbox.specs.Mailboxes.{Answers, FitsReads, IsKnownWhole, IsNextPiece, IsOpenInFront, chunk_bytes}
 use Rattle.mk_mailbox.specs.Pieces.{mailbox_pieces}
 use Rattle.mk_mailbox.proofs.LinesGathered.{gathered_unknown}
 use Rattle.mk_mailbox.proofs.MessageLines.{pieces_of}
@@ -65,6 +67,15 @@ last_next piece read old new e s = record {
   closed = λ _. e;
 }
 
+-- what is answered where the input has ended
+pub last_answers : {E : Type 0} (r : Result (Option (Vec ℕ)) E) (way : FromLines) (mid read : List ℕ) (old new : Held) → new.ended ≡ true → way ≡ old.from_lines → mid ≡ old.kept ++ read
+    → IfOk r (λ o. MatchOption o (mid ≡ []) (λ piece. IsLastSplit way piece.items mid new.kept)) → IfOk r (λ o. IfNone o (new.kept ≡ [])) → OnErr r (new.kept ≡ mid)
+    → MatchResult r (λ o. Answers (option_map (λ v. v.items) o) old read new) (λ _. new.kept ≡ old.kept ++ read)
+last_answers (Ok None) way mid read old new t w e h n k = record { none = sym e ∙ h; kept = n; ended = t }
+last_answers (Ok (Some piece)) way mid read old new t w e h n k =
+    last_next piece.items read old new t (subst (λ x. IsLastSplit old.from_lines piece.items x new.kept) e (subst (λ v. IsLastSplit v piece.items mid new.kept) w h))
+last_answers (Err x) way mid read old new t w e h n k = k ∙ e
+
 -- a chunk of which all was taken
 pub unread_none : (chunk : List ℕ) (at filled : ℕ) → at ≡ filled → unread chunk at filled ≡ []
 unread_none chunk at filled e = ap (λ n. drop n (take filled chunk)) e ∙ none_left filled chunk
@@ -86,6 +97,26 @@ kept_unknown i w e h k = gathered_unknown i.gathered.from_lines i.gathered.bytes
 -- the same bytes, cut at the same From-lines
 pub known_on : (way old : FromLines) (now text : List ℕ) → way ≡ old → now ≡ text → IsKnownWhole old text → IsKnownWhole way now
 known_on way old now text w e k = subst (λ v. IsKnownWhole v now) (sym w) (subst (IsKnownWhole old) (sym e) k)
+
+-- a message that is known to be whole without a read
+pub known_piece : {E : Type 0} (r : Result (Option (Vec ℕ)) E) (old new : Intake) (was now : Held) → was ≡ held_of old → now ≡ held_of new
+    → IfOk r (λ o. MatchOption o (kept_by new ≡ kept_by old) (λ piece. IsSplit old.gathered.from_lines piece.items (kept_by old) (kept_by new)))
+    → IfOk r (λ o. MatchOption o (now.kept ≡ was.kept) (λ piece. IsNextPiece piece.items was [] now))
+known_piece (Ok None) old new was now w n h = ap (λ (k : Held). k.kept) n ∙ (h ∙ sym (ap (λ (k : Held). k.kept) w))
+known_piece (Ok (Some piece)) old new was now w n h =
+    subst (λ k. IsNextPiece piece.items k [] now) (sym w)
+    (subst (λ k. IsNextPiece piece.items (held_of old) [] k) (sym n)
+    (piece_next piece.items [] (held_of old) (held_of new) (subst (λ k. IsSplit old.gathered.from_lines piece.items k (kept_by new)) (sym (append-nil (kept_by old))) h)))
+known_piece (Err e) old new was now w n h = tt
+
+-- and none is where no message is given
+pub none_known : {E : Type 0} (r : Result (Option (Vec ℕ)) E) (old new : Intake) (was : Held) → was ≡ held_of old → IsIntake new → new.gathered.from_lines ≡ old.gathered.from_lines
+    → IfOk r (λ o. MatchOption o (kept_by new ≡ kept_by old) (λ piece. IsSplit old.gathered.from_lines piece.items (kept_by old) (kept_by new)))
+    → IfOk r (λ o. IfNone o (new.at ≡ new.filled)) → IfOk r (λ o. IfNone o (has_line_feed (drop new.gathered.line new.gathered.bytes.items) ≡ false))
+    → IfOk r (λ o. IfNone o (IsKnownWhole was.from_lines was.kept → ⊥))
+none_known (Ok None) old new was w i s h t u = λ known. kept_unknown new i t u (known_on _ _ _ _ s h (subst (λ (k : Held). IsKnownWhole k.from_lines k.kept) w known))
+none_known (Ok (Some piece)) old new was w i s h t u = tt
+none_known (Err e) old new was w i s h t u = tt
 
 -- bytes that came from one read more, or from none
 ticked_by : (t : Bool) (n old new : ℕ) → nat_lt old (2 ^ 64 - 1) ≡ t → n ≤ chunk_bytes → new ≡ (if t then old + 1 else old) → (n + chunk_bytes * old ≤ chunk_bytes * new) ⊎ IsFull new

@@ -209,3 +209,22 @@ pub stretch_last : (lines content : List ℕ) → 0 < length lines → ends_open
 stretch_last lines content long whole e =
     ap (λ c. not (ends_open c)) e
     ∙ (last_is_empty (take (length lines - 1) lines) ∙ ap (λ ls. ends_empty false (cut ls)) (sym (front_of_lines lines long whole)))
+
+-- ---- an open line has a byte
+
+onto_some : (byte : ℕ) (l : TextLine) (ls : List TextLine) → ends_empty (is_nil l.content) ls ≡ false → ends_empty (is_nil (with_byte byte l).content) ls ≡ false
+onto_some byte l [] h = ap is_nil (with_some byte l h)
+onto_some byte l (m ∷ ls) h = h
+
+onto_ends : (e : Bool) (byte : ℕ) (ls : List TextLine) → ends_empty false ls ≡ false → ends_empty e (onto_first byte ls) ≡ false
+onto_ends e byte [] h = refl
+onto_ends e byte (l ∷ ls) h = onto_some byte l ls h
+
+pub open_last : (e : Bool) (text : List ℕ) → ends_open text ≡ true → ends_empty e (cut text) ≡ false
+open_last e [] h = cc
+open_last e (byte ∷ []) h = rw (not_true (byte == 10) h) refl
+open_last e (byte ∷ next ∷ bytes) h =
+    elim (eqb_tells byte 10) [
+      | inl t ↦ rw t.0 (open_last true (next ∷ bytes) h)
+      | inr f ↦ rw f.0 (onto_ends e byte (cut (next ∷ bytes)) (open_last false (next ∷ bytes) h))
+    ]

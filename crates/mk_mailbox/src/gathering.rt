@@ -237,10 +237,9 @@ fn content_of(bytes: &[u8]) -> &[u8]
     }
 }
 
-// Whether the last of these whole lines is empty.
-fn end_with_empty(lines: &[u8]) -> bool
-    requires whole { is_open_text lines.now ≡ false }
-    requires some { 0 < length lines.now }
+/// Whether the last of these whole lines is empty.
+pub(crate) fn end_with_empty(lines: &[u8]) -> bool
+    requires { is_open_text lines.now ≡ false }
     ensures { result ≡ ends_empty false (lines_of lines.now) }
 {
     match lines {

@@ -79,20 +79,16 @@ impl Intake {
                 Err(_) => return Err(MailFault::Memory),
             }
             if self.ended {
-                return match self.last() {
-                    Ok(Some(piece)) => Ok(Some(piece)),
-                    Ok(None) => Ok(None),
-                    Err(_) => Err(MailFault::Memory),
-                };
+                return self.last();
             }
             self.read(r)?;
         }
         Err(MailFault::ReadFault)
     }
 
-    // Takes lines from the chunk until one begins the next message, and gives the message before it; none where all
-    // lines of the chunk are taken.
-    fn take_lines(&mut self) -> Result<Option<Vec<u8>>, AllocError>
+    /// Takes lines from the chunk until one begins the next message, and gives the message before it; none where all
+    /// lines of the chunk are taken.
+    pub(crate) fn take_lines(&mut self) -> Result<Option<Vec<u8>>, AllocError>
         requires { IsIntake self.old }
         ensures intake { IsIntake self.new }
         ensures piece { IfOk result (λ o. MatchOption o (kept_by self.new ≡ kept_by self.old) (λ piece. IsSplit self.old.gathered.from_lines piece.items (kept_by self.old) (kept_by self.new))) }
@@ -124,7 +120,7 @@ impl Intake {
     }
 
     // The first message of what is kept, where the input has ended.
-    fn last(&mut self) -> Result<Option<Vec<u8>>, AllocError>
+    fn last(&mut self) -> Result<Option<Vec<u8>>, MailFault>
         requires intake { IsIntake self.old }
         requires taken { self.old.at ≡ self.old.filled }
         requires undecided { has_line_feed (drop self.old.gathered.line self.old.gathered.bytes.items) ≡ false }
@@ -132,10 +128,14 @@ impl Intake {
         ensures piece { IfOk result (λ o. MatchOption o (kept_by self.old ≡ []) (λ piece. IsLastSplit self.old.gathered.from_lines piece.items (kept_by self.old) (kept_by self.new))) }
         ensures none { IfOk result (λ o. IfNone o (kept_by self.new ≡ [])) }
         ensures err { OnErr result (kept_by self.new ≡ kept_by self.old) }
+        ensures memory { IfErr result (λ e. e ≡ MailFault.Memory) }
         ensures ended { self.new.ended ≡ self.old.ended }
         ensures same { self.new.gathered.from_lines ≡ self.old.gathered.from_lines }
     {
-        self.gathered.last()
+        match self.gathered.last() {
+            Ok(piece) => Ok(piece),
+            Err(_) => Err(MailFault::Memory),
+        }
     }
 
     // Refills the chunk.

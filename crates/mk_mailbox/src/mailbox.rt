@@ -1,15 +1,15 @@
 //! Mailboxes: messages one after another, each begun by a From-line (own).
-ghost use Rattle.std.specs.Prelude.{◌≡◌, ◌≤◌, ◌++◌, ◌⊎◌, [], ℕ, List, true, false, length, IfErr, MatchResult, OnOk};
+ghost use Rattle.std.specs.Prelude.{◌≡◌, ◌≤◌, ◌++◌, ◌⊎◌, [], ℕ, List, true, false, length, IfErr, IfNone, IfOk, MatchOption, MatchResult, OnErr, OnOk};
 ghost use Rattle.std.specs.Io.KnownBytes.{Consumes, IsAtEnd};
 ghost use Rattle.std.specs.Option.{option_map};
 ghost use Rattle.mk_mailbox.specs.Devices.{IsLong, Rose};
 ghost use Rattle.mk_mailbox.specs.declared.from_lines.FromLines.TheVariants.{Any};
-ghost use Rattle.mk_mailbox.specs.Mailboxes.{Answers, FitsReads, IsKnownWhole};
+ghost use Rattle.mk_mailbox.specs.Mailboxes.{Answers, FitsReads, IsKnownWhole, IsNextPiece};
 
 use crate::device::Source;
 use crate::from_lines::FromLines;
 use crate::intake::Intake;
-use std::alloc::Global;
+use std::alloc::{AllocError, Global};
 use std::marker::Model;
 use thiserror::Error;
 
@@ -90,5 +90,17 @@ impl Mailbox {
         ensures same { self.new.from_lines ≡ self.old.from_lines }
     {
         self.intake.next(r)
+    }
+
+    /// The next message, where what was read tells that it is whole; none where more has to be read first, or all was given. The
+    /// last message has no line after it that tells, so only `next` gives it.
+    pub fn next_known(&mut self) -> Result<Option<Vec<u8>>, AllocError>
+        ensures piece { IfOk result (λ o. MatchOption o (self.new.kept ≡ self.old.kept) (λ piece. IsNextPiece piece.items self.old [] self.new)) }
+        ensures unknown { IfOk result (λ o. IfNone o (IsKnownWhole self.old.from_lines self.old.kept → ⊥)) }
+        ensures err { OnErr result (self.new.kept ≡ self.old.kept) }
+        ensures ended { self.new.ended ≡ self.old.ended }
+        ensures same { self.new.from_lines ≡ self.old.from_lines }
+    {
+        self.intake.take_lines()
     }
 }

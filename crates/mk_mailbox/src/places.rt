@@ -4,7 +4,8 @@ ghost use Rattle.mk_line.specs.Lines.{cut as lines_of};
 ghost use Rattle.mk_mailbox.specs.Places.{begins_from, ends_empty as last_is_empty, fits_place, is_uncut as is_one};
 
 use crate::from_lines::FromLines;
-use mk_line::{cut, first_line};
+use crate::gathering::end_with_empty;
+use mk_line::{ends_open, first_line};
 
 /// The place of a message in a mailbox. Where a text that doesn't fit it stands there, the mailbox is cut into other messages.
 #[derive(Clone, Copy, Debug)]
@@ -56,15 +57,11 @@ fn begins(from_lines: FromLines, text: &[u8]) -> bool
     }
 }
 
-// Whether the last line is empty.
+// Whether the last line is empty. Only the last bytes tell.
 fn ends_empty(text: &[u8]) -> bool
     ensures { result ≡ last_is_empty false (lines_of text.now) }
 {
-    let mut empty = false;
-    for line in cut(text) {
-        empty = line.content.is_empty();
-    }
-    empty
+    !ends_open(text) && end_with_empty(text)
 }
 
 // Whether no line begins another message.

@@ -1,9 +1,9 @@
 use Rattle.std.proofs.Common.{◌≡◌, ◌∙◌, true, false, drop, inl, inr, subst, sym, rules}
 use Rattle.std.proofs.lemmas.Result.{err_from_is_err_and}
 use Rattle.mk_line.specs.Lines.{has_line_feed}
-use Rattle.mk_mailbox.specs.Gathered.{IsLastSplit, IsSplit}
+use Rattle.mk_mailbox.specs.Gathered.{IsSplit}
 use Rattle.mk_mailbox.specs.Intakes.{held_of, kept_by}
-use Rattle.mk_mailbox.proofs.Intaking.{counted_on, grown_on, kept_unknown, known_on, last_next, piece_next, read_more, true_or_false}
+use Rattle.mk_mailbox.proofs.Intaking.{counted_on, grown_on, kept_unknown, known_on, last_answers, piece_next, read_more, true_or_false}
 use Rattle.mk_mailbox.proofs.intake.Intake.next.Goals as goal
 
 pub returns-in-Ok-Some-clause-exact : goal.returns-in-Ok-Some-clause-exact
@@ -19,18 +19,16 @@ returns-in-Ok-Some-clause-exact g c =
           (subst (λ way. IsSplit way piece (kept_by c.loop-read.self) (kept_by c.take_lines.new.self)) c.loop-read.invariant.same (rw c.in-Ok-Some.field-0-is at c.in-Ok-Some.ensures.piece))),
     )
 
-pub returns-in-Ok-Some-last-clause-exact : goal.returns-in-Ok-Some-last-clause-exact
-returns-in-Ok-Some-last-clause-exact g c =
+pub returns-then-self-clause-exact : goal.returns-then-self-clause-exact
+returns-then-self-clause-exact g c =
     let t = c.loop-read.invariant.told in
-    let piece = c.in-Ok-Some-last.piece.items in
     let same = rw c.in-Ok-None.field-0-is at c.in-Ok-None.ensures.piece in (
       t.0,
       t.1,
       t.2,
       t.3,
-      last_next piece t.0 (held_of c.args.self.now) (held_of c.last.new.self) (c.last.ensures.ended ∙ c.if-self.true)
-          (subst (λ k. IsLastSplit c.args.self.now.gathered.from_lines piece k (kept_by c.last.new.self)) (same ∙ t.4)
-          (subst (λ way. IsLastSplit way piece (kept_by c.take_lines.new.self) (kept_by c.last.new.self)) (c.take_lines.ensures.same ∙ c.loop-read.invariant.same) (rw c.in-Ok-Some-last.field-0-is at c.in-Ok-Some-last.ensures.piece))),
+      last_answers c.last.result c.take_lines.new.self.gathered.from_lines (kept_by c.take_lines.new.self) t.0 (held_of c.args.self.now) (held_of c.last.new.self) (c.last.ensures.ended ∙ c.if-self.true)
+          (c.take_lines.ensures.same ∙ c.loop-read.invariant.same) (same ∙ t.4) c.last.ensures.piece c.last.ensures.none c.last.ensures.err,
     )
 
 pub returns-in_err-read-clause-exact : goal.returns-in_err-read-clause-exact
