@@ -221,6 +221,28 @@ fn the_rest_isnt_read_ahead(rt: HostRuntime) {
     assert_eq!(rt; source.reads(), 23);
 }
 
+// A message that the next From-line ends is known to be whole. The last one isn't, since only the end of the input ends it.
+#[test]
+fn what_was_read_tells_which_messages_are_whole(rt: HostRuntime) -> Result<(), Fail> {
+    let mut source = Bytes::new(THREE, usize::MAX);
+    let mut mailbox = Mailbox::new(rt.alloc());
+    assert!(rt; mailbox.next_known()?.is_none());
+    assert!(rt; gives_next(&mut mailbox, &mut source, b"From a\nA: 1\n\nx\n\n"));
+    let Some(known) = mailbox.next_known()? else {
+        return Err(Fail::new("no message is known"));
+    };
+    assert_eq!(rt;
+        known.as_slice(),
+        b"From b\nA: 2\n\ny\nFrom z\n\n".as_slice()
+    );
+    assert!(rt; mailbox.next_known()?.is_none());
+    assert_eq!(rt; source.reads(), 1);
+    assert!(rt; gives_next(&mut mailbox, &mut source, b"From c\nA: 3\n\n"));
+    assert!(rt; mailbox.next_known()?.is_none());
+    assert!(rt; is_over(&mut mailbox, &mut source));
+    Ok(())
+}
+
 // A line, and a message, that take more than one chunk.
 #[test]
 fn messages_larger_than_a_chunk(rt: HostRuntime) -> Result<(), Fail> {
@@ -250,5 +272,24 @@ fn memory_next(rt: HostRuntime) {
     for row in &all {
         let mut source = Bytes::new(row.bytes("mailbox"), 7);
         assert!(rt; gives(rt.alloc(), &mut source, row));
+    }
+}
+
+// The same of a message that is known to be whole.
+#[test]
+fn memory_next_known(rt: HostRuntime) {
+    let mut source = Bytes::new(THREE, usize::MAX);
+    let mut mailbox = Mailbox::new(rt.alloc());
+    assert!(rt; gives_next(&mut mailbox, &mut source, b"From a\nA: 1\n\nx\n\n"));
+    let known = match mailbox.next_known() {
+        Err(_) => mailbox.next_known(),
+        answer => answer,
+    };
+    match known {
+        Ok(Some(piece)) => assert_eq!(rt;
+            piece.as_slice(),
+            b"From b\nA: 2\n\ny\nFrom z\n\n".as_slice()
+        ),
+        _ => assert!(rt; false, "no message"),
     }
 }
