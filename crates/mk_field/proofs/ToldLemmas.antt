@@ -12,19 +12,19 @@ use Rattle.mk_transfer.specs.Said.{Said}
 use Rattle.mk_transfer.proofs.Fronts.{AppendsFront-none, AppendsFront-whole}
 use Rattle.mk_field.specs.FilterClauses.{IsEdited, IsReason, SaysAll, SaysSome}
 use Rattle.mk_field.specs.Filtering.{report_of, said_of_made}
-use Rattle.mk_field.specs.inner.Telling.{Gathers, GathersAll, GathersFront, GathersSome, refusal_line, reported}
+use Rattle.mk_field.specs.inner.Telling.{Gathers, GathersAll, GathersFront, GathersSome, told_line, told_report}
 use Rattle.mk_field.proofs.GatheredLemmas.{front_whole}
 
 -- ---- what is told
 
 -- the reason that is reported is that of the edit that was refused
-reported_as : (path : List ℕ) (number : ℕ) (refusal : Option EditError) (m : Made) → IsReason refusal m → reported path number refusal ≡ report_of path number m
+reported_as : (path : List ℕ) (number : ℕ) (refusal : Option EditError) (m : Made) → IsReason refusal m → told_report path number refusal ≡ report_of path number m
 reported_as path number None (Ok made) h = refl
 reported_as path number None (Err reason) h = absurd h
 reported_as path number (Some error) (Ok made) h = absurd h
-reported_as path number (Some error) (Err reason) h = ap (refusal_line path number) h
+reported_as path number (Some error) (Err reason) h = ap (told_line path number) h
 
-pub told_edited : (path : List ℕ) (number : ℕ) (text left : List ℕ) (refusal : Option EditError) (m : Made) → IsEdited m text refusal left → record { output = left; errors = reported path number refusal } ≡ said_of_made path number text m
+pub told_edited : (path : List ℕ) (number : ℕ) (text left : List ℕ) (refusal : Option EditError) (m : Made) → IsEdited m text refusal left → record { output = left; errors = told_report path number refusal } ≡ said_of_made path number text m
 told_edited path number text left refusal m e = λ i. record { output = e.left_is i; errors = reported_as path number refusal m e.reason i }
 
 -- ---- how it goes out

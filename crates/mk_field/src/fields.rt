@@ -11,7 +11,7 @@ ghost use Rattle.mk_mail.specs.Rounds.{rounds_made_at};
 ghost use Rattle.mk_field.specs.FilterClauses.{IsEdited, IsFitted, IsRoundMade, fitted};
 ghost use Rattle.mk_field.specs.FilterViews.{filter_of, is_allowed, is_round, round_of};
 ghost use Rattle.mk_field.specs.Filtering.{filter_made, given_of, given_said, missing_report, rounds_ask as do_rounds_ask, said_alone, said_filtered, said_of, said_of_made};
-ghost use Rattle.mk_field.specs.inner.Telling.{reported, told_said};
+ghost use Rattle.mk_field.specs.inner.Telling.{told_report, told_said};
 
 use crate::filters::{FieldFilter, Round, ask};
 use crate::giving::given;
@@ -128,7 +128,7 @@ fn tell_given(path: &[u32], doc: &Doc, text: Vec<u8>) -> Told
 
 // The refusal where a document has no section at a path.
 fn missing_section(path: &[u32], doc: &Doc) -> Option<EditError>
-    ensures told { (number : ℕ) → reported path.now number result ≡ missing_report path.now number doc.now }
+    ensures told { (number : ℕ) → told_report path.now number result ≡ missing_report path.now number doc.now }
     ensures named { IfSome result (λ error. is_memory error ≡ false) }
 {
     if doc.section(path).is_some() {

@@ -6,7 +6,7 @@ ghost use Rattle.mk_line.specs.Lines.{is_nil};
 ghost use Rattle.mk_mailbox.specs.Devices.{Rose};
 ghost use Rattle.mk_transfer.specs.RunClauses.{Sends};
 ghost use Rattle.mk_field.specs.FilterClauses.{SaysAll, SaysSome};
-ghost use Rattle.mk_field.specs.inner.Telling.{Gathers, GathersAll, GathersFront, GathersSome, printed_text, reported, told_said};
+ghost use Rattle.mk_field.specs.inner.Telling.{Gathers, GathersAll, GathersFront, GathersSome, printed_text, told_report, told_said};
 
 use mk_edit::{EditError, Session};
 use mk_mail::Sink;
@@ -103,9 +103,9 @@ fn report<E: Sink>(
     err: &mut E,
 ) -> Result<bool, Stop>
     requires { IfSome refusal (λ error. is_memory error ≡ false) }
-    ensures sends { Sends result (reported path.now number refusal)
+    ensures sends { Sends result (told_report path.now number refusal)
         (E.contents err.old) (E.contents err.new) (E.failures err.old) (E.failures err.new) }
-    ensures told { IfOk result (λ told. told ≡ not (is_nil (reported path.now number refusal))) }
+    ensures told { IfOk result (λ told. told ≡ not (is_nil (told_report path.now number refusal))) }
 {
     match refusal {
         Some(reason) => {

@@ -25,18 +25,18 @@ printed_text (Given text) = text.items
 printed_text (Left history) = text_now history
 
 -- the line that names a refusal; none where no refusal is named
-abbrev pub refusal_line : List ℕ → ℕ → Option Refusal → List ℕ
-refusal_line path number None = []
-refusal_line path number (Some refusal) = message_line_at path number refusal
+abbrev pub told_line : List ℕ → ℕ → Option Refusal → List ℕ
+told_line path number None = []
+told_line path number (Some refusal) = message_line_at path number refusal
 
 -- what is reported of a message, by the reason where an edit at a path is refused
-abbrev pub reported : List ℕ → ℕ → Option EditError → List ℕ
-reported path number None = []
-reported path number (Some error) = refusal_line path number (refusal_of error)
+abbrev pub told_report : List ℕ → ℕ → Option EditError → List ℕ
+told_report path number None = []
+told_report path number (Some error) = told_line path number (refusal_of error)
 
 -- what is told of a message of a number, as what is said
 abbrev pub told_said : List ℕ → ℕ → Told → Said
-told_said path number t = record { output = printed_text t.text; errors = reported path number t.refusal }
+told_said path number t = record { output = printed_text t.text; errors = told_report path number t.refusal }
 
 -- text came after what was gathered: a front of both went out, and the rest is gathered
 pub record Gathers (text old new : List ℕ) (out out_after : Option (List ℕ)) : Type 0 where
@@ -63,7 +63,7 @@ pub record GathersSome (said : Said) (old new : List ℕ) (out out_after err err
   pub errors : AppendsFront err err_after said.errors
 
 -- all messages were filtered up to the end of the input, and what is gathered of them is still to go out
-pub record IsGathered (said : Said) (refused : Bool) (gathered : List ℕ) (before after : Held) : Type 0 where
+pub record AreAllGathered (said : Said) (refused : Bool) (gathered : List ℕ) (before after : Held) : Type 0 where
   pub says : GathersAll said refused [] gathered before.output after.output before.errors after.errors
   pub ended : IsAtEnd after.input
 
@@ -74,7 +74,7 @@ pub record IsCutOff (IsKnown : Cause → Type 0) (cause : Cause) (said : Said) (
 
 -- what filtering leaves while what is gathered is still to go out
 abbrev pub GathersSoFar : (Cause → Type 0) → Result Bool Cause → Said → List ℕ → Held → Held → Type 0
-GathersSoFar IsKnown (Ok refused) said gathered before after = IsGathered said refused gathered before after
+GathersSoFar IsKnown (Ok refused) said gathered before after = AreAllGathered said refused gathered before after
 GathersSoFar IsKnown (Err cause) said gathered before after = IsCutOff IsKnown cause said gathered before after
 
 -- where reading fails nothing is gathered, and all messages that are known to be whole went out, unless reading was given up
