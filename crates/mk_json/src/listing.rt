@@ -106,23 +106,32 @@ fn push_object(
 ) -> Result<(), AllocError> {
     push_columns(alloc, text, line)?;
     push_member(alloc, text, "boundary", section.boundary())?;
-    let described = Described::read(alloc, section)?;
-    push_member(alloc, text, "charset", described.media.param(b"charset"))?;
-    if let Some(disposition) = &described.disposition {
-        push_disposition(alloc, text, &disposition.value)?;
-    }
-    push_names(alloc, text, &described)?;
-    push_member(
-        alloc,
-        text,
-        "stored_as",
-        leaf.map(|leaf| leaf.name.as_slice()),
-    )?;
-    if leaf.is_some() {
+    push_described(alloc, text, &Described::read(alloc, section)?)?;
+    if let Some(leaf) = leaf {
+        push_member(alloc, text, "stored_as", Some(&leaf.name))?;
         push_size(alloc, text, section)?;
     }
     text.extend_from_slice(b"}\n")?;
     Ok(())
+}
+
+// Writes what the header of a section says: its charset, its disposition, and its name as a text, else as it stands there, and
+// once more as it stands there.
+fn push_described(
+    alloc: Global,
+    text: &mut Vec<u8>,
+    described: &Described,
+) -> Result<(), AllocError> {
+    push_member(alloc, text, "charset", described.media.param(b"charset"))?;
+    if let Some(disposition) = &described.disposition {
+        push_disposition(alloc, text, &disposition.value)?;
+    }
+    let raw = described.raw_name();
+    match described.text_name(alloc)? {
+        Some(name) => push_member(alloc, text, "filename", Some(name.as_bytes()))?,
+        None => push_member(alloc, text, "filename", raw)?,
+    }
+    push_member(alloc, text, "raw_filename", raw)
 }
 
 // Writes a disposition in lower case: what the value of Content-Disposition says before the first semicolon, where that is a
@@ -170,16 +179,6 @@ fn push_size(alloc: Global, text: &mut Vec<u8>, section: &Section<'_>) -> Result
         Err(ExtractError::Memory) => Err(AllocError),
         Err(_) => Ok(()),
     }
-}
-
-// Writes the name that the fields of a section say: as a text, else as it stands there, and once more as it stands there.
-fn push_names(alloc: Global, text: &mut Vec<u8>, described: &Described) -> Result<(), AllocError> {
-    let raw = described.raw_name();
-    match described.text_name(alloc)? {
-        Some(name) => push_member(alloc, text, "filename", Some(name.as_bytes()))?,
-        None => push_member(alloc, text, "filename", raw)?,
-    }
-    push_member(alloc, text, "raw_filename", raw)
 }
 
 // Writes the columns of a line of the listing after a text, as the first members of an object.
