@@ -61,6 +61,16 @@ fn mixed(alloc: Global) -> Result<Letters, AllocError> {
     Ok(letters)
 }
 
+// The letters of the cases with LF.
+fn letters_of(alloc: Global, name: &str) -> Result<Letters, AllocError> {
+    match name {
+        "put" => putting(alloc, b"X-Seen: yes"),
+        "mixed" => mixed(alloc),
+        "print" => taking(alloc, b"Subject"),
+        _ => putting(alloc, b"Date:"),
+    }
+}
+
 /// Filters mailboxes with either line ending, and a large message. The cases: `put`, `mixed`, `print`, `drop`, `put-crlf`,
 /// `large`.
 pub fn run(
@@ -71,19 +81,51 @@ pub fn run(
     results: &mut Results,
 ) -> Result<(), AllocError> {
     let count = scale.saturating_mul(MESSAGES);
+    run_lf(alloc, random, count, cases, results)?;
+    run_crlf(alloc, random, count, scale, cases, results)
+}
+
+// The cases with LF.
+fn run_lf(
+    alloc: Global,
+    random: &mut Random,
+    count: usize,
+    cases: &mut Cases<'_>,
+    results: &mut Results,
+) -> Result<(), AllocError> {
     let supply = Supply::new(alloc, random, b"\n")?;
-    let all = [
-        ("put", putting(alloc, b"X-Seen: yes")?),
-        ("mixed", mixed(alloc)?),
-        ("print", taking(alloc, b"Subject")?),
-        ("drop", putting(alloc, b"Date:")?),
-    ];
-    for (name, letters) in &all {
+    for name in ["put", "mixed", "print", "drop"] {
         if cases.has(name) {
-            let mailbox = supply.mailbox(random, count)?;
-            results.filter(&mailbox, letters, true);
+            filter_mailbox(alloc, random, &supply, count, name, results)?;
         }
     }
+    Ok(())
+}
+
+// Filters a mailbox by the letters of a case.
+fn filter_mailbox(
+    alloc: Global,
+    random: &mut Random,
+    supply: &Supply,
+    count: usize,
+    name: &str,
+    results: &mut Results,
+) -> Result<(), AllocError> {
+    let letters = letters_of(alloc, name)?;
+    let mailbox = supply.mailbox(random, count)?;
+    results.filter(&mailbox, &letters, true);
+    Ok(())
+}
+
+// The cases with CR LF.
+fn run_crlf(
+    alloc: Global,
+    random: &mut Random,
+    count: usize,
+    scale: usize,
+    cases: &mut Cases<'_>,
+    results: &mut Results,
+) -> Result<(), AllocError> {
     let supply = Supply::new(alloc, random, b"\r\n")?;
     let mut mailbox = Vec::new(alloc);
     if cases.has("put-crlf") {
@@ -91,8 +133,20 @@ pub fn run(
         results.filter(&mailbox, &putting(alloc, b"X-Spam: no")?, true);
     }
     if cases.has("large") {
-        let message = supply.letter(random, scale.saturating_mul(200_000))?;
-        results.filter(&message, &putting(alloc, b"X-Seen: yes")?, false);
+        filter_large(alloc, random, &supply, scale, results)?;
     }
+    Ok(())
+}
+
+// Puts a field into a large message.
+fn filter_large(
+    alloc: Global,
+    random: &mut Random,
+    supply: &Supply,
+    scale: usize,
+    results: &mut Results,
+) -> Result<(), AllocError> {
+    let message = supply.letter(random, scale.saturating_mul(200_000))?;
+    results.filter(&message, &putting(alloc, b"X-Seen: yes")?, false);
     Ok(())
 }

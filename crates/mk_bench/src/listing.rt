@@ -47,9 +47,28 @@ pub fn run(
     cases: &mut Cases<'_>,
     results: &mut Results,
 ) -> Result<(), AllocError> {
-    let parts = scale.saturating_mul(PARTS);
-    let supply = Supply::new(alloc, random, b"\n")?;
     let messages = scale.saturating_mul(14);
+    run_lf(
+        alloc,
+        random,
+        scale.saturating_mul(PARTS),
+        messages,
+        cases,
+        results,
+    )?;
+    run_crlf(alloc, random, scale, messages, cases, results)
+}
+
+// The cases with LF.
+fn run_lf(
+    alloc: Global,
+    random: &mut Random,
+    parts: usize,
+    messages: usize,
+    cases: &mut Cases<'_>,
+    results: &mut Results,
+) -> Result<(), AllocError> {
+    let supply = Supply::new(alloc, random, b"\n")?;
     for (name, size) in [
         ("parts-100", 100),
         ("parts-600", 600),
@@ -65,6 +84,18 @@ pub fn run(
     if cases.has("forwarded") {
         results.list(&forwarded(alloc, &supply, random, messages)?);
     }
+    Ok(())
+}
+
+// The cases with CR LF.
+fn run_crlf(
+    alloc: Global,
+    random: &mut Random,
+    scale: usize,
+    messages: usize,
+    cases: &mut Cases<'_>,
+    results: &mut Results,
+) -> Result<(), AllocError> {
     let supply = Supply::new(alloc, random, b"\r\n")?;
     if cases.has("forwarded-json") {
         results.list_as_json(forwarded(alloc, &supply, random, messages)?)?;

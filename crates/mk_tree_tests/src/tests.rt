@@ -9,7 +9,7 @@ mod rows;
 
 use mk_head::Encoding;
 use mk_tree::{Described, Doc, Kind, Section, describe};
-use rows::{MIXED, Place, ROWS};
+use rows::{MIXED, Place, ROWS, Row};
 use std::alloc::{AllocError, Global};
 use std::process::Abort;
 use std::test::Fail;
@@ -36,7 +36,10 @@ fn section<'a>(rt: &impl Abort, doc: &'a Doc, path: &[u32]) -> Section<'a> {
 }
 
 fn check_place(rt: &impl Abort, doc: &Doc, place: &Place) {
-    let found = section(rt, doc, place.path);
+    check_found(rt, &section(rt, doc, place.path), place);
+}
+
+fn check_found(rt: &impl Abort, found: &Section<'_>, place: &Place) {
     assert_eq!(rt; found.kind(), place.kind);
     assert_eq!(rt; found.start(), place.start);
     assert_eq!(rt; found.body_start(), place.body);
@@ -59,18 +62,21 @@ fn count(section: &Section<'_>, levels: u8) -> usize {
 #[test]
 fn sections_are_where_the_rules_put_them(rt: HostRuntime) {
     for row in &ROWS {
-        let doc = read(&rt, rt.alloc(), row.text);
-        for place in row.places {
-            check_place(&rt, &doc, place);
-        }
-        assert_eq!(rt;
-            count(&doc.root(), LEVELS),
-            row.places.len(),
-            "{}",
-            row.name
-        );
-        assert_eq!(rt; doc.text(), row.text, "{}", row.name);
+        check_row(&rt, &read(&rt, rt.alloc(), row.text), row);
     }
+}
+
+fn check_row(rt: &impl Abort, doc: &Doc, row: &Row) {
+    for place in row.places {
+        check_place(rt, doc, place);
+    }
+    assert_eq!(rt;
+        count(&doc.root(), LEVELS),
+        row.places.len(),
+        "{}",
+        row.name
+    );
+    assert_eq!(rt; doc.text(), row.text, "{}", row.name);
 }
 
 #[test]
@@ -85,42 +91,52 @@ fn there_is_no_section_at_other_paths(rt: HostRuntime) {
 #[test]
 fn views_of_a_multipart_and_its_parts(rt: HostRuntime) {
     let doc = read(&rt, rt.alloc(), MIXED);
-    let root = doc.root();
+    check_multipart(&rt, &doc.root());
+    check_fields(&rt, &doc.root());
+    check_part(&rt, &section(&rt, &doc, &[1, 2]));
+    check_digest(&rt, rt.alloc());
+}
+
+fn check_multipart(rt: &impl Abort, root: &Section<'_>) {
     assert_eq!(rt; root.raw(), MIXED);
     same(
-        &rt,
+        rt,
         root.head(),
         b"Subject: t\nContent-Type: multipart/mixed; boundary=\"b\"\n",
     );
-    same(&rt, root.preamble(), b"pre\n");
-    same(&rt, root.epilogue(), b"epi\n");
+    same(rt, root.preamble(), b"pre\n");
+    same(rt, root.epilogue(), b"epi\n");
     assert_eq!(rt; root.boundary(), Some(b"b".as_slice()));
     assert!(rt; !root.followed());
     assert!(rt; !root.default_message());
+}
+
+fn check_fields(rt: &impl Abort, root: &Section<'_>) {
     assert_eq!(rt; root.fields(), 2);
-    same(
-        &rt,
-        root.field(1).expect(&rt, "a field").raw,
-        b"Subject: t\n",
-    );
+    same(rt, root.field(1).expect(rt, "a field").raw, b"Subject: t\n");
     assert!(rt; root.field(0).is_none());
     assert!(rt; root.field(3).is_none());
-    let kind = root.find(b"content-type", 1).expect(&rt, "a field");
-    same(&rt, kind.name, b"Content-Type");
+    let kind = root.find(b"content-type", 1).expect(rt, "a field");
+    same(rt, kind.name, b"Content-Type");
     assert!(rt; root.find(b"content-type", 2).is_none());
-    let second = section(&rt, &doc, &[1, 2]);
-    same(&rt, second.raw(), b"Content-Type: text/html\n\ntwo\n");
-    same(&rt, second.body(), b"two\n");
+}
+
+fn check_part(rt: &impl Abort, second: &Section<'_>) {
+    same(rt, second.raw(), b"Content-Type: text/html\n\ntwo\n");
+    same(rt, second.body(), b"two\n");
     assert!(rt; second.boundary().is_none());
     assert!(rt; second.preamble().is_empty() && second.epilogue().is_empty());
     assert!(rt; second.followed());
+}
+
+fn check_digest(rt: &impl Abort, alloc: Global) {
     let digest = read(
-        &rt,
-        rt.alloc(),
+        rt,
+        alloc,
         b"Content-Type: multipart/digest; boundary=b\n\n--b\n\nSubject: s\n\nx\n--b--\n",
     );
-    assert!(rt; section(&rt, &digest, &[1, 1]).default_message());
-    let inner = section(&rt, &digest, &[1, 1, 1]);
+    assert!(rt; section(rt, &digest, &[1, 1]).default_message());
+    let inner = section(rt, &digest, &[1, 1, 1]);
     assert!(rt; inner.followed() && !inner.default_message());
     assert!(rt; inner.find(b"subject", 1).is_some());
 }
@@ -149,14 +165,15 @@ fn path_of(alloc: Global, levels: usize) -> Result<Vec<u32>, AllocError> {
 #[test]
 fn the_section_at_level_101_is_a_leaf(rt: HostRuntime) -> Result<(), Fail> {
     let text = nested(rt.alloc(), 100)?;
-    let doc = read(&rt, rt.alloc(), &text);
-    let deepest = section(&rt, &doc, &path_of(rt.alloc(), 101)?);
+    check_deepest(&rt, rt.alloc(), &read(&rt, rt.alloc(), &text))
+}
+
+fn check_deepest(rt: &impl Abort, alloc: Global, doc: &Doc) -> Result<(), Fail> {
+    let deepest = section(rt, doc, &path_of(alloc, 101)?);
     assert_eq!(rt; deepest.kind(), Kind::Leaf);
-    same(&rt, deepest.body(), b"--c\n\nx");
-    assert_eq!(rt;
-        section(&rt, &doc, &path_of(rt.alloc(), 100)?).kind(),
-        Kind::Multi
-    );
+    same(rt, deepest.body(), b"--c\n\nx");
+    let above = section(rt, doc, &path_of(alloc, 100)?);
+    assert_eq!(rt; above.kind(), Kind::Multi);
     Ok(())
 }
 
@@ -201,25 +218,39 @@ fn what_fields_say(rt: HostRuntime) -> Result<(), Fail> {
     let alloc = rt.alloc();
     let head = b"Subject: s\n t\nContent-Transfer-Encoding: (c) Base64\n";
     let doc = read(&rt, alloc, head);
-    let root = doc.root();
+    check_values(&rt, alloc, &doc.root())?;
+    check_encoding(&rt, alloc, &doc.root())?;
+    check_described(&rt, alloc)?;
+    assert!(rt; matches!(describe(alloc, head, false)?, Described::Leaf));
+    Ok(())
+}
+
+fn check_values(rt: &impl Abort, alloc: Global, root: &Section<'_>) -> Result<(), Fail> {
     let value = root.value(alloc, b"subject")?;
-    same(&rt, &value.expect(&rt, "a value"), b" s t");
+    same(rt, &value.expect(rt, "a value"), b" s t");
     assert!(rt; root.value(alloc, b"date")?.is_none());
+    Ok(())
+}
+
+fn check_encoding(rt: &impl Abort, alloc: Global, root: &Section<'_>) -> Result<(), Fail> {
     assert_eq!(rt; root.encoding(alloc)?, Encoding::Base64);
     let (value, encoding) = root.content_fields(alloc)?;
     assert!(rt; value.is_none());
     assert_eq!(rt; encoding, Encoding::Base64);
+    Ok(())
+}
+
+fn check_described(rt: &impl Abort, alloc: Global) -> Result<(), Fail> {
     match describe(
         alloc,
         b"Content-Type: multipart/digest; boundary=b\n",
         false,
     )? {
         Described::Multi(boundary, digest) => {
-            same(&rt, &boundary, b"b");
+            same(rt, &boundary, b"b");
             assert!(rt; digest);
         }
         _ => assert!(rt; false, "no multipart"),
     }
-    assert!(rt; matches!(describe(alloc, head, false)?, Described::Leaf));
     Ok(())
 }

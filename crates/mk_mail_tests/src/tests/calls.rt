@@ -2,7 +2,7 @@
 use super::builds::{message, part};
 use super::edits::lines;
 use super::letters::{allowed, filtered};
-use mk_mail::{content, content_size, extract, leaves, list, names};
+use mk_mail::{Leaf, content, content_size, extract, leaves, list, names};
 use mk_rows::{Row, rows};
 use mk_tree::Doc;
 use std::alloc::{AllocError, Global};
@@ -132,9 +132,15 @@ fn all_leaves(alloc: Global, row: &Row) -> Result<Vec<u8>, Fail> {
     let doc = read(alloc, row.bytes("message"))?;
     let mut found = Vec::new(alloc);
     for leaf in &leaves(alloc, &doc, true)? {
-        push_leaf(alloc, &mut found, &leaf.path, &leaf.name)?;
-        found.extend_from_slice(&content(alloc, &leaf.section)?)?;
-        found.push(b'|')?;
+        push_stored(alloc, &mut found, leaf)?;
     }
     Ok(found)
+}
+
+// Adds the path, the name and the content of a leaf.
+fn push_stored(alloc: Global, found: &mut Vec<u8>, leaf: &Leaf<'_>) -> Result<(), Fail> {
+    push_leaf(alloc, found, &leaf.path, &leaf.name)?;
+    found.extend_from_slice(&content(alloc, &leaf.section)?)?;
+    found.push(b'|')?;
+    Ok(())
 }

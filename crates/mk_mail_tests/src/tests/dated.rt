@@ -184,9 +184,18 @@ fn from_lines_end_with_a_date(rt: HostRuntime) -> Result<(), Fail> {
 fn check_messages(rt: &impl Abort, alloc: Global, row: &Row, size: usize) {
     let mut source = Bytes::new(row.bytes("mailbox"), size);
     let mut mailbox = Mailbox::cut_at(alloc, FromLines::Dated);
+    check_each(rt, &mut mailbox, &mut source, row);
+    assert!(rt;
+        matches!(mailbox.next(&mut source), Ok(None)),
+        "{}",
+        row.shows
+    );
+}
+
+fn check_each(rt: &impl Abort, mailbox: &mut Mailbox, source: &mut Bytes<'_>, row: &Row) {
     for cell in &row.cells {
         if cell.key == "message" {
-            match mailbox.next(&mut source) {
+            match mailbox.next(source) {
                 Ok(Some(piece)) => {
                     assert_eq!(rt; piece.as_slice(), cell.bytes.as_slice(), "{}", row.shows);
                 }
@@ -194,11 +203,6 @@ fn check_messages(rt: &impl Abort, alloc: Global, row: &Row, size: usize) {
             }
         }
     }
-    assert!(rt;
-        matches!(mailbox.next(&mut source), Ok(None)),
-        "{}",
-        row.shows
-    );
 }
 
 #[test]

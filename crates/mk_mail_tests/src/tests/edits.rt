@@ -2,7 +2,7 @@
 use super::calls::{Call, check, read, same};
 use super::letters::{edits_of, letters_in, no_letters};
 use mk_edit::Edit;
-use mk_mail::{field_edits, field_edits_at};
+use mk_mail::{Letters, field_edits, field_edits_at};
 use mk_rows::{Row, rows};
 use std::alloc::{AllocError, Global};
 use std::process::Abort;
@@ -55,14 +55,26 @@ fn line_of(alloc: Global, edit: &Edit) -> Result<String, AllocError> {
 
 /// The edits of the letters of a row, as lines.
 pub fn lines(alloc: Global, row: &Row) -> Result<Vec<u8>, Fail> {
-    let doc = read(alloc, row.bytes("message"))?;
-    let edits = edits_of(alloc, &doc, &letters_in(alloc, row)?)?;
+    let letters = letters_in(alloc, row)?;
+    lines_of(alloc, row.bytes("message"), &letters)
+}
+
+// The edits of letters of a message, as lines.
+fn lines_of(alloc: Global, message: &[u8], letters: &Letters) -> Result<Vec<u8>, Fail> {
+    let doc = read(alloc, message)?;
+    let edits = edits_of(alloc, &doc, letters)?;
     let mut found = Vec::new(alloc);
     for edit in &edits {
-        found.extend_from_slice(line_of(alloc, edit)?.as_bytes())?;
-        found.push(b'|')?;
+        push_line(alloc, &mut found, edit)?;
     }
     Ok(found)
+}
+
+// The line of an edit after others.
+fn push_line(alloc: Global, found: &mut Vec<u8>, edit: &Edit) -> Result<(), Fail> {
+    found.extend_from_slice(line_of(alloc, edit)?.as_bytes())?;
+    found.push(b'|')?;
+    Ok(())
 }
 
 #[test]
@@ -74,24 +86,32 @@ fn edits_in_their_order(rt: HostRuntime) -> Result<(), Fail> {
 #[test]
 fn many_fields_of_a_name(rt: HostRuntime) -> Result<(), Fail> {
     let alloc = rt.alloc();
+    let text = many_fields(alloc)?;
+    let mut letters = no_letters(alloc);
+    letters.only = Some(Vec::from_slice(alloc, b"A: 9")?);
+    check_many(&rt, alloc, &text, &letters)
+}
+
+// A text of 20,000 fields of one name.
+fn many_fields(alloc: Global) -> Result<Vec<u8>, AllocError> {
     let mut text = Vec::new(alloc);
     for _ in 0..20_000 {
         text.extend_from_slice(b"A: 1\n")?;
     }
-    let doc = read(alloc, &text)?;
-    let mut letters = no_letters(alloc);
-    letters.only = Some(Vec::from_slice(alloc, b"A: 9")?);
-    let edits = edits_of(alloc, &doc, &letters)?;
+    Ok(text)
+}
+
+fn check_many(rt: &impl Abort, alloc: Global, text: &[u8], letters: &Letters) -> Result<(), Fail> {
+    let doc = read(alloc, text)?;
+    let edits = edits_of(alloc, &doc, letters)?;
     assert_eq!(rt; edits.len(), 20_001);
-    let last_but_one = line_of(alloc, &edits[19_999])?;
-    same(
-        &rt,
-        last_but_one.as_bytes(),
-        b"remove [1] A 1",
-        "the last but one",
-    );
-    let last = line_of(alloc, &edits[20_000])?;
-    same(&rt, last.as_bytes(), b"add [1] end A: 9\n", "the last");
+    check_line(rt, alloc, &edits[19_999], b"remove [1] A 1")?;
+    check_line(rt, alloc, &edits[20_000], b"add [1] end A: 9\n")
+}
+
+fn check_line(rt: &impl Abort, alloc: Global, edit: &Edit, line: &[u8]) -> Result<(), Fail> {
+    let found = line_of(alloc, edit)?;
+    same(rt, found.as_bytes(), line, "the last edits");
     Ok(())
 }
 

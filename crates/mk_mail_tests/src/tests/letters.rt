@@ -358,15 +358,26 @@ pub fn edits_of(alloc: Global, doc: &Doc, letters: &Letters) -> Result<Vec<Edit>
 /// The message of a row after the edits of its letters.
 pub fn filtered(alloc: Global, row: &Row) -> Result<Vec<u8>, Fail> {
     let letters = letters_in(alloc, row)?;
-    let text = Vec::from_slice(alloc, row.bytes("message"))?;
-    let mut session = match Session::start(alloc, text) {
-        Ok(session) => session,
-        Err((_, error)) => return Err(error.into()),
-    };
-    for edit in &edits_of(alloc, session.doc(), &letters)? {
+    let mut session = started(alloc, row.bytes("message"))?;
+    edit_by(alloc, &mut session, &letters)?;
+    Ok(Vec::from_slice(alloc, session.text())?)
+}
+
+// A session with a message.
+fn started(alloc: Global, message: &[u8]) -> Result<Session, Fail> {
+    let text = Vec::from_slice(alloc, message)?;
+    match Session::start(alloc, text) {
+        Ok(session) => Ok(session),
+        Err((_, error)) => Err(error.into()),
+    }
+}
+
+// Makes the edits of letters.
+fn edit_by(alloc: Global, session: &mut Session, letters: &Letters) -> Result<(), Fail> {
+    for edit in &edits_of(alloc, session.doc(), letters)? {
         session.edit(edit, &mut Meter::new())?;
     }
-    Ok(Vec::from_slice(alloc, session.text())?)
+    Ok(())
 }
 
 #[test]
