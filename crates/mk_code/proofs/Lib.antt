@@ -14,10 +14,8 @@ pub mod QpSafe
 pub mod Contents
 pub mod WordParts
 pub mod Runs
-pub mod LaneCounts
 pub mod Base64Sizes
 pub mod QpSizes
-pub mod LastBlocks
 pub mod Pieces
 pub mod WordsKept
 pub mod WordsBack

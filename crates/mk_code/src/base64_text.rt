@@ -12,9 +12,10 @@ ghost use Rattle.mk_code.specs.inner.Strays.{is_stray};
 ghost use Rattle.mk_head.specs.declared.encodings.Encoding.TheVariants.{Base64};
 
 use crate::decoding::{CodeError, make_room};
-use crate::lanes::{LANES, letters_at, strays_at};
+use crate::lanes::{Letters, Strays};
 use base64::DecodeAllocError;
 use base64::engine::general_purpose::{STANDARD, STANDARD_NO_PAD};
+use mk_line::lanes::{ByteClass, run_of};
 use mk_line::{Ending, split_at_first};
 use std::alloc::{AllocError, Global};
 
@@ -211,7 +212,7 @@ fn split_letters(text: &[u8]) -> (&[u8], &[u8])
     ensures letters { filter letter text.now ≡ result.0.now ++ filter letter result.1.now }
     ensures less { length result.1.now < length text.now }
 {
-    let (run, rest) = text.split_at(letter_front(text));
+    let (run, rest) = text.split_at(run_of::<Letters>(text));
     match rest {
         [_, following @ ..] => (run, after_strays(following)),
         [] => (run, rest),
@@ -224,65 +225,7 @@ fn after_strays(text: &[u8]) -> &[u8]
     ensures less { length result.now ≤ length text.now }
 {
     match text {
-        [byte, ..] if !is_letter(*byte) => &text[stray_front(text)..],
+        [byte, ..] if !Letters::has(*byte) => &text[run_of::<Strays>(text)..],
         _ => text,
     }
-}
-
-// How many bytes that are no letters stand at the start.
-fn stray_front(text: &[u8]) -> usize
-    ensures front { result ≡ prefix_len is_stray text.now }
-    ensures within { result ≤ length text.now }
-{
-    let mut size = 0;
-    'each: while LANES <= text.len() - size {
-        let run = strays_at(text, size);
-        if run < LANES {
-            return size + run;
-        }
-        size += LANES;
-    }
-    size + last_strays(&text[size..])
-}
-
-// The same, one by one.
-fn last_strays(text: &[u8]) -> usize
-    ensures front { result ≡ prefix_len is_stray text.now }
-    ensures within { result ≤ length text.now }
-{
-    text.iter().take_while(|byte| !is_letter(**byte)).count()
-}
-
-// How many letters stand at the start.
-pub(crate) fn letter_front(text: &[u8]) -> usize
-    ensures front { result ≡ prefix_len letter text.now }
-    ensures within { result ≤ length text.now }
-{
-    let mut size = 0;
-    'each: while LANES <= text.len() - size {
-        let run = letters_at(text, size);
-        if run < LANES {
-            return size + run;
-        }
-        size += LANES;
-    }
-    size + last_letters(&text[size..])
-}
-
-// How many letters stand at the start, one by one.
-fn last_letters(text: &[u8]) -> usize
-    ensures front { result ≡ prefix_len letter text.now }
-    ensures within { result ≤ length text.now }
-{
-    text.iter().take_while(|byte| is_letter(**byte)).count()
-}
-
-/// Whether a byte is a letter of base64. Without branches, since which letter comes can't be foreseen.
-pub(crate) fn is_letter(byte: u8) -> bool
-    ensures { result ≡ letter byte }
-{
-    let upper_case = byte >= b'A' && byte <= b'Z';
-    let lower_case = byte >= b'a' && byte <= b'z';
-    let digit = byte >= b'0' && byte <= b'9';
-    upper_case | lower_case | digit | (byte == b'+') | (byte == b'/')
 }

@@ -4,10 +4,11 @@ ghost use Rattle.std.specs.List.{flat_map, list_all};
 ghost use Rattle.std.specs.Str.{bytes_eq, is_utf8, str_to_ascii_lowercase};
 ghost use Rattle.mk_code.specs.EncodedWords.{word_decoded, word_read, inner_decoded, text_bytes as bytes_of_text, b_text as b_bytes, q_text as q_bytes, put_before, is_padding as padding, in_utf8 as bytes_in_utf8, latin_character};
 
-use crate::base64_text::letter_front;
+use crate::lanes::Letters;
 use crate::qp_decoding::pair;
 use base64::DecodeAllocError;
 use base64::engine::general_purpose::STANDARD_NO_PAD;
+use mk_line::lanes::run_of;
 use mk_line::split_at_first;
 use std::alloc::{AllocError, Global};
 
@@ -140,7 +141,7 @@ fn is_named(name: &[u8], wanted: &[u8]) -> bool
 fn b_text(alloc: Global, text: &[u8]) -> Result<Option<Vec<u8>>, AllocError>
     ensures { IfOk result (λ found. option_map (λ bytes. bytes.items) found ≡ b_bytes text.now) }
 {
-    let (front, tail) = text.split_at(letter_front(text));
+    let (front, tail) = text.split_at(run_of::<Letters>(text));
     if !is_padding(tail) {
         return Ok(None);
     }

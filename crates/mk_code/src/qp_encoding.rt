@@ -7,8 +7,9 @@ ghost use Rattle.mk_code.specs.OutputLines.{widest};
 ghost use Rattle.mk_code.specs.QuotedPrintable.{qp_encoded, packed, form, limit as line_limit, is_plain, is_quiet as quiet, is_guarded as guarded, escaped, hex_digit as digit_of, logical_lines};
 ghost use Rattle.mk_line.specs.declared.cutting.Ending.TheVariants.{Crlf};
 
-use crate::lanes::{LANES, quiet_at};
+use crate::lanes::Quiet;
 use memchr::memmem;
+use mk_line::lanes::{ByteClass, run_of};
 use mk_line::{Ending, is_blank, split_at_first};
 use std::alloc::{AllocError, Global};
 
@@ -103,7 +104,7 @@ fn stands_whole(line: &[u8]) -> bool
     if line.len() > WIDEST || is_guarded(*first) || is_blank(*last) {
         return false;
     }
-    quiet_front(line) == line.len()
+    run_of::<Quiet>(line) == line.len()
 }
 
 // Ends the output line by a soft break where a byte's form doesn't fit on it, and says at which column the
@@ -180,7 +181,7 @@ fn push_quiet(out: &mut Vec<u8>, column: usize, rest: &[u8]) -> Result<usize, Al
     let room = (WIDEST - 1)
         .saturating_sub(column)
         .min(rest.len().saturating_sub(1));
-    let size = quiet_front(&rest[..room]);
+    let size = run_of::<Quiet>(&rest[..room]);
     if size == 0 {
         return Ok(0);
     }
@@ -188,45 +189,10 @@ fn push_quiet(out: &mut Vec<u8>, column: usize, rest: &[u8]) -> Result<usize, Al
     Ok(size)
 }
 
-// How many quiet bytes stand at the start. The last block goes back over bytes that were quiet.
-fn quiet_front(bytes: &[u8]) -> usize
-    ensures front { result ≡ prefix_len quiet bytes.now }
-    ensures within { result ≤ length bytes.now }
-{
-    if bytes.len() < LANES {
-        return last_quiet(bytes);
-    }
-    let mut size = 0;
-    'each: while LANES < bytes.len() - size {
-        let run = quiet_at(bytes, size);
-        if run < LANES {
-            return size + run;
-        }
-        size += LANES;
-    }
-    let last = bytes.len() - LANES;
-    last + quiet_at(bytes, last)
-}
-
-// How many quiet bytes stand at the start of few, one by one.
-fn last_quiet(bytes: &[u8]) -> usize
-    ensures front { result ≡ prefix_len quiet bytes.now }
-    ensures within { result ≤ length bytes.now }
-{
-    bytes.iter().take_while(|byte| is_quiet(**byte)).count()
-}
-
 fn stands_plain(column: usize, byte: u8, more: &[u8]) -> bool
     ensures { result ≡ is_plain (column == 0) (is_nil more.now) byte }
 {
-    is_quiet(byte) && !(column == 0 && is_guarded(byte)) && !(more.is_empty() && is_blank(byte))
-}
-
-fn is_quiet(byte: u8) -> bool
-    ensures { result ≡ quiet byte }
-{
-    let printable = byte > b' ' && byte <= b'~';
-    printable & (byte != EQUALS) | is_blank(byte)
+    Quiet::has(byte) && !(column == 0 && is_guarded(byte)) && !(more.is_empty() && is_blank(byte))
 }
 
 fn is_guarded(byte: u8) -> bool

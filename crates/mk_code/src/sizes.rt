@@ -6,11 +6,12 @@ ghost use Rattle.mk_code.specs.Contents.{IsContent, IsRefused};
 ghost use Rattle.mk_code.specs.QuotedPrintable.{qp_decoded, unquoted};
 ghost use Rattle.mk_code.specs.inner.Sizes.{is_well_ended};
 
-use crate::base64_text::{before_equals, is_letter};
+use crate::base64_text::before_equals;
 use crate::decoding::CodeError;
-use crate::lanes::{COUNTED, letter_count_at};
+use crate::lanes::Letters;
 use crate::qp_decoding::pair;
 use mk_head::Encoding;
+use mk_line::lanes::{ByteClass, count_of};
 use mk_line::{cut, split_at_first, trimmed};
 
 const EQUALS: u8 = b'=';
@@ -52,35 +53,13 @@ fn base64_size(text: &[u8]) -> Option<usize>
     let Some(last) = last_letter(front) else {
         return Some(0);
     };
-    let count = letter_count(front);
+    let count = count_of::<Letters>(front);
     let loose = count % GROUP;
     if ends_well(loose, last) {
         Some(count / GROUP * GROUP_BYTES + loose.saturating_sub(1))
     } else {
         None
     }
-}
-
-// How many letters a text has.
-fn letter_count(text: &[u8]) -> usize
-    ensures count { result ≡ count_by letter text.now }
-    ensures few { result ≤ length text.now }
-{
-    let mut count = 0;
-    let mut place = 0;
-    'each: while COUNTED <= text.len() - place {
-        count += letter_count_at(text, place);
-        place += COUNTED;
-    }
-    count + last_letter_count(&text[place..])
-}
-
-// The same, one by one.
-fn last_letter_count(text: &[u8]) -> usize
-    ensures count { result ≡ count_by letter text.now }
-    ensures few { result ≤ length text.now }
-{
-    text.iter().filter(|byte| is_letter(**byte)).count()
 }
 
 // The last letter of a text.
@@ -90,7 +69,7 @@ fn last_letter(text: &[u8]) -> Option<u8>
 {
     let mut rest = text;
     while let [front @ .., byte] = rest {
-        if is_letter(*byte) {
+        if Letters::has(*byte) {
             return Some(*byte);
         }
         rest = front;

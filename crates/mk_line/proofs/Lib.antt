@@ -4,4 +4,6 @@ pub mod FirstBytes
 pub mod Blanks
 pub mod Joined
 pub mod LaneRuns
+pub mod LastBlocks
+pub mod LaneCounts
 pub mod Counted

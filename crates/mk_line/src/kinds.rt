@@ -1,10 +1,11 @@
 //! Kinds of line: field starts, continuations, From-lines (RFC 5322, 2.2; From-lines are our own).
-ghost use Rattle.std.specs.Prelude.{◌≡◌, ◌≤◌, length};
+ghost use Rattle.std.specs.Prelude.{◌≡◌, ◌+◌, ◌≤◌, length, take, drop};
 ghost use Rattle.std.specs.List.{list_all, prefix_len};
 ghost use Rattle.mk_line.specs.Ascii.{is_blank as blank, is_name_byte as name_byte};
 ghost use Rattle.mk_line.specs.Kinds.{is_continuation as continues, is_from_line as is_from, is_name as are_name, is_past_blanks_colon, name_len as length_of_name};
 
-use crate::lanes::{LANES, name_bytes_at};
+use crate::lanes::{ByteClass, LANES, Runs, first_set, run_of};
+use std::simd::prelude::*;
 
 const TAB: u8 = b'\t';
 
@@ -16,12 +17,37 @@ const FIRST_OF_NAME: u8 = b'!';
 
 const LAST_OF_NAME: u8 = b'~';
 
+/// How many printable ASCII characters there are, apart from the space.
+const PRINTABLE: u8 = 94;
+
+/// The bytes of the names of fields: 33 to 126 other than the colon (RFC 5322, 2.2).
+struct NameBytes;
+
+impl ByteClass for NameBytes {
+    ghost members = { name_byte };
+
+    fn has(byte: u8) -> bool {
+        byte >= FIRST_OF_NAME && byte <= LAST_OF_NAME && byte != COLON
+    }
+}
+
+impl Runs for NameBytes {
+    #[inline(always)]
+    fn run_at(text: &[u8], at: usize) -> usize {
+        let bytes = u8x16::from_slice(&text[at..]);
+        let from_first = bytes - u8x16::splat(FIRST_OF_NAME);
+        let stops = from_first.simd_ge(u8x16::splat(PRINTABLE))
+            | bytes.simd_eq(u8x16::splat(COLON));
+        first_set(stops.to_bitmask(), LANES)
+    }
+}
+
 /// The length of the name in bytes, where the content is a field start: a name of one or more bytes 33 to 126
 /// other than the colon, blanks or none, and a colon.
 pub fn name_len(content: &[u8]) -> Option<usize>
     ensures { result ≡ length_of_name content.now }
 {
-    let name = name_front(content);
+    let name = run_of::<NameBytes>(content);
     if name == 0 {
         return None;
     }
@@ -42,7 +68,7 @@ pub fn is_name(bytes: &[u8]) -> bool
 fn are_name_bytes(bytes: &[u8]) -> bool
     ensures { result ≡ list_all name_byte bytes.now }
 {
-    bytes.iter().all(|byte| is_name_byte(*byte))
+    bytes.iter().all(|byte| NameBytes::has(*byte))
 }
 
 /// Whether the content begins with a blank, a space or a tab.
@@ -67,39 +93,6 @@ pub fn is_blank(byte: u8) -> bool
     ensures { result ≡ blank byte }
 {
     byte == SPACE || byte == TAB
-}
-
-fn is_name_byte(byte: u8) -> bool
-    ensures { result ≡ name_byte byte }
-{
-    byte >= FIRST_OF_NAME && byte <= LAST_OF_NAME && byte != COLON
-}
-
-// How many bytes of a name stand at the start.
-fn name_front(content: &[u8]) -> usize
-    ensures front { result ≡ prefix_len name_byte content.now }
-    ensures within { result ≤ length content.now }
-{
-    let mut size = 0;
-    'each: while LANES <= content.len() - size {
-        let run = name_bytes_at(content, size);
-        size += run;
-        if run < LANES {
-            return size;
-        }
-    }
-    size + last_of_name(&content[size..])
-}
-
-// The same, one by one.
-fn last_of_name(content: &[u8]) -> usize
-    ensures front { result ≡ prefix_len name_byte content.now }
-    ensures within { result ≤ length content.now }
-{
-    content
-        .iter()
-        .take_while(|byte| is_name_byte(**byte))
-        .count()
 }
 
 /// How many blanks the bytes begin with.

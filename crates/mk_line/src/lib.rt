@@ -21,7 +21,7 @@
 mod counting;
 mod cutting;
 mod kinds;
-mod lanes;
+pub mod lanes;
 pub mod laws;
 mod marks;
 mod metering;

@@ -2,11 +2,11 @@ use Rattle.std.proofs.Common.{ℕ, leb, cond, bit_and, refl}
 use Rattle.std.proofs.lemmas.Simd.{zip2_splat, splat_is_map, length-chunk}
 use lib.Lanes.{chunk}
 use Rattle.mk_code.specs.Base64Text.{is_letter}
-use Rattle.mk_line.proofs.LaneRuns.{joined, run_at, run_few}
-use Rattle.mk_code.proofs.lanes.letters_at.Goals as goal
+use Rattle.mk_line.proofs.LaneRuns.{joined, run_at}
+use Rattle.mk_code.proofs.lanes.LettersRuns.run_at.Goals as goal
 
-pub returns-clause-front : goal.returns-clause-front
-returns-clause-front c =
+pub returns : goal.returns
+returns c =
     let v = chunk c.args.at 16 c.args.text.now in
     let long = length-chunk c.args.at 16 c.args.text.now c.requires in
     run_at is_letter c.args.text.now c.args.at _ _ c.requires c.type_inv.text c.first_set.ensures _
@@ -15,6 +15,3 @@ returns-clause-front c =
     (joined (λ a b. cond (leb a b) 255 0) _ _ v (splat_is_map v 16 26 long) (joined _ _ _ v (zip2_splat {Y = ℕ} _ v 16 32 long) (splat_is_map v 16 97 long)))
     (joined (λ a b. cond (leb a b) 255 0) _ _ v (splat_is_map v 16 11 long) (zip2_splat {Y = ℕ} _ v 16 47 long)))
     (zip2_splat {Y = ℕ} _ v 16 43 long)) refl
-
-pub returns-clause-few : goal.returns-clause-few
-returns-clause-few c = run_few is_letter c.args.text.now c.args.at c.first_set.result c.requires (returns-clause-front c)

@@ -2,7 +2,7 @@ use Rattle.std.proofs.Common.{eqb, ap, ◌∙◌, w8, arith}
 use Rattle.std.proofs.lemmas.Simd.{bitmask_splat, ones-mask_l, length-chunk}
 use lib.Count.{ones}
 use lib.Lanes.{chunk}
-use Rattle.mk_line.proofs.counting.feeds_at.Goals as goal
+use Rattle.mk_line.proofs.counting.LineFeedsCounts.count_at.Goals as goal
 
 pub returns-clause-count : goal.returns-clause-count
 returns-clause-count c =

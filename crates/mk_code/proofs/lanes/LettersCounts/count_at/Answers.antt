@@ -3,8 +3,8 @@ use Rattle.std.proofs.lemmas.Simd.{zip2_splat, splat_is_map, length-chunk}
 use lib.Lanes.{chunk}
 use Rattle.mk_code.specs.Base64Text.{is_letter}
 use Rattle.mk_line.proofs.LaneRuns.{joined}
-use Rattle.mk_code.proofs.LaneCounts.{count_at}
-use Rattle.mk_code.proofs.lanes.letter_count_at.Goals as goal
+use Rattle.mk_line.proofs.LaneCounts.{count_at}
+use Rattle.mk_code.proofs.lanes.LettersCounts.count_at.Goals as goal
 
 pub returns-clause-count : goal.returns-clause-count
 returns-clause-count c =

@@ -2,11 +2,11 @@ use Rattle.std.proofs.Common.{ℕ, leb, cond, bit_and, bit_or, refl}
 use Rattle.std.proofs.lemmas.Simd.{zip2_splat, splat_is_map, length-chunk}
 use lib.Lanes.{chunk}
 use Rattle.mk_code.specs.QuotedPrintable.{is_quiet}
-use Rattle.mk_line.proofs.LaneRuns.{joined, run_at, run_few}
-use Rattle.mk_code.proofs.lanes.quiet_at.Goals as goal
+use Rattle.mk_line.proofs.LaneRuns.{joined, run_at}
+use Rattle.mk_code.proofs.lanes.QuietRuns.run_at.Goals as goal
 
-pub returns-clause-front : goal.returns-clause-front
-returns-clause-front c =
+pub returns : goal.returns
+returns c =
     let v = chunk c.args.at 16 c.args.text.now in
     let long = length-chunk c.args.at 16 c.args.text.now c.requires in
     run_at is_quiet c.args.text.now c.args.at _ _ c.requires c.type_inv.text c.first_set.ensures _
@@ -17,6 +17,3 @@ returns-clause-front c =
     (zip2_splat {Y = ℕ} _ v 16 32 long))
     (zip2_splat {Y = ℕ} _ v 16 9 long))
     (zip2_splat {Y = ℕ} _ v 16 61 long)) refl
-
-pub returns-clause-few : goal.returns-clause-few
-returns-clause-few c = run_few is_quiet c.args.text.now c.args.at c.first_set.result c.requires (returns-clause-front c)
