@@ -43,6 +43,12 @@ pub trait Source {
         ensures went_well { OnOk result (failures self.new ≡ failures self.old) }
         ensures counted { read_count self.new ≡ ticked (read_count self.old) };
 
+    /// How many bytes are left, where the device knows that beforehand. Room is made for as many, so a number that is wrong
+    /// costs time or memory, and changes nothing that is read.
+    fn left(&self) -> Option<usize> {
+        None
+    }
+
     /// How many reads failed.
     fn faults(&self) -> u64
         ensures { result ≡ failures self.now };

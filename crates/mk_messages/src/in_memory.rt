@@ -38,6 +38,10 @@ impl Source for InMemory<'_> {
         Ok(count)
     }
 
+    fn left(&self) -> Option<usize> {
+        Some(self.rest.len())
+    }
+
     fn faults(&self) -> u64 {
         0
     }

@@ -4,6 +4,7 @@ ghost use Rattle.std.specs.Prelude.{◌≡◌, ◌<◌, Bool, false, not};
 ghost use Rattle.mk_line.specs.Meters.{ticked};
 
 use mk_mailbox::{Fault, Sink, Source};
+use std::fs::Metadata;
 use std::io;
 use std::io::{ErrorKind, Read, Write};
 
@@ -11,6 +12,8 @@ use std::io::{ErrorKind, Read, Write};
 #[derive(Drop)]
 pub struct Input<R: Read> {
     reader: R,
+    /// How many bytes are left, where that was known when reading began.
+    left: Option<usize>,
     error: Option<io::Error>,
     faults: u64,
     reads: u64,
@@ -23,8 +26,18 @@ impl<R: Read + Drop> Input<R> {
         ensures well { ⟦<Input<R> as Source>⟧.failures result ≡ 0 }
         ensures unread { ⟦<Input<R> as Source>⟧.read_count result ≡ 0 }
     {
+        Input::with_size(reader, None)
+    }
+
+    /// The same, where it may be known how many bytes the reader gives.
+    pub fn with_size(reader: R, size: Option<usize>) -> Self
+        ensures same { ⟦<Input<R> as Source>⟧.remaining result ≡ R.remaining reader }
+        ensures well { ⟦<Input<R> as Source>⟧.failures result ≡ 0 }
+        ensures unread { ⟦<Input<R> as Source>⟧.read_count result ≡ 0 }
+    {
         Input {
             reader,
+            left: size,
             error: None,
             faults: 0,
             reads: 0,
@@ -47,7 +60,12 @@ impl<R: Read + Drop> Source for Input<R> {
     fn read(&mut self, piece: &mut [u8]) -> Result<usize, Fault> {
         self.reads = self.reads.saturating_add(1);
         match self.reader.read(piece) {
-            Ok(count) => Ok(count),
+            Ok(count) => {
+                if let Some(left) = self.left {
+                    self.left = Some(left.saturating_sub(count));
+                }
+                Ok(count)
+            }
             Err(error) => {
                 self.faults = self.faults.saturating_add(1);
                 self.error = Some(error);
@@ -56,12 +74,24 @@ impl<R: Read + Drop> Source for Input<R> {
         }
     }
 
+    fn left(&self) -> Option<usize> {
+        self.left
+    }
+
     fn faults(&self) -> u64 {
         self.faults
     }
 
     fn reads(&self) -> u64 {
         self.reads
+    }
+}
+
+/// How many bytes a file has, where these are known: those of a pipe or a terminal aren't.
+pub fn size_in(found: io::Result<Metadata>) -> Option<usize> {
+    match found {
+        Ok(metadata) if metadata.is_file() => usize::try_from(metadata.len()).ok(),
+        _ => None,
     }
 }
 

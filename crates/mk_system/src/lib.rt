@@ -23,7 +23,7 @@ mod placeholders;
 mod replacing;
 mod stamps;
 
-pub use device::{Input, MaybePipe, Output};
+pub use device::{Input, MaybePipe, Output, size_in};
 pub use edited::EditedFile;
 pub use folder::{Directory, Unwritten};
 pub use journal::JournalFile;

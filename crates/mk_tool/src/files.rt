@@ -4,6 +4,8 @@ use crate::faults::Problem;
 use mk_mail::Attach;
 use mk_run::{Cause, Spec};
 use mk_show::Forward;
+use mk_system::size_in;
+use std::fs::OpenFile;
 use std::io::Read;
 use std::rt::Files;
 use std::{fs, io};
@@ -27,6 +29,10 @@ fn opened<R: Files>(rt: &R, path: &str) -> io::Result<R::File> {
 pub fn read<R: Files + AllocGlobal>(rt: &R, path: &str) -> Result<Vec<u8>, Problem> {
     let mut file = open(rt, path)?;
     let mut text = Vec::new(rt.alloc());
+    if let Some(size) = size_in(file.metadata()) {
+        // Where there is no memory for as much at once, the text grows as it is read.
+        let _ = text.reserve_exact(size.saturating_add(1));
+    }
     match file.read_to_end(&mut text) {
         Ok(_) => Ok(text),
         Err(error) => Err(Problem::file(rt.alloc(), path, error, Cause::Read)),

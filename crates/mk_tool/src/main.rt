@@ -34,12 +34,17 @@ mod words;
 pub use mk_run::{
     Folder, Journal, Status, laws, run_edit, run_extract, run_field, run_pack, run_sections, unpack,
 };
-use mk_system::{Input, Output, Placeholders};
+use mk_system::{Input, Output, Placeholders, size_in};
+use std::fs;
 use std::process::ExitCode;
+
+/// The standard input, as a file.
+const STDIN: &str = "/dev/stdin";
 
 fn main(rt: HostRuntime) -> ExitCode {
     let _closed = Placeholders::hold(&rt);
-    let mut input = Input::new(rt.stdin());
+    let size = size_in(fs::metadata(&rt, STDIN));
+    let mut input = Input::with_size(rt.stdin(), size);
     let mut out = Output::new(rt.stdout());
     let mut err = Output::new(rt.stderr());
     let ending = program::run(&rt, &mut input, &mut out, &mut err);

@@ -10,7 +10,7 @@ use clap::ArgMatches;
 use clap::error::ErrorKind;
 use mk_mail::{Sink, Source};
 use mk_run::{Cause, Status, give_up, write_all};
-use mk_system::{EditedFile, Input, MaybePipe};
+use mk_system::{EditedFile, Input, MaybePipe, size_in};
 use mk_words::hints::with_hint;
 use mk_words::options::{EXPLAIN, FROM, IN_PLACE, command};
 use mk_words::waiting::{is_temporary, limit};
@@ -178,7 +178,8 @@ fn run_in_place<R: Files<File = File> + Clock + AllocGlobal, E: Sink>(
         Ok(opened) => opened,
         Err(error) => return Err(Problem::file(alloc, path, error, Cause::Read)),
     };
-    let mut input = Input::new(message);
+    let size = size_in(message.metadata());
+    let mut input = Input::with_size(message, size);
     let done = run_command(rt, name, matches, &mut input, &mut edited, err);
     let (unread, unwritten) = (input.close(), edited.close());
     match done {
@@ -200,7 +201,9 @@ fn run_from<R: Files<File = File> + Clock + AllocGlobal, O: Sink, E: Sink>(
     out: &mut O,
     err: &mut E,
 ) -> Result<Status, Problem> {
-    let mut input = Input::new(open(rt, path)?);
+    let message = open(rt, path)?;
+    let size = size_in(message.metadata());
+    let mut input = Input::with_size(message, size);
     let done = run_command(rt, name, matches, &mut input, out, err);
     let unread = input.close();
     match done {

@@ -1,6 +1,5 @@
 -- Which devices failed, where a run is given up.
 use Rattle.std.proofs.Common.{◌≡◌, ◌≤◌, ◌⊎◌, ℕ, Result, Ok, Err, IfErr, OnErr, inl, inr, refl, subst, sym}
-use Rattle.mk_mailbox.specs.Devices.{Rose}
 use Rattle.mk_transfer.specs.declared.status.Status.{Status}
 use Rattle.mk_transfer.specs.declared.status.Status.TheVariants.{Fault}
 use Rattle.mk_transfer.specs.declared.status.Cause.{Cause}

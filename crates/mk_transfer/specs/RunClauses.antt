@@ -1,6 +1,6 @@
 -- What a run leaves in its devices, and why one is given up.
 use Rattle.std.specs.Prelude.{◌≡◌, ◌≤◌, ◌⊎◌, ℕ, Bool, true, false, List, ◌++◌, ◌∷◌, [], Option, Result, Ok, Err, codes}
-use Rattle.std.specs.Io.KnownBytes.{Appends, Consumes, IsAtEnd, Keeps}
+use Rattle.std.specs.Io.KnownBytes.{Appends, IsAtEnd, Keeps}
 use Rattle.mk_line.specs.Ascii.{line_feed}
 use Rattle.mk_mailbox.specs.Devices.{AppendsFront, Rose, IsLong}
 use Rattle.mk_transfer.specs.declared.status.Status.{Status}

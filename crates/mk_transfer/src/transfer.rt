@@ -1,7 +1,8 @@
 //! Whole texts from a source and to a sink.
 
-ghost use Rattle.std.specs.Prelude.{◌≡◌, ◌<◌, ◌≤◌, ◌⊎◌, true, List, ℕ, IfOk, IfErr, OnOk, OnErr};
+ghost use Rattle.std.specs.Prelude.{◌≡◌, ◌+◌, ◌++◌, ◌<◌, ◌≤◌, ◌⊎◌, [], true, List, ℕ, length, take, drop, IfOk, IfErr, OnOk, OnErr};
 ghost use Rattle.std.specs.Io.KnownBytes.{Consumes, IsAtEnd, Appends, Keeps};
+ghost use Rattle.mk_line.specs.Meters.{ticked};
 ghost use Rattle.mk_mailbox.specs.Devices.{Rose, IsLong, AppendsFront};
 ghost use Rattle.mk_transfer.specs.RunClauses.{Sends};
 ghost use Rattle.mk_transfer.specs.declared.transfer.Stop.TheVariants.{Memory as NoMemory};
@@ -46,16 +47,80 @@ pub fn read_all<S: Source>(alloc: Global, input: &mut S) -> Result<Vec<u8>, Stop
         ⊎ IsLong (S.read_count input.old) (S.read_count input.new)) }
     ensures memory { IfErr result (λ stop. stop ≡ Stop.Memory → S.failures input.new ≡ S.failures input.old) }
 {
-    let mut text = Vec::new(alloc);
-    let mut piece = [0u8; CHUNK_BYTES];
+    let mut text = room_for(alloc, input.left());
+    let mut filled = 0;
     for _read in 0..MOST_READS {
-        match input.read(&mut piece) {
-            Err(Fault) => return Err(Stop::Fault),
-            Ok(0) => return Ok(text),
-            Ok(count) => text.extend_from_slice(&piece[..count])?,
+        let count = read_more(input, &mut text, filled)?;
+        if count == 0 {
+            text.truncate(filled);
+            return Ok(text);
         }
+        filled += count;
     }
     Err(Stop::Fault)
+}
+
+// An empty text with room for as many bytes as are left, and for one more, so that the read that finds the end needs no room
+// of its own. Where there is no memory for so many, the text grows as it is read.
+fn room_for(alloc: Global, left: Option<usize>) -> Vec<u8>
+    ensures { result.items ≡ [] }
+{
+    match left {
+        Some(left) if left > 0 => match Vec::with_capacity(alloc, left.saturating_add(1)) {
+            Ok(text) => text,
+            Err(_) => Vec::new(alloc),
+        },
+        _ => Vec::new(alloc),
+    }
+}
+
+// Reads once, to a place of a text after which nothing stands yet, and answers how many bytes it read. The text is as long as
+// the bytes that were read, or longer: what is after them is room.
+fn read_more<S: Source>(input: &mut S, text: &mut Vec<u8>, filled: usize) -> Result<usize, Stop>
+    requires { filled ≤ length text.old.items }
+    ensures bytes { IfOk result (λ count. Consumes (S.remaining input.old) (S.remaining input.new) (take count (drop filled text.new.items))) }
+    ensures front { OnOk result (take filled text.new.items ≡ take filled text.old.items) }
+    ensures within { IfOk result (λ count. filled + count ≤ length text.new.items) }
+    ensures ended { IfOk result (λ count. count ≡ 0 → IsAtEnd (S.remaining input.new)) }
+    ensures well { OnOk result (S.failures input.new ≡ S.failures input.old) }
+    ensures counted { OnOk result (S.read_count input.new ≡ ticked (S.read_count input.old)) }
+    ensures stopped { OnErr result ((bytes : List ℕ) × Consumes (S.remaining input.old) (S.remaining input.new) bytes) }
+    ensures fault { IfErr result (λ stop. stop ≡ Stop.Fault → Rose (S.failures input.old) (S.failures input.new)) }
+    ensures memory { IfErr result (λ stop. stop ≡ Stop.Memory → S.failures input.new ≡ S.failures input.old) }
+{
+    let room = (text.capacity() - text.len()).min(CHUNK_BYTES);
+    if filled == text.len() {
+        if room == 0 {
+            return read_apart(input, text);
+        }
+        text.resize(filled + room, 0)?;
+    }
+    match input.read(&mut text[filled..]) {
+        Ok(count) => Ok(count),
+        Err(Fault) => Err(Stop::Fault),
+    }
+}
+
+// Reads once into bytes of its own and puts them at the end of a text that has no room, so that no memory is asked for at the
+// end of the input.
+fn read_apart<S: Source>(input: &mut S, text: &mut Vec<u8>) -> Result<usize, Stop>
+    ensures bytes { IfOk result (λ count. (read : List ℕ) × Consumes (S.remaining input.old) (S.remaining input.new) read
+        × (text.new.items ≡ text.old.items ++ read) × (count ≡ length read)) }
+    ensures ended { IfOk result (λ count. count ≡ 0 → IsAtEnd (S.remaining input.new)) }
+    ensures well { OnOk result (S.failures input.new ≡ S.failures input.old) }
+    ensures counted { OnOk result (S.read_count input.new ≡ ticked (S.read_count input.old)) }
+    ensures stopped { OnErr result ((bytes : List ℕ) × Consumes (S.remaining input.old) (S.remaining input.new) bytes) }
+    ensures fault { IfErr result (λ stop. stop ≡ Stop.Fault → Rose (S.failures input.old) (S.failures input.new)) }
+    ensures memory { IfErr result (λ stop. stop ≡ Stop.Memory → S.failures input.new ≡ S.failures input.old) }
+{
+    let mut piece = [0u8; CHUNK_BYTES];
+    match input.read(&mut piece) {
+        Ok(count) => {
+            text.extend_from_slice(&piece[..count])?;
+            Ok(count)
+        }
+        Err(Fault) => Err(Stop::Fault),
+    }
 }
 
 /// Writes all the bytes.

@@ -37,6 +37,7 @@ pub struct Text<'a> {
     failing: Failing,
     reads: u64,
     faults: u64,
+    told: Option<usize>,
     ghost some: { 0 < size },
 }
 
@@ -59,7 +60,14 @@ impl<'a> Text<'a> {
             failing,
             reads: 0,
             faults: 0,
+            told: None,
         }
+    }
+
+    /// The same, which says that so many bytes are left, be it true or not.
+    pub fn telling(mut self, told: Option<usize>) -> Text<'a> {
+        self.told = told;
+        self
     }
 }
 
@@ -81,6 +89,10 @@ impl Source for Text<'_> {
         piece[..count].copy_from_slice(&self.rest[..count]);
         self.rest = &self.rest[count..];
         Ok(count)
+    }
+
+    fn left(&self) -> Option<usize> {
+        self.told
     }
 
     fn faults(&self) -> u64 {

@@ -90,6 +90,17 @@ fn memory_for_a_text(rt: HostRuntime) {
     }
 }
 
+// Where there is no memory for the size that is told, the text grows as it is read.
+#[test]
+fn memory_for_a_text_of_a_known_size(rt: HostRuntime) {
+    let alloc = rt.alloc();
+    let known = Some(MESSAGE.len());
+    match read_all(alloc, &mut Text::new(MESSAGE, SIZE).telling(known)) {
+        Ok(text) => assert_eq!(rt; text.as_slice(), MESSAGE),
+        Err(stop) => assert_eq!(rt; stop, Stop::Memory),
+    }
+}
+
 #[test]
 fn memory_for_a_run(rt: HostRuntime) {
     check_case(&rt, rt.alloc(), EDITS);

@@ -81,6 +81,21 @@ fn a_slice_is_read_whole(rt: HostRuntime) {
     }
 }
 
+// What a device says of the bytes that are left makes room, and nothing else.
+#[test]
+fn a_size_that_is_told_changes_nothing(rt: HostRuntime) {
+    let size = SECOND.len();
+    for told in [0, 1, size - 1, size, size + 1, 100_000, usize::MAX] {
+        for step in [1, 7, SIZE] {
+            let mut input = Text::new(SECOND, step).telling(Some(told));
+            match read_all(rt.alloc(), &mut input) {
+                Ok(text) => assert_eq!(rt; text.as_slice(), SECOND),
+                Err(_) => assert!(rt; false, "it failed"),
+            }
+        }
+    }
+}
+
 #[test]
 fn memory_for_messages(rt: HostRuntime) {
     let alloc = rt.alloc();
