@@ -4,6 +4,7 @@ pub mod FieldRuns
 pub mod Headers
 pub mod Names
 pub mod Parts
+pub mod Semicolons
 pub mod Apart
 pub mod Bytes
 pub mod FoldSizes

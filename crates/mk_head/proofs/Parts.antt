@@ -15,7 +15,7 @@ use Rattle.mk_line.specs.declared.cutting.Ending.TheVariants.{Crlf, Lf, Missing}
 use Rattle.mk_line.proofs.Cuts.{cut_other}
 use Rattle.mk_line.specs.Marks.{trimmed}
 use Rattle.mk_line.specs.Parting.{before, following, following as stands_after}
-use Rattle.mk_head.specs.Values.{Scan, Plain, scan, is_plain, pieces, push_first, unled, stripped, parameters, parameter_before, typed_as, type_of_pieces}
+use Rattle.mk_head.specs.Values.{Scan, Plain, scan, is_plain, is_token, lowered, media_type, pieces, push_first, unled, stripped, parameters, parameter_before, typed_as, type_of_pieces}
 use Rattle.mk_head.specs.Depths.{first_piece, other_pieces, pieces_after}
 use Rattle.mk_head.specs.Unfolding.{contents, or_nothing, value_in}
 use Rattle.mk_head.specs.Boundaries.{ends_in_space}
@@ -134,3 +134,34 @@ typed_parts text first others end f o p q =
     ap (λ x. typed_as (before slash (stripped x)) (stands_after slash (stripped x)) (parameters (pieces_after others))) named
     ∙ (ap (λ ps. typed_as (before slash (stripped (first_piece Plain text))) (stands_after slash (stripped (first_piece Plain text))) (parameters ps)) (ap pieces_after q ∙ sym o)
     ∙ ap type_of_pieces (sym (pieces_parts Plain text)))
+
+-- the type and the subtype are the same whatever the parameters are
+typed_names : (main : List ℕ) (sub : Option (List ℕ)) (params : List (List ℕ × List ℕ)) → ((typed_as main sub params).main ≡ (typed_as main sub []).main) × ((typed_as main sub params).sub ≡ (typed_as main sub []).sub)
+typed_names main None params = (refl, refl)
+typed_names main (Some sub) params =
+    elim (cases_Bool (is_token main && is_token sub)) [
+      | inl h ↦ (rw h refl, rw h refl)
+      | inr h ↦ (rw h refl, rw h refl)
+    ]
+
+-- they are read from the first piece alone
+names_first : (value first main sub : List ℕ) (end : ℕ) → first ≡ take end value → first_piece Plain value ≡ take end value → media_type (lowered main) (lowered sub) [] ≡ typed_as (before slash (stripped first)) (stands_after slash (stripped first)) []
+    → ((type_of_pieces (pieces Plain value)).main ≡ lowered main) × ((type_of_pieces (pieces Plain value)).sub ≡ lowered sub)
+names_first value first main sub end p f n =
+    let named : first ≡ first_piece Plain value = p ∙ sym f in
+    let parts = ap type_of_pieces (pieces_parts Plain value) in
+    let said = typed_names (before slash (stripped (first_piece Plain value))) (stands_after slash (stripped (first_piece Plain value))) (parameters (other_pieces Plain value)) in
+    let same : typed_as (before slash (stripped (first_piece Plain value))) (stands_after slash (stripped (first_piece Plain value))) [] ≡ media_type (lowered main) (lowered sub) [] =
+    ap (λ x. typed_as (before slash (stripped x)) (stands_after slash (stripped x)) []) (sym named) ∙ sym n in
+    (ap (λ t. t.main) parts ∙ (said.0 ∙ ap (λ t. t.main) same), ap (λ t. t.sub) parts ∙ (said.1 ∙ ap (λ t. t.sub) same))
+
+-- a type and a subtype after others, with a slash between them
+pub type_appended : (value first main sub old typed slashed new : List ℕ) (end : ℕ) → first ≡ take end value → first_piece Plain value ≡ take end value → media_type (lowered main) (lowered sub) [] ≡ typed_as (before slash (stripped first)) (stands_after slash (stripped first)) []
+    → typed ≡ old ++ lowered main → slashed ≡ typed ++ slash ∷ [] → new ≡ slashed ++ lowered sub → new ≡ old ++ ((type_of_pieces (pieces Plain value)).main ++ slash ∷ (type_of_pieces (pieces Plain value)).sub)
+type_appended value first main sub old typed slashed new end p f n a b c =
+    let are = names_first value first main sub end p f n in
+    c
+    ∙ (ap (λ xs. xs ++ lowered sub) (b ∙ ap (λ xs. xs ++ slash ∷ []) a)
+    ∙ (append_assoc (old ++ lowered main) (slash ∷ []) (lowered sub)
+    ∙ (append_assoc old (lowered main) (slash ∷ lowered sub)
+    ∙ (ap (λ xs. old ++ (xs ++ slash ∷ lowered sub)) (sym are.0) ∙ ap (λ xs. old ++ ((type_of_pieces (pieces Plain value)).main ++ slash ∷ xs)) (sym are.1)))))

@@ -1,13 +1,14 @@
 //! Content types: type, subtype and parameters (RFC 2045, 5.1 and 5.2).
-ghost use Rattle.std.specs.Prelude.{◌≡◌, ◌++◌, [], map, IfOk, OnOk};
+ghost use Rattle.std.specs.Prelude.{◌≡◌, ◌++◌, ◌∷◌, [], map, IfOk, OnOk};
 ghost use Rattle.std.specs.List.{list_all};
 ghost use Rattle.mk_line.specs.Ascii.{equals_sign, slash};
 ghost use Rattle.mk_line.specs.Parting.{before, following};
-ghost use Rattle.mk_head.specs.Values.{content_type_of, is_token as token, is_token_byte as token_byte, lowered, media_type, parameter_before, parameter_value as value_of_parameter, parameters as parameters_of, stripped, typed_as};
+ghost use Rattle.mk_head.specs.Values.{Plain, content_type_of, is_token as token, is_token_byte as token_byte, lowered, media_type, parameter_before, parameter_value as value_of_parameter, parameters as parameters_of, pieces, stripped, type_of_pieces, typed_as};
 ghost use Rattle.mk_head.specs.Depths.{pieces_after};
 ghost use Rattle.mk_head.specs.ValueViews.{media_type_of, parameter_of};
 
-use crate::scanning::{QUOTE, piece_end, uncomment, unquote};
+use crate::scanning::{OPENING, QUOTE, piece_end, uncomment, unquote};
+use memchr::memchr;
 use mk_line::{leading_blanks, split_at_first, trimmed};
 use std::alloc::{AllocError, Global};
 
@@ -18,8 +19,6 @@ const SLASH: u8 = b'/';
 const FIRST_OF_TOKEN: u8 = b'!';
 
 const LAST_OF_TOKEN: u8 = b'~';
-
-const SPECIALS: &[u8; 15] = b"()<>@,;:\\\"/[]?=";
 
 /// A content type.
 #[derive(Debug, Drop)]
@@ -63,6 +62,41 @@ pub fn content_type(alloc: Global, value: &[u8]) -> Result<ContentType, AllocErr
     typed(alloc, first, params)
 }
 
+/// Appends the type and the subtype that the value of a field says, with a slash between them, as `text/plain`. The parameters
+/// aren't read, and memory is asked for only to append, and for a value with comments.
+pub fn push_media_type(text: &mut Vec<u8>, value: &[u8]) -> Result<(), AllocError>
+    ensures { OnOk result (text.new.items ≡ text.old.items ++ ((content_type_of value.now).main ++ slash ∷ (content_type_of value.now).sub)) }
+{
+    match memchr(OPENING, value) {
+        None => push_first_type(text, value),
+        Some(_) => {
+            let kept = uncomment(*text.allocator(), value)?;
+            push_first_type(text, &kept)
+        }
+    }
+}
+
+// The same for a value without comments.
+fn push_first_type(text: &mut Vec<u8>, value: &[u8]) -> Result<(), AllocError>
+    ensures { OnOk result (text.new.items ≡ text.old.items ++ ((type_of_pieces (pieces Plain value.now)).main ++ slash ∷ (type_of_pieces (pieces Plain value.now)).sub)) }
+{
+    let (first, _) = value.split_at(piece_end(value));
+    let (main, sub) = names(strip(first));
+    push_lowercase(text, main)?;
+    text.push(SLASH)?;
+    push_lowercase(text, sub)
+}
+
+// Appends a text in lower case.
+fn push_lowercase(text: &mut Vec<u8>, more: &[u8]) -> Result<(), AllocError>
+    ensures { OnOk result (text.new.items ≡ text.old.items ++ lowered more.now) }
+{
+    let start = text.len();
+    text.extend_from_slice(more)?;
+    text[start..].make_ascii_lowercase();
+    Ok(())
+}
+
 /// Whether the text is a token: one or more bytes 33 to 126 that are no special of RFC 2045, 5.1.
 pub fn is_token(text: &[u8]) -> bool
     ensures { result ≡ token text.now }
@@ -79,7 +113,24 @@ fn are_token_bytes(text: &[u8]) -> bool
 fn is_token_byte(byte: u8) -> bool
     ensures { result ≡ token_byte byte }
 {
-    byte >= FIRST_OF_TOKEN && byte <= LAST_OF_TOKEN && !SPECIALS.contains(&byte)
+    match byte {
+        b'('
+        | b')'
+        | b'<'
+        | b'>'
+        | b'@'
+        | b','
+        | b';'
+        | b':'
+        | b'\\'
+        | b'"'
+        | b'/'
+        | b'['
+        | b']'
+        | b'?'
+        | b'=' => false,
+        _ => byte >= FIRST_OF_TOKEN && byte <= LAST_OF_TOKEN,
+    }
 }
 
 // The content type of its first piece, with these parameters.
@@ -159,7 +210,5 @@ fn strip(text: &[u8]) -> &[u8]
 fn lowercase(alloc: Global, text: &[u8]) -> Result<Vec<u8>, AllocError>
     ensures { IfOk result (λ v. v.items ≡ lowered text.now) }
 {
-    text.iter()
-        .map(|byte| byte.to_ascii_lowercase())
-        .collect(alloc)
+    text.to_ascii_lowercase(alloc)
 }

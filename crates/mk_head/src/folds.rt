@@ -1,12 +1,12 @@
 //! Where a field ends: at a line feed that no blank follows. Thirty-two places are tested at a time, so a folded field is passed
 //! over by one search, and its lines aren't looked for one by one. Long lines are passed by `memchr`.
-ghost use Rattle.std.specs.Prelude.{◌≡◌, ◌==◌, ◌+◌, ◌<◌, ◌≤◌, if◌then◌else◌, length, drop};
-ghost use Rattle.std.specs.Int.{w64, trailing_zeros};
+ghost use Rattle.std.specs.Prelude.{◌≡◌, ◌+◌, ◌<◌, ◌≤◌, length, drop};
 ghost use Rattle.mk_line.specs.Lines.{cut as lines_of, text_of};
 ghost use Rattle.mk_head.specs.inner.Folds.{fold_size, folded};
 
 use memchr::memchr;
 use mk_line::is_continuation;
+use mk_line::lanes::first_set;
 use std::simd::prelude::*;
 
 /// How many places are tested at once.
@@ -67,19 +67,7 @@ fn folded_at(text: &[u8], at: usize) -> usize
     let next = u8x32::from_slice(&text[at + 1..]);
     let feeds = bytes.simd_eq(u8x32::splat(LINE_FEED));
     let others = next.simd_ne(u8x32::splat(SPACE)) & next.simd_ne(u8x32::splat(TAB));
-    first_set((feeds & others).to_bitmask())
-}
-
-// How many lanes come before the first that is marked.
-#[inline(always)]
-fn first_set(mask: u64) -> usize
-    ensures { result ≡ (if mask == 0 then 32 else trailing_zeros w64 mask) }
-{
-    if mask == 0 {
-        LANES
-    } else {
-        mask.trailing_zeros() as usize
-    }
+    first_set((feeds & others).to_bitmask(), LANES)
 }
 
 // The same of the last places, one by one.

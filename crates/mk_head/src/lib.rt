@@ -31,7 +31,7 @@ mod scanning;
 mod unfolding;
 
 pub use boundaries::{is_boundary, push_multipart_type};
-pub use content::{ContentType, content_type, is_token};
+pub use content::{ContentType, content_type, is_token, push_media_type};
 pub use encodings::Encoding;
 pub use fields::{Field, Header};
 pub use listing::{Fields, each_field};

@@ -61,6 +61,7 @@ fn all_continue(lines: Lines<'_>) -> bool
 }
 
 /// The field at the start of a text, and what follows it; `None` where no field begins there.
+#[inline]
 pub fn first_field(text: &[u8]) -> Option<(Field<'_>, &[u8])>
     ensures none { IfNone result (fields_from false (lines_of text.now) ≡ []) }
     ensures begins { IfSome result (λ r. BeginsField text.now r.1.now) }

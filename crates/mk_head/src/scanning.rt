@@ -4,12 +4,12 @@ ghost use Rattle.mk_head.specs.Values.{Plain, Quoted, Comment, out_of, scan as s
 ghost use Rattle.mk_head.specs.ValueViews.{scan_of};
 ghost use Rattle.mk_head.specs.Depths.{depth_of, first_piece, other_pieces, pieces_after};
 
-use memchr::memchr;
+use memchr::{memchr, memchr3};
 use std::alloc::{AllocError, Global};
 
 pub(crate) const QUOTE: u8 = b'"';
 
-const OPENING: u8 = b'(';
+pub(crate) const OPENING: u8 = b'(';
 
 const CLOSING: u8 = b')';
 
@@ -142,6 +142,24 @@ fn without_comments(alloc: Global, value: &[u8]) -> Result<Vec<u8>, AllocError>
 
 /// Where the first piece of a text ends: at the first semicolon outside quoted strings, or at the end.
 pub fn piece_end(text: &[u8]) -> usize
+    ensures within { result ≤ length text.now }
+    ensures front { first_piece Plain text.now ≡ take result text.now }
+    ensures rest { other_pieces Plain text.now ≡ pieces_after (drop result text.now) }
+{
+    match memchr3(QUOTE, OPENING, SEMICOLON, text) {
+        None => text.len(),
+        Some(place) => {
+            if text[place] == SEMICOLON {
+                place
+            } else {
+                place + scanned_end(&text[place..])
+            }
+        }
+    }
+}
+
+// The same, byte by byte.
+fn scanned_end(text: &[u8]) -> usize
     ensures within { result ≤ length text.now }
     ensures front { first_piece Plain text.now ≡ take result text.now }
     ensures rest { other_pieces Plain text.now ≡ pieces_after (drop result text.now) }

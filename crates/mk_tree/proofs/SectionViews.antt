@@ -7,12 +7,13 @@ use Rattle.std.proofs.lemmas.Bool.{cases_Bool}
 use Rattle.mk_head.specs.Split.{Head, head_of, head_lines, after_head, option_line, belongs, fields_from}
 use Rattle.mk_head.specs.Fields.{fields_of}
 use Rattle.mk_tree.specs.Cutting.{tail_lines}
+use Rattle.mk_tree.specs.Documents.{levels, tree}
 use Rattle.mk_tree.specs.Kinds.{Kind, Leaf, Message, Multi, kind}
 use Rattle.mk_tree.specs.Tree.{Entity, leaf, message, multi, read, print, print_parts, entity_head, entity_by}
 use Rattle.mk_tree.specs.Spans.{Form, Span, span, Spans, no_spans, more_spans, size, tail_sizes, span_of}
 use Rattle.mk_tree.specs.Nodes.{form_of, spans_with, span_step, node_span}
 use Rattle.mk_tree.specs.Forms.{kind_in, form_kind, form_boundary, form_preamble, epilogue_size, form_epilogue, form_in, spans_in}
-use Rattle.mk_tree.specs.Sections.{body_lines, body_text, unended, content_text, preamble_lines, epilogue_of, epilogue_lines, boundary_in, section_fields}
+use Rattle.mk_tree.specs.Sections.{body_lines, body_text, unended, content_text, preamble_lines, epilogue_of, epilogue_lines, boundary_in, root_of, section_fields}
 use Rattle.mk_tree.specs.Layouts.{delimiter_of, placed_over, IsNodeOver}
 use Rattle.mk_tree.specs.declared.node.Node.{Node}
 use Rattle.mk_tree.specs.declared.node.Node.TheViews.{out-Node}
@@ -247,6 +248,10 @@ head_by f (Multi b digest) h ls = refl
 pub head_read : (left : ℕ) (digest : Bool) (ls : List TextLine) → entity_head (read left digest ls) ≡ head_of ls
 head_read zero digest ls = refl
 head_read (suc n) digest ls = head_by (read n) (kind (head_of ls).fields digest) (head_of ls) (after_head ls)
+
+-- the fields of a root are those that its lines begin with
+pub root_fields : (text rest : List ℕ) → (tree text).root ≡ read levels false (cut rest) → fields_of (fields_from false (cut rest)) ≡ section_fields (root_of (tree text))
+root_fields text rest e = sym (ap (λ root. fields_of (entity_head root).fields) e ∙ ap (λ h. fields_of h.fields) (head_read levels false (cut rest)))
 
 run_again : (inside : Bool) (ls : List TextLine) → fields_from inside (fields_from inside ls) ≡ fields_from inside ls
 run_again inside [] = refl

@@ -2,9 +2,11 @@
 ghost use Rattle.std.specs.Prelude.{◌≡◌, ◌+◌, false, length, IfOk};
 ghost use Rattle.mk_tree.specs.Layouts.{IsTreeOver};
 ghost use Rattle.mk_line.specs.Lines.{cut as lines_of};
-ghost use Rattle.mk_head.specs.Split.{option_line};
+ghost use Rattle.mk_head.specs.Fields.{fields_of};
+ghost use Rattle.mk_head.specs.Split.{fields_from, option_line};
 ghost use Rattle.mk_tree.specs.Spans.{size};
 ghost use Rattle.mk_tree.specs.Documents.{levels, tree};
+ghost use Rattle.mk_tree.specs.Sections.{root_of, section_fields};
 ghost use Rattle.mk_tree.specs.Tree.{read};
 
 use crate::node::Node;
@@ -108,14 +110,22 @@ impl Doc {
 pub(crate) fn read_root(alloc: Global, text: &[u8]) -> Result<(usize, Node), AllocError>
     ensures { IfOk result (λ r. IsTreeOver r.1 r.0 text.now) }
 {
-    let message = after_envelope(text);
+    let message = skip_envelope(text);
     let envelope = text.len() - message.len();
     let (root, _) = read_entity(alloc, message, 0, &[], false, LEVELS)?;
     Ok((envelope, root))
 }
 
+/// What follows the line that a mailbox puts before a message, or all of a text that begins with no such line. It begins with
+/// the fields of the root, so these are there without reading the rest.
+pub fn after_envelope(text: &[u8]) -> &[u8]
+    ensures { fields_of (fields_from false (lines_of result.now)) ≡ section_fields (root_of (tree text.now)) }
+{
+    skip_envelope(text)
+}
+
 // What follows the line that a mailbox puts before a message, where it is there.
-fn after_envelope(text: &[u8]) -> &[u8]
+fn skip_envelope(text: &[u8]) -> &[u8]
     ensures envelope { length text.now ≡ size (option_line (tree text.now).envelope) + length result.now }
     ensures message { (tree text.now).root ≡ read levels false (lines_of result.now) }
 {

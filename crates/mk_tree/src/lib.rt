@@ -36,7 +36,7 @@ mod stepping;
 
 pub use children::Children;
 pub use describing::{Described, describe};
-pub use doc::{Doc, LEVELS};
+pub use doc::{Doc, LEVELS, after_envelope};
 pub use section::Section;
 pub use shapes::Kind;
 pub use splicing::Change;

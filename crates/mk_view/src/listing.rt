@@ -129,7 +129,7 @@ fn push_nature(alloc: Global, lines: &mut Vec<u8>, section: &Section<'_>) -> Res
     push_column(lines, kind_name(section.kind()))?;
     lines.push(SPACE)?;
     let (value, encoding) = section.content_fields(alloc)?;
-    push_said_type(alloc, lines, value, section.default_message())?;
+    push_said_type(lines, value, section.default_message())?;
     push_column(lines, encoding_name(encoding))
 }
 

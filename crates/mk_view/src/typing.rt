@@ -5,37 +5,32 @@ ghost use Rattle.mk_head.specs.Types.{default_type as type_by_default, type_by};
 ghost use Rattle.mk_head.specs.ValueViews.{media_type_of};
 ghost use Rattle.mk_view.specs.Listing.{type_of, type_text};
 
-use mk_head::{ContentType, content_type};
+use mk_head::{ContentType, content_type, push_media_type};
 use mk_tree::Section;
 use std::alloc::{AllocError, Global};
-
-const SLASH: u8 = b'/';
 
 /// Writes the content type of a section after a text, as `text/plain`; without a field that says it that of its place.
 pub fn push_type(alloc: Global, text: &mut Vec<u8>, section: &Section<'_>) -> Result<(), AllocError>
     ensures { OnOk result (text.new.items ≡ text.old.items ++ type_text (type_of section.now)) }
 {
-    push_media(text, &media_type(alloc, section)?)
+    let value = section.value(alloc, b"Content-Type")?;
+    push_said_type(text, value, section.default_message())
 }
 
-/// Appends the media type that the value of a Content-Type field says; without one, the default, in a digest or not.
+/// Appends the media type that the value of a Content-Type field says; without one, the default, in a digest or not
+/// (RFC 2046, 5.1.5).
 pub(crate) fn push_said_type(
-    alloc: Global,
     text: &mut Vec<u8>,
     value: Option<Vec<u8>>,
     digest: bool,
 ) -> Result<(), AllocError>
     ensures { OnOk result (text.new.items ≡ text.old.items ++ type_text (type_by digest (option_map (λ bytes. bytes.items) value))) }
 {
-    push_media(text, &said_type(alloc, value, digest)?)
-}
-
-fn push_media(text: &mut Vec<u8>, media: &ContentType) -> Result<(), AllocError>
-    ensures { OnOk result (text.new.items ≡ text.old.items ++ type_text (media_type_of media.now)) }
-{
-    text.extend_from_slice(&media.main)?;
-    text.push(SLASH)?;
-    text.extend_from_slice(&media.sub)
+    match value {
+        Some(value) => push_media_type(text, &value),
+        None if digest => text.extend_from_slice(b"message/rfc822"),
+        None => text.extend_from_slice(b"text/plain"),
+    }
 }
 
 /// The content type of a section; without a Content-Type field that of its place (RFC 2046, 5.1.5).

@@ -10,7 +10,7 @@ pub returns : goal.returns
 returns c = record {
   lengths =
       c.in_ok-root.ensures.node
-      ∙ (ap (λ ls. span_of false 0 (read levels false ls)) (upto_none (lines_of c.after_envelope-message.result.now))
-      ∙ ap (span_of false 0) (sym c.after_envelope-message.ensures.message));
-  front = omega (arith, c.after_envelope-message.ensures.envelope);
+      ∙ (ap (λ ls. span_of false 0 (read levels false ls)) (upto_none (lines_of c.skip_envelope-message.result.now))
+      ∙ ap (span_of false 0) (sym c.skip_envelope-message.ensures.message));
+  front = omega (arith, c.skip_envelope-message.ensures.envelope);
 }

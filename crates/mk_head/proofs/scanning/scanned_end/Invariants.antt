@@ -2,7 +2,7 @@ use Rattle.std.proofs.Common.{◌≡◌, ◌++◌, ◌≤◌, drop, take}
 use Rattle.mk_head.specs.Values.{Plain}
 use Rattle.mk_head.specs.ValueViews.{scan_of}
 use Rattle.mk_head.specs.Depths.{depth_of, first_piece, other_pieces}
-use Rattle.mk_head.proofs.scanning.piece_end.Given as goal
+use Rattle.mk_head.proofs.scanning.scanned_end.Given as goal
 
 abbrev pub invariant-loop-place : goal.invariant-loop-place
 invariant-loop-place l = record {
