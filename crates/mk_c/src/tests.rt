@@ -4,6 +4,7 @@ mod mailboxes;
 
 use super::*;
 use std::alloc::{AllocError, Global};
+use std::process::Abort;
 use std::test::Fail;
 
 const OK: u32 = 0;
@@ -212,33 +213,43 @@ fn a_check_changes_nothing(rt: HostRuntime) -> Result<(), Fail> {
 #[test]
 fn a_journal_is_loaded(rt: HostRuntime) -> Result<(), Fail> {
     let alloc = rt.alloc();
-    let mut place = NOWHERE;
     let mut handle = opened(alloc, b"A: b\n\nx\n");
-    mk_c_add_field(alloc, &mut handle, &[1], false, b"C: d\n", &mut place);
+    mk_c_add_field(alloc, &mut handle, &[1], false, b"C: d\n", &mut NOWHERE);
     assert_eq!(rt;
         made(alloc, &mut handle)?.as_slice(),
         b"A: b\nC: d\n\nx\n".as_slice()
     );
-    assert_eq!(rt; mk_c_save(alloc, &mut handle, &mut place), OK);
+    assert_eq!(rt; mk_c_save(alloc, &mut handle, &mut NOWHERE), OK);
     let journal = answer(alloc, &mut handle)?;
-    let status = mk_c_load(
-        alloc,
-        &mut handle,
-        b"A: b\nC: d\n\nx\n",
-        &journal,
-        &mut place,
-    );
+    check_loaded(&rt, alloc, &mut handle, &journal)?;
+    check_not_loaded(&rt, alloc, &mut handle, &journal);
+    Ok(())
+}
+
+// The journal and its message make a session of which the step is undone.
+fn check_loaded(
+    rt: &impl Abort,
+    alloc: Global,
+    handle: &mut Handle,
+    journal: &[u8],
+) -> Result<(), Fail> {
+    let status = mk_c_load(alloc, handle, b"A: b\nC: d\n\nx\n", journal, &mut NOWHERE);
     assert_eq!(rt; status, OK);
-    assert_eq!(rt; mk_c_undo(alloc, &mut handle, &mut place), OK);
-    let before = text(alloc, &mut handle)?;
+    assert_eq!(rt; mk_c_undo(alloc, handle, &mut NOWHERE), OK);
+    let before = text(alloc, handle)?;
     assert_eq!(rt; before.as_slice(), b"A: b\n\nx\n".as_slice());
-    let status = mk_c_load(alloc, &mut handle, b"another", &journal, &mut place);
+    Ok(())
+}
+
+// Another message, and what is no journal, close the handle.
+fn check_not_loaded(rt: &impl Abort, alloc: Global, handle: &mut Handle, journal: &[u8]) {
+    let mut place = NOWHERE;
+    let status = mk_c_load(alloc, handle, b"another", journal, &mut place);
     assert_eq!(rt; status, JOURNAL_OTHER);
-    let status = mk_c_load(alloc, &mut handle, b"A: b\n\nx\n", b"mime", &mut place);
+    let status = mk_c_load(alloc, handle, b"A: b\n\nx\n", b"mime", &mut place);
     assert_eq!(rt; status, JOURNAL_SYNTAX);
     assert_eq!(rt; place, Place { edit: 0, number: 4 });
-    assert_eq!(rt; mk_c_text(alloc, &mut handle, &mut place), CLOSED);
-    Ok(())
+    assert_eq!(rt; mk_c_text(alloc, handle, &mut place), CLOSED);
 }
 
 #[test]

@@ -1,6 +1,6 @@
 //! Whether a section may become the one part of a multipart.
-ghost use Rattle.std.specs.Prelude.{◌≡◌, ◌≤◌, ◌+◌, length, Ok, Some, IfOk, IfErr};
-ghost use Rattle.mk_line.specs.Lines.{cut as lines_of, is_lf as is_plain_lf};
+ghost use Rattle.std.specs.Prelude.{◌≡◌, ◌≤◌, ◌+◌, false, length, Ok, Some, IfOk, IfErr};
+ghost use Rattle.mk_line.specs.Lines.{cut as lines_of, eol_of as text_ending, is_lf as is_plain_lf, is_nil as has_none};
 ghost use Rattle.mk_tree.specs.Documents.{tree};
 ghost use Rattle.mk_tree.specs.Sections.{body_text, head_text, raw_of, section_at};
 ghost use Rattle.mk_decide.specs.Answers.{refusal_of, IsRefusedBy};
@@ -9,7 +9,7 @@ ghost use Rattle.mk_decide.specs.Decided.{IsDecided};
 ghost use Rattle.mk_decide.specs.Edits.{Wrap};
 ghost use Rattle.mk_decide.specs.LocalAnswers.{after_first, plain_splice};
 ghost use Rattle.mk_decide.specs.Outcomes.{edited};
-ghost use Rattle.mk_decide.specs.WrapAnswers.{ends_in_cr as ends_in_return, fits_below as fit_below, fits_levels as fit_in_levels, keeps_wrapped as keeps_when_wrapped, makes_digest as make_digest, may_end as may_get_end, wrap_answer, wrap_fits, wrap_in, wrap_looked, wrap_opens};
+ghost use Rattle.mk_decide.specs.WrapAnswers.{close_bytes, content_part, delimiter_bytes, other_part, separator_text, type_bytes, version_bytes, ends_in_cr as ends_in_return, fits_below as fit_below, fits_levels as fit_in_levels, keeps_wrapped as keeps_when_wrapped, makes_digest as make_digest, may_end as may_get_end, wrap_answer, wrap_fits, wrap_in, wrap_looked, wrap_opens};
 
 use crate::around::is_glued;
 use crate::deciding::Replacement;
@@ -17,9 +17,9 @@ use crate::errors::EditError;
 use crate::kinds_kept::{is_alike, is_other};
 use crate::looking::copied_lines;
 use crate::part_edits::part_hits;
-use crate::wrapped_text::{Apart, all_made, divide, gains_end, is_leaf, make, take_apart, wrapped};
+use crate::wrapped_text::{Apart, Wrapping, all_made, gains_end, is_leaf, wrapped};
 use mk_head::{is_boundary, is_token};
-use mk_line::{Ending, Meter, ends_open, eol_of};
+use mk_line::{Ending, Meter, ends_open};
 use mk_tree::{Doc, LEVELS, Section, describe};
 use std::alloc::{AllocError, Global};
 
@@ -86,29 +86,59 @@ fn wrap_in_place(
         return Err(EditError::OpenLine);
     }
     let raw = copied_lines(alloc, section.raw(), meter)?;
-    let eol = eol_of(doc.text());
-    let apart = take_apart(section, &raw);
-    let divided = divide(alloc, apart.head)?;
-    let made = make(
+    let wrapping = Wrapping::make(
         alloc,
-        eol,
+        doc.text(),
         numbers.is_empty(),
-        &divided.others,
+        section,
+        &raw,
         subtype,
         boundary,
     )?;
-    let lines = all_made(alloc, &made)?;
+    wrap_made(alloc, doc, numbers, section, &wrapping, subtype, boundary)
+}
+
+// The same once the new lines are made.
+fn wrap_made(
+    alloc: Global,
+    doc: &Doc,
+    numbers: &[u32],
+    section: &Section<'_>,
+    wrapping: &Wrapping<'_>,
+    subtype: &[u8],
+    boundary: &[u8],
+) -> Result<Replacement, EditError>
+    requires opens { wrap_opens doc.now section.now ≡ false }
+    requires ending { wrapping.now.eol ≡ text_ending (lines_of doc.now) }
+    requires head { wrapping.now.apart.head.now ≡ head_text section.now }
+    requires separator { wrapping.now.apart.separator.now ≡ separator_text section.now }
+    requires body { wrapping.now.apart.body.now ≡ body_text section.now }
+    requires others { wrapping.now.divided.others.items ≡ other_part (head_text section.now) }
+    requires content { wrapping.now.divided.content.items ≡ content_part (head_text section.now) }
+    requires version { wrapping.now.made.version.items ≡ version_bytes (text_ending (lines_of doc.now)) (has_none numbers.now) (other_part (head_text section.now)) }
+    requires kind { wrapping.now.made.kind.items ≡ type_bytes (text_ending (lines_of doc.now)) subtype.now boundary.now }
+    requires delimiter { wrapping.now.made.delimiter.items ≡ delimiter_bytes (text_ending (lines_of doc.now)) boundary.now }
+    requires close { wrapping.now.made.close.items ≡ close_bytes (text_ending (lines_of doc.now)) boundary.now }
+    ensures ok { IfOk result (λ r. wrap_in doc.now numbers.now subtype.now boundary.now section.now ≡ Ok (plain_splice r)) }
+    ensures err { IfErr result (λ e. IsRefusedBy (refusal_of e) (wrap_in doc.now numbers.now subtype.now boundary.now section.now)) }
+{
+    let Wrapping {
+        eol,
+        apart,
+        divided,
+        made,
+    } = wrapping;
+    let lines = all_made(alloc, made)?;
     if let Some(level) = part_hits(doc, numbers, boundary, &lines, apart.body) {
         return Err(EditError::HoldsBoundary { level });
     }
-    if !fits(alloc, doc, eol, numbers, section, &apart, subtype)? {
+    if !fits(alloc, doc, *eol, numbers, section, apart, subtype)? {
         return Err(EditError::Recut);
     }
-    let new = wrapped(alloc, eol, section, &apart, &divided, &made)?;
     Ok(Replacement {
         place: section.start(),
         count: section.raw().len(),
-        new,
+        new: wrapped(alloc, *eol, section, apart, divided, made)?,
     })
 }
 

@@ -10,7 +10,7 @@ ghost use Rattle.mk_decide.specs.WrapAnswers.{close_bytes, content_part, delimit
 ghost use Rattle.mk_decide.specs.Wrapping.{is_content_line as is_line_of_content, names_field};
 
 use mk_head::push_multipart_type;
-use mk_line::{Ending, Line, cut, name_len, push_close, push_delimiter};
+use mk_line::{Ending, Line, cut, eol_of, name_len, push_close, push_delimiter};
 use mk_tree::{Kind, Section};
 use std::alloc::{AllocError, Global};
 
@@ -179,6 +179,57 @@ pub(crate) fn take_apart<'a>(section: &Section<'_>, raw: &'a [u8]) -> Apart<'a>
         head,
         separator,
         body,
+    }
+}
+
+/// What a multipart is made of around a section.
+#[derive(Debug, Drop)]
+pub(crate) struct Wrapping<'a> {
+    /// How the lines of the text end.
+    pub eol: Ending,
+    pub apart: Apart<'a>,
+    pub divided: Divided,
+    pub made: Made,
+}
+
+impl<'a> Wrapping<'a> {
+    ghost use Rattle.std.specs.Prelude.{◌≡◌, IfOk};
+    ghost use Rattle.mk_line.specs.Lines.{cut as lines_of, eol_of as text_ending};
+    ghost use Rattle.mk_tree.specs.Sections.{body_text, head_text, raw_of};
+    ghost use Rattle.mk_decide.specs.WrapAnswers.{close_bytes, content_part, delimiter_bytes, other_part, separator_text, type_bytes, version_bytes};
+
+    /// Takes the bytes of a section apart, and makes the new lines; `root`, where it is the root.
+    pub(crate) fn make(
+        alloc: Global,
+        text: &[u8],
+        root: bool,
+        section: &Section<'_>,
+        raw: &'a [u8],
+        subtype: &[u8],
+        boundary: &[u8],
+    ) -> Result<Wrapping<'a>, AllocError>
+        requires { raw.now ≡ raw_of section.now }
+        ensures ending { IfOk result (λ w. w.eol ≡ text_ending (lines_of text.now)) }
+        ensures head { IfOk result (λ w. w.apart.head.now ≡ head_text section.now) }
+        ensures separator { IfOk result (λ w. w.apart.separator.now ≡ separator_text section.now) }
+        ensures body { IfOk result (λ w. w.apart.body.now ≡ body_text section.now) }
+        ensures others { IfOk result (λ w. w.divided.others.items ≡ other_part (head_text section.now)) }
+        ensures content { IfOk result (λ w. w.divided.content.items ≡ content_part (head_text section.now)) }
+        ensures version { IfOk result (λ w. w.made.version.items ≡ version_bytes (text_ending (lines_of text.now)) root (other_part (head_text section.now))) }
+        ensures kind { IfOk result (λ w. w.made.kind.items ≡ type_bytes (text_ending (lines_of text.now)) subtype.now boundary.now) }
+        ensures delimiter { IfOk result (λ w. w.made.delimiter.items ≡ delimiter_bytes (text_ending (lines_of text.now)) boundary.now) }
+        ensures close { IfOk result (λ w. w.made.close.items ≡ close_bytes (text_ending (lines_of text.now)) boundary.now) }
+    {
+        let eol = eol_of(text);
+        let apart = take_apart(section, raw);
+        let divided = divide(alloc, apart.head)?;
+        let made = make(alloc, eol, root, &divided.others, subtype, boundary)?;
+        Ok(Wrapping {
+            eol,
+            apart,
+            divided,
+            made,
+        })
     }
 }
 

@@ -18,6 +18,7 @@
 
 mod appending;
 mod contents;
+mod each_word;
 mod encodings;
 mod errors;
 mod field_words;

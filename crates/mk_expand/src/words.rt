@@ -10,18 +10,20 @@ ghost use Rattle.mk_show.specs.Parts.{attached_file};
 ghost use Rattle.mk_expand.specs.Views.{pieces_of, plain_edits, IsFault};
 ghost use Rattle.mk_expand.specs.Words.{attach_file, attached_bytes as bytes_attached, field_text, is_plain as stands_alone, meaning_of};
 
-use crate::appending::{append, part_to_append, text_to_append};
-use crate::contents::{content_bytes, set_content};
+use crate::appending::{append, part_to_append};
+use crate::each_word::{
+    add_field, append_piece, append_text, attach_piece, attach_text_piece, drop_fields,
+    insert_part, put_field, put_piece, set_body, set_content_to, set_field, set_section,
+    set_text_to,
+};
 use crate::encodings::set_encoding;
 use crate::errors::WordError;
-use crate::field_words::{drop_all, put};
 use crate::ordering::removals;
 use crate::pieces::Pieces;
-use crate::texts::{attach_text, set_text};
 use mk_build::{AttachError, attach};
 use mk_decide::Edit;
 use mk_line::{Ending, ends_open};
-use mk_script::{Target, Word, field_name};
+use mk_script::{Target, Word};
 use mk_show::Spec;
 use mk_tree::Doc;
 use std::alloc::{AllocError, Global};
@@ -67,10 +69,7 @@ pub fn edits_for(
     ensures fault { IfErr result (λ error. IsFault error (meaning_of (pieces_of pieces.entry) eol (tree doc.now) (said_by word))) }
 {
     match word {
-        Word::Add { path, top, field } => {
-            let text = ended(field, eol)?;
-            alone(alloc, Edit::AddField { path, top, text })
-        }
+        Word::Add { path, top, field } => add_field(alloc, path, top, field, eol),
         Word::Delete(target) => {
             let Target { path, name, k } = target;
             alone(alloc, Edit::RemoveField { path, name, k })
@@ -79,32 +78,11 @@ pub fn edits_for(
             let Target { path, name, k } = target;
             alone(alloc, Edit::RenameField { path, name, k, to })
         }
-        Word::Set { target, field } => {
-            let Target { path, name, k } = target;
-            let text = ended(field, eol)?;
-            alone(
-                alloc,
-                Edit::SetField {
-                    path,
-                    name,
-                    k,
-                    text,
-                },
-            )
-        }
-        Word::Body { path, piece } => {
-            let text = pieces.lines(alloc, piece, eol)?;
-            alone(alloc, Edit::SetBody { path, text })
-        }
-        Word::Replace { path, piece } => {
-            let text = pieces.lines(alloc, piece, eol)?;
-            alone(alloc, Edit::SetSection { path, text })
-        }
-        Word::Insert { path, place, piece } => {
-            let text = pieces.lines(alloc, piece, eol)?;
-            alone(alloc, Edit::InsertPart { path, place, text })
-        }
-        Word::Remove { paths } => Ok(removals(alloc, paths)?),
+        Word::Set { target, field } => set_field(alloc, target, field, eol),
+        Word::Body { path, piece } => set_body(alloc, path, pieces, piece, eol),
+        Word::Replace { path, piece } => set_section(alloc, path, pieces, piece, eol),
+        Word::Insert { path, place, piece } => insert_part(alloc, path, place, pieces, piece, eol),
+        Word::Remove { paths } => removals(alloc, paths).map_err(WordError::from),
         Word::Wrap {
             path,
             subtype,
@@ -117,57 +95,29 @@ pub fn edits_for(
                 boundary,
             },
         ),
-        Word::Content { path, piece } => {
-            let bytes = content_bytes(alloc, doc, &path, pieces, piece, eol)?;
-            set_content(alloc, doc, path, &bytes, eol)
-        }
+        Word::Content { path, piece } => set_content_to(alloc, doc, path, pieces, piece, eol),
         Word::Text {
             charset,
             path,
             piece,
-        } => {
-            let bytes = content_bytes(alloc, doc, &path, pieces, piece, eol)?;
-            set_text(alloc, doc, path, &charset, &bytes, eol)
-        }
+        } => set_text_to(alloc, doc, path, &charset, pieces, piece, eol),
         Word::Encode { path, to } => set_encoding(alloc, doc, path, to, eol),
-        Word::Put { path, field } => {
-            let text = ended(field, eol)?;
-            Ok(put(alloc, doc, &path, &text)?)
-        }
-        Word::PutPiece { path, piece } => {
-            let text = closed(pieces.lines(alloc, piece, eol)?, eol)?;
-            Ok(put(alloc, doc, &path, &text)?)
-        }
-        Word::DropAll { path, name } => Ok(drop_all(alloc, doc, &path, field_name(&name))?),
-        Word::Append { path, piece } => {
-            let text = pieces.lines(alloc, piece, eol)?;
-            Ok(append(alloc, doc, path, text, eol)?)
-        }
-        Word::AppendText { path, piece } => {
-            let text = pieces.lines(alloc, piece, eol)?;
-            let part = text_to_append(alloc, doc, &path, &text, eol)?;
-            Ok(append(alloc, doc, path, part, eol)?)
-        }
+        Word::Put { path, field } => put_field(alloc, doc, &path, field, eol),
+        Word::PutPiece { path, piece } => put_piece(alloc, doc, &path, pieces, piece, eol),
+        Word::DropAll { path, name } => drop_fields(alloc, doc, &path, &name),
+        Word::Append { path, piece } => append_piece(alloc, doc, path, pieces, piece, eol),
+        Word::AppendText { path, piece } => append_text(alloc, doc, path, pieces, piece, eol),
         Word::Attach {
             path,
             media,
             name,
             piece,
-        } => {
-            let file = Spec {
-                media: &media,
-                path: &name,
-            };
-            let text = attached_bytes(alloc, &file, pieces, piece, eol)?;
-            attach_to(alloc, doc, path, &file, text, eol)
-        }
+        } => attach_piece(alloc, doc, path, &media, &name, pieces, piece, eol),
         Word::AttachText { path, media, piece } => {
-            let text = pieces.lines(alloc, piece, eol)?;
-            attach_text(alloc, doc, path, &media, text, eol)
+            attach_text_piece(alloc, doc, path, &media, pieces, piece, eol)
         }
     }
 }
-
 /// One edit, and nothing else.
 pub(crate) fn alone(alloc: Global, edit: Edit) -> Result<Vec<Edit>, WordError>
     ensures edits { IfOk result (λ edits. plain_edits edits.items ≡ edit_of edit ∷ []) }
@@ -178,8 +128,8 @@ pub(crate) fn alone(alloc: Global, edit: Edit) -> Result<Vec<Edit>, WordError>
     Ok(edits)
 }
 
-// The bytes of a piece that is attached as a file: those of a text as lines of the message.
-fn attached_bytes(
+/// The bytes of a piece that is attached as a file: those of a text as lines of the message.
+pub(crate) fn attached_bytes(
     alloc: Global,
     file: &Spec<'_>,
     pieces: Pieces<'_>,
@@ -196,8 +146,8 @@ fn attached_bytes(
     }
 }
 
-// A file as a part after the others.
-fn attach_to(
+/// A file as a part after the others.
+pub(crate) fn attach_to(
     alloc: Global,
     doc: &Doc,
     path: Vec<u32>,
@@ -221,8 +171,8 @@ fn attach_to(
     }
 }
 
-// A field with a line ending.
-fn ended(field: Vec<u8>, eol: Ending) -> Result<Vec<u8>, AllocError>
+/// A field with a line ending.
+pub(crate) fn ended(field: Vec<u8>, eol: Ending) -> Result<Vec<u8>, AllocError>
     ensures { IfOk result (λ text. text.items ≡ field_text eol field.items) }
 {
     let mut text = field;
@@ -230,8 +180,8 @@ fn ended(field: Vec<u8>, eol: Ending) -> Result<Vec<u8>, AllocError>
     Ok(text)
 }
 
-// The field in a piece, with a line ending if its last line has none.
-fn closed(field: Vec<u8>, eol: Ending) -> Result<Vec<u8>, AllocError>
+/// The field in a piece, with a line ending if its last line has none.
+pub(crate) fn closed(field: Vec<u8>, eol: Ending) -> Result<Vec<u8>, AllocError>
     ensures { IfOk result (λ text. text.items ≡ closed_field eol field.items) }
 {
     if ends_open(&field) {

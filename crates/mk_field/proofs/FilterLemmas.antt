@@ -9,7 +9,9 @@ use Rattle.mk_head.specs.Fields.{FieldText, fields_of, is_named}
 use Rattle.mk_head.specs.Split.{fields_from}
 use Rattle.mk_mailbox.specs.Devices.{IsFull, IsLong}
 use Rattle.mk_mailbox.specs.Held.{Held as Kept}
-use Rattle.mk_mail.specs.Letters.{are_allowed, fields_at}
+use Rattle.mk_mail.specs.Letters.{are_allowed, fields_at, is_root}
+use Rattle.mk_tree.specs.Documents.{tree}
+use Rattle.mk_tree.specs.Sections.{root_of, section_fields}
 use Rattle.mk_mail.specs.Rounds.{PlainRound, letters_for}
 use Rattle.mk_mailbox.specs.Mailboxes.{FitsReads, IsKnownWhole, IsNextPiece, IsOver, chunk_bytes}
 use Rattle.mk_mailbox.specs.Pieces.{mailbox_pieces}
@@ -23,7 +25,7 @@ use Rattle.mk_field.specs.FilterClauses.{EndsFiltered, Filters, GivesKnown, IsBr
 use Rattle.mk_field.specs.FilterViews.{is_round}
 use Rattle.mk_field.specs.inner.Telling.{Gathers, GathersAll, GathersFront, GathersSome}
 use Rattle.mk_field.proofs.GatheredLemmas.{flushed_all, front_more, front_none, front_on, gathers_all, gathers_on, gathers_then}
-use Rattle.mk_field.specs.Filtering.{PlainFilter, said_from, said_of}
+use Rattle.mk_field.specs.Filtering.{PlainFilter, missing_report, said_from, said_of}
 use Rattle.mk_transfer.specs.RunClauses.{Counts, Held, IsBlamed, Reason, WriteFailed, cause_of_writing, held, status_of}
 use Rattle.mk_transfer.specs.Said.{Run, shown, Said, said_after, silence}
 use Rattle.mk_transfer.proofs.GivenUp.{not_reading}
@@ -196,9 +198,21 @@ long_on turn kept before reads now c h =
 
 -- ---- the fields of a name
 
-pub given_begun : (f : FieldText → List ℕ) (path name text held head : List ℕ) (fields : List FieldText) → held ≡ [] → fields_of (fields_from false (cut head)) ≡ fields_at path text → fields ≡ fields_of (fields_from false (cut head))
-    → held ++ flat_map f (filter (is_named name) fields) ≡ flat_map f (filter (is_named name) (fields_at path text))
-given_begun f path name text held head fields e h g = ap (λ x. x ++ flat_map f (filter (is_named name) fields)) e ∙ ap (λ fs. flat_map f (filter (is_named name) fs)) (g ∙ h)
+pub given_begun : (f : FieldText → List ℕ) (name held head : List ℕ) (fields : List FieldText) → held ≡ [] → fields ≡ fields_of (fields_from false (cut head))
+    → held ++ flat_map f (filter (is_named name) fields) ≡ flat_map f (filter (is_named name) (fields_of (fields_from false (cut head))))
+given_begun f name held head fields e g = ap (λ x. x ++ flat_map f (filter (is_named name) fields)) e ∙ ap (λ fs. flat_map f (filter (is_named name) fs)) g
+
+-- the fields of the section at the path of the root
+pub fields_at_root : (path text : List ℕ) → is_root path ≡ true → fields_at path text ≡ section_fields (root_of (tree text))
+fields_at_root [] text h = cc
+fields_at_root (k ∷ []) text h = rw h refl
+fields_at_root (k ∷ n ∷ ks) text h = cc
+
+-- the root is there in every document
+pub root_there : (path : List ℕ) (number : ℕ) (text : List ℕ) → is_root path ≡ true → missing_report path number text ≡ []
+root_there [] number text h = cc
+root_there (k ∷ []) number text h = rw h refl
+root_there (k ∷ n ∷ ks) number text h = cc
 
 -- ---- how a run ends
 

@@ -1,6 +1,6 @@
 //! One message of which the fields are filtered by letters, or given.
 
-ghost use Rattle.std.specs.Prelude.{◌≡◌, ℕ, List, true, false, map, IfOk, IfSome, OnOk};
+ghost use Rattle.std.specs.Prelude.{◌≡◌, ℕ, List, Some, true, false, map, IfOk, IfSome, OnOk};
 ghost use Rattle.std.specs.List.{list_all};
 ghost use Rattle.mk_decide.specs.Answers.{is_memory};
 ghost use Rattle.mk_edit.specs.Histories.{first_text, started, text_now};
@@ -18,8 +18,8 @@ use crate::giving::given;
 use crate::telling::{Printed, Told};
 use mk_edit::{EditError, GroupError, Session};
 use mk_line::Meter;
-use mk_mail::{FromLines, Letters, Place, field_edits_at};
-use mk_tree::Doc;
+use mk_mail::{FromLines, Letters, Place, field_edits_at, head_at};
+use mk_tree::{Doc, after_envelope};
 use std::alloc::{AllocError, Global};
 
 /// What a filter says of a message, one of a mailbox or by itself. Where an edit is refused, the message is printed as it came.
@@ -76,15 +76,38 @@ fn tell_message(
     ensures told { IfOk result (λ told. (number : ℕ) → told_said filter.now.path.now number told ≡ said_filtered each (filter_of filter.now) number message.items) }
     ensures named { IfOk result (λ told. IfSome told.refusal (λ error. is_memory error ≡ false)) }
 {
+    if let Some(text) = given_of_root(alloc, filter, &message)? {
+        return Ok(Told {
+            text: Printed::Given(text),
+            refusal: None,
+        });
+    }
     let place = place_to_keep(filter, each, &message);
     let session = match Session::start(alloc, message) {
         Ok(session) => session,
         Err(_) => return Err(AllocError),
     };
-    match given(alloc, filter, session.doc()) {
-        Ok(Some(text)) => Ok(tell_given(filter.path, session.doc(), text)),
+    let doc = session.doc();
+    match given(alloc, filter, doc.text(), head_at(doc, filter.path)) {
+        Ok(Some(text)) => Ok(tell_given(filter.path, doc, text)),
         Ok(None) => tell_edited(alloc, filter, place, session),
         Err(_) => Err(AllocError),
+    }
+}
+
+// What a filter gives that asks for fields of the root. The message is read no further than these.
+fn given_of_root(
+    alloc: Global,
+    filter: &FieldFilter<'_>,
+    message: &[u8],
+) -> Result<Option<Vec<u8>>, AllocError>
+    ensures given { IfOk result (λ text. IfSome text (λ given. Some given.items ≡ given_of filter.now.path.now filter.now.form (map round_of filter.now.rounds.now) message.now)) }
+    ensures root { IfOk result (λ text. IfSome text (λ _. is_root_path filter.now.path.now ≡ true)) }
+{
+    if is_root(filter.path) {
+        given(alloc, filter, message, after_envelope(message))
+    } else {
+        Ok(None)
     }
 }
 

@@ -1,71 +1,67 @@
 //! What a filter that asks for the fields of a name gives of a document.
 
-ghost use Rattle.std.specs.Prelude.{◌≡◌, map, IfOk};
+ghost use Rattle.std.specs.Prelude.{◌≡◌, ℕ, List, false, filter, map, IfOk};
+ghost use Rattle.std.specs.List.{flat_map};
+ghost use Rattle.mk_line.specs.Lines.{cut as lines_of};
+ghost use Rattle.mk_head.specs.Fields.{fields_of, is_named as named};
+ghost use Rattle.mk_head.specs.Split.{fields_from};
+ghost use Rattle.mk_mail.specs.Letters.{fields_at};
 ghost use Rattle.mk_mail.specs.LetterViews.{bytes_in, letters_of};
 ghost use Rattle.mk_field.specs.FilterViews.{round_of};
-ghost use Rattle.mk_field.specs.Filtering.{after_colon as is_after_colon, given_by, given_of, values_named, wholes_named};
+ghost use Rattle.mk_field.specs.Filtering.{after_colon as is_after_colon, given_by, given_of};
+ghost use Rattle.mk_field.specs.Wording.{printed_value};
 
 use crate::filters::{FieldFilter, ValueForm};
 use crate::wording::push_value;
 use mk_head::each_field;
-use mk_mail::{Letters, head_at};
+use mk_mail::Letters;
 use mk_script::parted;
-use mk_tree::Doc;
 use std::alloc::{AllocError, Global};
 
 const COLON: u8 = b':';
 
-/// What a filter that asks for fields of a name gives of a document. `None` if it doesn't ask for any.
+/// What a filter that asks for fields of a name gives of a text. The head begins with the fields of the section at its path.
+/// `None` if it doesn't ask for any.
 pub(crate) fn given(
     alloc: Global,
     filter: &FieldFilter<'_>,
-    doc: &Doc,
+    text: &[u8],
+    head: &[u8],
 ) -> Result<Option<Vec<u8>>, AllocError>
-    ensures { IfOk result (λ text. bytes_in text ≡ given_of filter.now.path.now filter.now.form (map round_of filter.now.rounds.now) doc.now) }
+    requires { fields_of (fields_from false (lines_of head.now)) ≡ fields_at filter.now.path.now text.now }
+    ensures { IfOk result (λ given. bytes_in given ≡ given_of filter.now.path.now filter.now.form (map round_of filter.now.rounds.now) text.now) }
 {
     match filter.rounds {
-        [round, ..] => given_by_letters(
-            alloc,
-            round.letters_for(doc.text()),
-            filter.path,
-            filter.form,
-            doc,
-        ),
+        [round, ..] => given_by_letters(alloc, round.letters_for(text), filter.form, head),
         [] => Ok(None),
     }
 }
 
-// What letters that ask for fields of a name give of a document at a path.
+// What letters that ask for fields of a name give of a head.
 fn given_by_letters(
     alloc: Global,
     letters: &Letters,
-    path: &[u32],
     form: ValueForm,
-    doc: &Doc,
+    head: &[u8],
 ) -> Result<Option<Vec<u8>>, AllocError>
-    ensures { IfOk result (λ text. bytes_in text ≡ given_by path.now form (letters_of letters.now).take (letters_of letters.now).whole doc.now) }
+    ensures { IfOk result (λ given. (path text : List ℕ) → fields_of (fields_from false (lines_of head.now)) ≡ fields_at path text
+        → bytes_in given ≡ given_by path form (letters_of letters.now).take (letters_of letters.now).whole text) }
 {
     match &letters.take {
-        Some(name) => Ok(Some(values(alloc, doc, path, name, form)?)),
+        Some(name) => Ok(Some(values(alloc, head, name, form)?)),
         None => match &letters.whole {
-            Some(name) => Ok(Some(wholes(alloc, doc, path, name)?)),
+            Some(name) => Ok(Some(wholes(alloc, head, name)?)),
             None => Ok(None),
         },
     }
 }
 
-// What `-x` gives of a document: the values of the fields of a name, one after another.
-fn values(
-    alloc: Global,
-    doc: &Doc,
-    path: &[u32],
-    name: &[u8],
-    form: ValueForm,
-) -> Result<Vec<u8>, AllocError>
-    ensures { IfOk result (λ text. text.items ≡ values_named path.now form name.now doc.now) }
+// What `-x` gives of a head: the values of the fields of a name, one after another.
+fn values(alloc: Global, head: &[u8], name: &[u8], form: ValueForm) -> Result<Vec<u8>, AllocError>
+    ensures { IfOk result (λ given. given.items ≡ flat_map (λ f. printed_value form (is_after_colon f.raw)) (filter (named name.now) (fields_of (fields_from false (lines_of head.now))))) }
 {
     let mut text = Vec::new(alloc);
-    for field in each_field(head_at(doc, path)) {
+    for field in each_field(head) {
         if field.is_named(name) {
             push_value(alloc, &mut text, after_colon(field.raw), form)?;
         }
@@ -74,11 +70,11 @@ fn values(
 }
 
 // The fields of a name, one after another.
-fn wholes(alloc: Global, doc: &Doc, path: &[u32], name: &[u8]) -> Result<Vec<u8>, AllocError>
-    ensures { IfOk result (λ text. text.items ≡ wholes_named path.now name.now doc.now) }
+fn wholes(alloc: Global, head: &[u8], name: &[u8]) -> Result<Vec<u8>, AllocError>
+    ensures { IfOk result (λ given. given.items ≡ flat_map (λ f. f.raw) (filter (named name.now) (fields_of (fields_from false (lines_of head.now))))) }
 {
     let mut text = Vec::new(alloc);
-    for field in each_field(head_at(doc, path)) {
+    for field in each_field(head) {
         if field.is_named(name) {
             text.extend_from_slice(field.raw)?;
         }

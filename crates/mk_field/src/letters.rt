@@ -49,11 +49,11 @@ pub struct LetterWords<'a> {
 }
 
 impl LetterWords<'_> {
-    ghost use Rattle.std.specs.Prelude.{◌≡◌, ◌≢◌, IfOk};
+    ghost use Rattle.std.specs.Prelude.{◌≡◌, ◌≢◌, IfOk, OnOk};
     ghost use Rattle.std.specs.Option.{option_map};
     ghost use Rattle.mk_mail.specs.LetterViews.{letters_of};
-    ghost use Rattle.mk_field.specs.Asked.{asked, have_colons as words_have_colons, words_of};
-    ghost use Rattle.mk_field.specs.RoundsAsked.{letters_if};
+    ghost use Rattle.mk_field.specs.Asked.{asked, have_colons as words_have_colons, letters_asked, words_of};
+    ghost use Rattle.mk_field.specs.RoundsAsked.{letters_if, letters_in};
 
     /// What the words ask for. `None` if a name has no colon after it.
     pub fn letters(&self, alloc: Global) -> Result<Option<Letters>, AllocError>
@@ -91,11 +91,26 @@ impl LetterWords<'_> {
         let Some(mut letters) = self.letters(alloc)? else {
             return Ok(None);
         };
+        self.put_fields(alloc, form, eol, &mut letters)?;
+        Ok(Some(letters))
+    }
+
+    // Puts the fields in a form in the place of those that the words ask for as they are.
+    fn put_fields(
+        &self,
+        alloc: Global,
+        form: FieldForm,
+        eol: Ending,
+        letters: &mut Letters,
+    ) -> Result<(), AllocError>
+        requires { eol ≢ Ending.Missing }
+        ensures { OnOk result (letters_of letters.old ≡ letters_asked (words_of self.now) → letters_of letters.new ≡ letters_in form eol (words_of self.now)) }
+    {
         letters.add_if = field_in(alloc, self.add_if, form, eol)?;
         letters.add = field_in(alloc, self.add, form, eol)?;
         letters.prefixed = field_in(alloc, self.prefixed, form, eol)?;
         letters.only = field_in(alloc, self.only, form, eol)?;
-        Ok(Some(letters))
+        Ok(())
     }
 
     // Whether each word that is a name ends with a colon, and those of `--rename` and `--prepend` have one after a name.

@@ -1,5 +1,5 @@
 //! The fields of a section by their names, and the edits that letters make of them.
-ghost use Rattle.std.specs.Prelude.{◌≡◌, ◌++◌, Some, false, drop, filter, map, not, IfOk, OnOk};
+ghost use Rattle.std.specs.Prelude.{◌≡◌, ◌++◌, ◌∷◌, [], Some, false, drop, filter, map, not, IfOk, OnOk};
 ghost use Rattle.mk_line.specs.Lines.{ending_bytes};
 ghost use Rattle.mk_decide.specs.Edits.{AddField, RemoveField, RenameField};
 ghost use Rattle.mk_decide.specs.Views.{edit_of};
@@ -192,7 +192,7 @@ fn remove_dropped<'a>(
     let mut list = Vec::with_capacity(alloc, names.len())?;
     for own in names {
         if is_dropped(drops, &own) {
-            edits.push(removal(alloc, path, &own, 1)?)?;
+            push_removal(edits, path, &own, 1)?;
         } else {
             list.push(own)?;
         }
@@ -215,7 +215,7 @@ fn rename_all<'a>(
     let mut list = Vec::with_capacity(alloc, names.len())?;
     for own in names {
         if is_same(old, &own) {
-            edits.push(renaming(alloc, path, old, 1, new)?)?;
+            push_renaming(edits, path, old, 1, new)?;
             list.push(CowSlice::Borrowed(new))?;
         } else {
             list.push(own)?;
@@ -242,7 +242,7 @@ fn respell<'a>(
         match next {
             Some(k) => {
                 if is_same(old, &own) {
-                    edits.push(renaming(alloc, path, old, k, new)?)?;
+                    push_renaming(edits, path, old, k, new)?;
                     list.push(CowSlice::Borrowed(new))?;
                     next = k.checked_add(1);
                 } else {
@@ -270,7 +270,7 @@ fn make_old<'a>(
     for own in names {
         if is_same(name, &own) {
             let old = after_old(alloc, &own)?;
-            edits.push(renaming(alloc, path, name, 1, &old)?)?;
+            push_renaming(edits, path, name, 1, &old)?;
             list.push(CowSlice::Owned(old))?;
         } else {
             list.push(own)?;
@@ -296,7 +296,7 @@ fn remove_all<'a>(
     let mut list = Vec::with_capacity(alloc, names.len())?;
     for own in names {
         if is_same(name, &own) {
-            edits.push(removal(alloc, path, name, 1)?)?;
+            push_removal(edits, path, name, 1)?;
         } else {
             list.push(own)?;
         }
@@ -321,7 +321,7 @@ fn remove_later<'a>(
     for own in names {
         let same = is_same(name, &own);
         if is_there & same {
-            edits.push(removal(alloc, path, name, k)?)?;
+            push_removal(edits, path, name, k)?;
         } else {
             is_there |= same;
             list.push(own)?;
@@ -330,25 +330,33 @@ fn remove_later<'a>(
     Ok(list)
 }
 
-fn removal(alloc: Global, path: &[u32], name: &[u8], k: u32) -> Result<Edit, AllocError>
-    ensures { IfOk result (λ edit. edit_of edit ≡ RemoveField path.now name.now k) }
+// Removes the k-th field of a name, after other edits.
+fn push_removal(edits: &mut Vec<Edit>, path: &[u32], name: &[u8], k: u32) -> Result<(), AllocError>
+    ensures { OnOk result (plain_edits edits.new.items ≡ plain_edits edits.old.items ++ RemoveField path.now name.now k ∷ []) }
 {
-    Ok(Edit::RemoveField {
-        path: Vec::from_slice(alloc, path)?,
-        name: Vec::from_slice(alloc, name)?,
-        k,
-    })
+    let alloc = *edits.allocator();
+    let path = Vec::from_slice(alloc, path)?;
+    let name = Vec::from_slice(alloc, name)?;
+    edits.push(Edit::RemoveField { path, name, k })?;
+    Ok(())
 }
 
-fn renaming(alloc: Global, path: &[u32], name: &[u8], k: u32, to: &[u8]) -> Result<Edit, AllocError>
-    ensures { IfOk result (λ edit. edit_of edit ≡ RenameField path.now name.now k to.now) }
+// Gives the k-th field of a name another one, after other edits.
+fn push_renaming(
+    edits: &mut Vec<Edit>,
+    path: &[u32],
+    name: &[u8],
+    k: u32,
+    to: &[u8],
+) -> Result<(), AllocError>
+    ensures { OnOk result (plain_edits edits.new.items ≡ plain_edits edits.old.items ++ RenameField path.now name.now k to.now ∷ []) }
 {
-    Ok(Edit::RenameField {
-        path: Vec::from_slice(alloc, path)?,
-        name: Vec::from_slice(alloc, name)?,
-        k,
-        to: Vec::from_slice(alloc, to)?,
-    })
+    let alloc = *edits.allocator();
+    let path = Vec::from_slice(alloc, path)?;
+    let name = Vec::from_slice(alloc, name)?;
+    let to = Vec::from_slice(alloc, to)?;
+    edits.push(Edit::RenameField { path, name, k, to })?;
+    Ok(())
 }
 
 // One more field at the end, with a line ending.

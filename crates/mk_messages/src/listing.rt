@@ -1,5 +1,5 @@
 //! The messages of a mailbox, listed.
-ghost use Rattle.std.specs.Prelude.{◌≡◌, ◌<◌, ◌+◌, ◌^◌, List, ℕ, length, true, IfErr, IfOk, MatchResult, OnErr, OnOk};
+ghost use Rattle.std.specs.Prelude.{◌≡◌, ◌<◌, ◌+◌, ◌^◌, [], List, ℕ, length, true, false, IfErr, IfOk, MatchResult, OnErr, OnOk};
 ghost use Rattle.std.specs.Io.KnownBytes.{Appends, Consumes, IsAtEnd};
 ghost use Rattle.mk_mailbox.specs.Devices.{AppendsFront};
 ghost use Rattle.mk_messages.specs.MessageLines.{mailbox_listing, message_line as line_of, section_count};
@@ -62,7 +62,39 @@ fn list_each<S: Source, O: Sink>(
         (counts (S.failures input.new) (S.read_count input.new) (O.failures out.new) 0)) }
     ensures unfinished { O.finished out.new ≡ O.finished out.old }
 {
-    let mut mailbox = Mailbox::cut_at(alloc, from_lines);
+    list_in(
+        alloc,
+        &mut Mailbox::cut_at(alloc, from_lines),
+        input,
+        out,
+        from_lines,
+    )
+}
+
+// The same for a mailbox of which nothing was read.
+fn list_in<S: Source, O: Sink>(
+    alloc: Global,
+    mailbox: &mut Mailbox,
+    input: &mut S,
+    out: &mut O,
+    from_lines: FromLines,
+) -> Result<(), Cause>
+    requires kept { mailbox.old.kept ≡ [] }
+    requires ended { mailbox.old.ended ≡ false }
+    requires from_lines { mailbox.old.from_lines ≡ from_lines }
+    ensures listed { (text : List ℕ) × Consumes (S.remaining input.old) (S.remaining input.new) text
+        × MatchResult result
+        (λ _. Appends (O.contents out.old) (O.contents out.new) (mailbox_listing from_lines text))
+        (λ _. AppendsFront (O.contents out.old) (O.contents out.new) (mailbox_listing from_lines text)) }
+    ensures ended { OnOk result (IsAtEnd (S.remaining input.new)) }
+    ensures blamed { IfErr result (λ cause. IsBlamed cause
+        (counts (S.failures input.old) (S.read_count input.old) (O.failures out.old) 0)
+        (counts (S.failures input.new) (S.read_count input.new) (O.failures out.new) 0)) }
+    ensures clean { OnOk result (SameFailures
+        (counts (S.failures input.old) (S.read_count input.old) (O.failures out.old) 0)
+        (counts (S.failures input.new) (S.read_count input.new) (O.failures out.new) 0)) }
+    ensures unfinished { O.finished out.new ≡ O.finished out.old }
+{
     let mut start = 0u64;
     for turn in 0..u64::MAX {
         match mailbox.next(input) {

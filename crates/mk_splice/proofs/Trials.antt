@@ -1,5 +1,5 @@
 -- Steps tried one after another, splice by splice.
-use Rattle.std.proofs.Common.{◌≡◌, ◌+◌, ◌-◌, ◌≤◌, ◌<◌, ◌++◌, ℕ, suc, zero, Bool, true, false, Option, None, Some, Result, Ok, Err, List, [], ◌∷◌, refl, ap, sym, ◌∙◌, length, take, drop, map, get_or, arith, add-one, subst, OnOk, IfErr}
+use Rattle.std.proofs.Common.{◌≡◌, ◌==◌, ◌+◌, ◌-◌, ◌≤◌, ◌<◌, ◌++◌, ℕ, suc, zero, Bool, true, false, Option, None, Some, Result, Ok, Err, List, [], ◌∷◌, refl, ap, sym, ◌∙◌, length, take, drop, map, get_or, arith, add-one, eqb-true, subst, OnOk, IfErr}
 use Rattle.std.proofs.lemmas.List.{drop_more, length-map, length-take-le, map-append, take_more}
 use Rattle.std.specs.Global.{Vec}
 use Rattle.std.specs.Option.{ok_or, option_and_then}
@@ -131,3 +131,8 @@ on_ok A B (Err e) h f = tt
 pub if_err : (A B : FitError → Type 0) (r : Result (Unit {0}) FitError) → IfErr r A → ((e : FitError) → A e → B e) → IfErr r B
 if_err A B (Ok u) h f = tt
 if_err A B (Err e) h f = f e h
+
+-- a list that is said to be empty
+pub no_steps : {X : Type 0} (xs : List X) (t : Bool) → t ≡ (length xs == 0) → t ≡ true → xs ≡ []
+no_steps [] t e h = refl
+no_steps (x ∷ xs) t e h = let none : suc (length xs) ≡ 0 = eqb-true (suc (length xs)) 0 (sym e ∙ h) in absurd (omega arith)

@@ -40,11 +40,14 @@ pub fn fit(alloc: Global, text: &[u8], steps: &[Vec<Splice>], done: usize) -> Re
     fit_forth(alloc, text, steps, done)
 }
 
-// Whether steps can be taken back from a text.
+// Whether steps can be taken back from a text. Where there is none, nothing is copied.
 fn fit_back(alloc: Global, text: &[u8], steps: &[Vec<Splice>]) -> Result<(), FitError>
     ensures ok { OnOk result (Succeeds (all_taken_back 1 (steps_of steps.now) text.now)) }
     ensures err { IfErr result (λ e. FailsWith e (all_taken_back 1 (steps_of steps.now) text.now)) }
 {
+    if steps.is_empty() {
+        return Ok(());
+    }
     let mut trial = Text::new(Vec::from_slice(alloc, text)?);
     let mut left = steps.len();
     while 0 < left {
@@ -62,6 +65,9 @@ fn fit_forth(alloc: Global, text: &[u8], steps: &[Vec<Splice>], done: usize) -> 
     ensures ok { OnOk result (Succeeds (all_made (done + 1) (steps_of (drop done steps.now)) text.now)) }
     ensures err { IfErr result (λ e. FailsWith e (all_made (done + 1) (steps_of (drop done steps.now)) text.now)) }
 {
+    if done == steps.len() {
+        return Ok(());
+    }
     let mut trial = Text::new(Vec::from_slice(alloc, text)?);
     let mut made = done;
     while made < steps.len() {

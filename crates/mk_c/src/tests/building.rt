@@ -1,8 +1,11 @@
 //! Messages that are built. Expected values are worked out by hand (RFC 2046, 5.1; RFC 2231, 4).
 use super::{BAD_FIELD, HOLDS_BOUNDARY, NOWHERE, OK, answer, opened};
 use crate::{
-    Place, mk_c_build, mk_c_close, mk_c_put_field, mk_c_put_message, mk_c_put_part, mk_c_text,
+    Handle, Place, mk_c_build, mk_c_close, mk_c_put_field, mk_c_put_message, mk_c_put_part,
+    mk_c_text,
 };
+use std::alloc::Global;
+use std::process::Abort;
 use std::test::Fail;
 
 const BAD_TYPE: u32 = 50;
@@ -93,6 +96,32 @@ fn what_was_put_down_is_built_once(rt: HostRuntime) -> Result<(), Fail> {
     Ok(())
 }
 
+// Puts down a part whose text is `x`.
+fn put_part(
+    alloc: Global,
+    handle: &mut Handle,
+    media: &[u8],
+    named: bool,
+    name: &[u8],
+    place: &mut Place,
+) {
+    mk_c_put_part(alloc, handle, media, named, name, b"x", false, place);
+}
+
+// Builds what was put down, with the boundary `b`.
+fn build(alloc: Global, handle: &mut Handle, charset_given: bool, place: &mut Place) -> u32 {
+    mk_c_build(
+        alloc,
+        handle,
+        b"mixed",
+        charset_given,
+        b"",
+        b"b",
+        false,
+        place,
+    )
+}
+
 #[test]
 fn a_message_that_is_not_built_says_why(rt: HostRuntime) -> Result<(), Fail> {
     let alloc = rt.alloc();
@@ -105,106 +134,32 @@ fn a_message_that_is_not_built_says_why(rt: HostRuntime) -> Result<(), Fail> {
         b"Content-Type: text/plain\n",
         &mut place,
     );
-    let status = mk_c_build(
-        alloc,
-        &mut handle,
-        b"mixed",
-        false,
-        b"",
-        b"b",
-        false,
-        &mut place,
-    );
-    assert_eq!(rt; status, BAD_FIELD);
+    assert_eq!(rt; build(alloc, &mut handle, false, &mut place), BAD_FIELD);
     assert_eq!(rt; place, Place { edit: 1, number: 0 });
-    mk_c_put_part(
+    put_part(
         alloc,
         &mut handle,
         b"multipart/mixed",
         false,
         b"",
-        b"x",
-        false,
         &mut place,
     );
-    let status = mk_c_build(
-        alloc,
-        &mut handle,
-        b"mixed",
-        false,
-        b"",
-        b"b",
-        false,
-        &mut place,
-    );
-    assert_eq!(rt; status, BAD_TYPE);
-    mk_c_put_part(
-        alloc,
-        &mut handle,
-        b"text/plain",
-        true,
-        b"\x01",
-        b"x",
-        false,
-        &mut place,
-    );
-    let status = mk_c_build(
-        alloc,
-        &mut handle,
-        b"mixed",
-        false,
-        b"",
-        b"b",
-        false,
-        &mut place,
-    );
-    assert_eq!(rt; status, OK);
-    mk_c_put_part(
-        alloc,
-        &mut handle,
-        b"text/plain",
-        true,
-        b"",
-        b"x",
-        false,
-        &mut place,
-    );
-    let status = mk_c_build(
-        alloc,
-        &mut handle,
-        b"mixed",
-        false,
-        b"",
-        b"b",
-        false,
-        &mut place,
-    );
-    assert_eq!(rt; status, BAD_PART_NAME);
-    let status = mk_c_build(
-        alloc,
-        &mut handle,
-        b"mixed",
-        true,
-        b"",
-        b"b",
-        false,
-        &mut place,
-    );
-    assert_eq!(rt; status, BAD_CHARSET);
-    mk_c_put_message(alloc, &mut handle, b"A: b\n\nx\n", false, &mut place);
-    mk_c_put_message(alloc, &mut handle, b"A: b\n\n--b\n", false, &mut place);
-    let status = mk_c_build(
-        alloc,
-        &mut handle,
-        b"mixed",
-        false,
-        b"",
-        b"b",
-        false,
-        &mut place,
-    );
-    assert_eq!(rt; status, HOLDS_BOUNDARY);
-    assert_eq!(rt; place, Place { edit: 1, number: 0 });
+    assert_eq!(rt; build(alloc, &mut handle, false, &mut place), BAD_TYPE);
+    put_part(alloc, &mut handle, b"text/plain", true, b"\x01", &mut place);
+    assert_eq!(rt; build(alloc, &mut handle, false, &mut place), OK);
+    put_part(alloc, &mut handle, b"text/plain", true, b"", &mut place);
+    assert_eq!(rt; build(alloc, &mut handle, false, &mut place), BAD_PART_NAME);
+    assert_eq!(rt; build(alloc, &mut handle, true, &mut place), BAD_CHARSET);
+    check_boundary(&rt, alloc, &mut handle);
     mk_c_close(alloc, &mut handle);
     Ok(())
+}
+
+// A message whose text holds the boundary is refused, and named by its number.
+fn check_boundary(rt: &impl Abort, alloc: Global, handle: &mut Handle) {
+    let mut place = NOWHERE;
+    mk_c_put_message(alloc, handle, b"A: b\n\nx\n", false, &mut place);
+    mk_c_put_message(alloc, handle, b"A: b\n\n--b\n", false, &mut place);
+    assert_eq!(rt; build(alloc, handle, false, &mut place), HOLDS_BOUNDARY);
+    assert_eq!(rt; place, Place { edit: 1, number: 0 });
 }

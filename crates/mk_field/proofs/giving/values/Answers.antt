@@ -6,5 +6,5 @@ use Rattle.mk_field.proofs.giving.values.Goals as goal
 
 pub loop-field-init : goal.loop-field-init
 loop-field-init c =
-    given_begun (λ f. printed_value c.args.form (after_colon f.raw)) c.args.path.now c.args.name.now c.args.doc.now c.new-text.result.items c.head_at.result.now c.into_iter-field-iterator.result c.new-text.ensures.items c.head_at.ensures
+    given_begun (λ f. printed_value c.args.form (after_colon f.raw)) c.args.name.now c.new-text.result.items c.args.head.now c.into_iter-field-iterator.result c.new-text.ensures.items
     (c.into_iter-field-iterator.ensures.into_iter_gives ∙ c.each_field-field-items.ensures.fields)

@@ -1,7 +1,7 @@
-use Rattle.std.proofs.Common.{◌∙◌, sym, arith, map}
+use Rattle.std.proofs.Common.{◌∙◌, sym, refl, arith, map}
 use Rattle.mk_splice.specs.Misfits.{step_taken_back}
 use Rattle.mk_splice.specs.Views.{splice_of}
-use Rattle.mk_splice.proofs.Trials.{all_back_turn, all_back_stops, tried_all, tried_none}
+use Rattle.mk_splice.proofs.Trials.{no_steps, all_back_turn, all_back_stops, tried_all, tried_none}
 use Rattle.mk_splice.proofs.fitting.fit_back.Goals as goal
 
 pub returns-then-not-branch-clause-err : goal.returns-then-not-branch-clause-err
@@ -18,3 +18,8 @@ loop-left-preserved c = record {
       (tried_all c.in_ok-try_back.field-0 c.try_back.new.text.bytes (step_taken_back (map splice_of c.deref.result.now) c.loop-left.trial.bytes) c.in_ok-try_back.ensures c.if-not-branch.false)
       ∙ c.loop-left.invariant.same;
 }
+
+pub returns-then-is_empty-clause-ok : goal.returns-then-is_empty-clause-ok
+returns-then-is_empty-clause-ok c =
+    let none = no_steps c.args.steps.now c.is_empty.result c.is_empty.ensures c.if-is_empty.true in
+    rw none (c.args.text.now, refl)

@@ -8,16 +8,4 @@ pub returns-in_default : goal.returns-in_default
 returns-in_default c = none_in_form c.args.form c.args.eol (words_of c.args.self.now) (rw c.in_default.is at c.in_ok-letters.ensures)
 
 pub returns : goal.returns
-returns c = asked_in_form c.args.form c.args.eol (words_of c.args.self.now) (letters_of c.in-Some.letters) _ (rw c.in-Some.is at c.in_ok-letters.ensures) (λ same. λ i. record {
-  prepend = (same i).prepend;
-  drops = (same i).drops;
-  rename = (same i).rename;
-  add_if = c.in_ok-letters-2.ensures i;
-  add = c.in_ok-letters-3.ensures i;
-  prefixed = c.in_ok-letters-4.ensures i;
-  only = c.in_ok-letters-5.ensures i;
-  first = (same i).first;
-  last = (same i).last;
-  take = (same i).take;
-  whole = (same i).whole;
-})
+returns c = asked_in_form c.args.form c.args.eol (words_of c.args.self.now) (letters_of c.in-Some.letters) _ (rw c.in-Some.is at c.in_ok-letters.ensures) c.in_ok-put_fields.ensures

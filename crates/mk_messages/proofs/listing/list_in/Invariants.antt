@@ -5,7 +5,7 @@ use Rattle.mk_mailbox.specs.Mailboxes.{chunk_bytes}
 use Rattle.mk_transfer.specs.RunClauses.{SameFailures, counts}
 use Rattle.mk_messages.specs.MessageLines.{lines_from}
 use Rattle.mk_messages.proofs.Taken.{AreTaken, size_of}
-use Rattle.mk_messages.proofs.listing.list_each.Given as goal
+use Rattle.mk_messages.proofs.listing.list_in.Given as goal
 
 abbrev pub invariant-loop-turn : goal.invariant-loop-turn
 invariant-loop-turn g l = record {

@@ -6,17 +6,17 @@ use Rattle.mk_transfer.specs.RunClauses.{counts}
 use Rattle.mk_messages.specs.MessageLines.{lines_from}
 use Rattle.mk_messages.proofs.Taken.{all_taken, counted_on_to, none_taken, one_taken, size_more, taken_all, taken_next}
 use Rattle.mk_messages.proofs.Listed.{line_out, listed_all, not_both, sending_blamed, stopped_between, stopped_here, stopped_within}
-use Rattle.mk_messages.proofs.listing.list_each.Goals as goal
+use Rattle.mk_messages.proofs.listing.list_in.Goals as goal
 
 pub loop-turn-init : goal.loop-turn-init
 loop-turn-init g c = record {
-  told = ([], [], Consumes-nil _, none_taken c.args.from_lines c.cut_at-mailbox.result c.cut_at-mailbox.ensures.kept, refl, refl, Appends-nil _);
-  ended = λ e. absurd (not_both c.cut_at-mailbox.result.ended e c.cut_at-mailbox.ensures.ended);
-  same = c.cut_at-mailbox.ensures.from_lines;
+  told = ([], [], Consumes-nil _, none_taken c.args.from_lines c.args.mailbox.now c.requires.kept, refl, refl, Appends-nil _);
+  ended = λ e. absurd (not_both c.args.mailbox.now.ended e c.requires.ended);
+  same = c.requires.from_lines;
   well = record { input = refl; output = refl; errors = refl };
   unfinished = refl;
   turns = omega arith;
-  count = inl (rw c.cut_at-mailbox.ensures.kept (omega arith));
+  count = inl (rw c.requires.kept (omega arith));
 }
 
 pub returns-in_default-clause-listed : goal.returns-in_default-clause-listed
