@@ -62,3 +62,4 @@ pub mod WrapAnswered
 pub mod WrapCounts
 pub mod LineCounts
 pub mod EditRows
+pub mod Accepted

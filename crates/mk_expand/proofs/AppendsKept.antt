@@ -23,6 +23,7 @@ use Rattle.mk_decide.specs.Edits.{InsertPart, SetSection}
 use Rattle.mk_decide.specs.EditLaws.{IsLeaf}
 use Rattle.mk_decide.specs.Outcomes.{edited}
 use Rattle.mk_decide.specs.Plans.{Plan, insert_between, part_plan, part_read, parts_at, place_of, plan_of, read_plan}
+use Rattle.mk_decide.proofs.Accepted.{none_some, ok_same, plan_by, some_same, there_again}
 use Rattle.mk_decide.proofs.EveryEdit.{plan_there}
 use Rattle.mk_decide.proofs.FieldFits.{entity_are}
 use Rattle.mk_decide.proofs.Late.{fair}
@@ -32,8 +33,7 @@ use Rattle.mk_view.specs.Extracts.{IsExtract}
 use Rattle.mk_expand.specs.Appends.{appended, divided_at, last_divided, most_parts}
 use Rattle.mk_expand.specs.Contents.{divided}
 use Rattle.mk_expand.specs.ExpandLaws.{AppendsKeepContents, IsMultipart, all_edited}
-use Rattle.mk_expand.proofs.ContentsBack.{none_some, ok_same, plan_by, some_same}
-use Rattle.mk_expand.proofs.EncodingsKept.{in_turn, last_edit, there_again}
+use Rattle.mk_expand.proofs.EncodingsKept.{in_turn, last_edit}
 use Rattle.mk_build.proofs.EndedTexts.{Grows}
 use Rattle.mk_expand.proofs.GrownTexts.{grown_divided}
 use Rattle.mk_expand.proofs.KeptContents.{Keeps, KeepParts, keeps_same, read_kept}

@@ -19,13 +19,13 @@ use Rattle.mk_tree.specs.Documents.{Document, document_lines}
 use Rattle.mk_tree.specs.Sections.{Placed, section_at, unended}
 use Rattle.mk_tree.specs.Places.{Frame, lines_after, placed, plug, put}
 use Rattle.mk_tree.proofs.Endings.{ended_crlf, ended_lf}
-use Rattle.mk_decide.specs.Edits.{PlainEdit, SetBody, Refusal}
-use Rattle.mk_decide.specs.EditLaws.{IsJudged, IsLeaf}
-use Rattle.mk_decide.specs.Outcomes.{edited, judged_by}
-use Rattle.mk_decide.specs.Plans.{Plan, body_plan, place_of, plan_of, planned}
-use Rattle.mk_decide.proofs.Answered.{Holds}
+use Rattle.mk_decide.specs.Edits.{PlainEdit, SetBody}
+use Rattle.mk_decide.specs.EditLaws.{IsLeaf}
+use Rattle.mk_decide.specs.Outcomes.{edited}
+use Rattle.mk_decide.specs.Plans.{body_plan, place_of, plan_of, planned}
+use Rattle.mk_decide.proofs.Accepted.{none_some, ok_same, plan_by, some_same}
 use Rattle.mk_decide.proofs.EveryEdit.{plan_there}
-use Rattle.mk_decide.proofs.Late.{IsFair, fair, told}
+use Rattle.mk_decide.proofs.Late.{fair}
 use Rattle.mk_decide.proofs.PlacesAgain.{PathAgain, path_again, section_there}
 use Rattle.mk_decide.proofs.Renaming.{ends_after}
 use Rattle.mk_view.specs.Extracts.{IsExtract}
@@ -61,28 +61,6 @@ encoded_back Identity eol bytes text n small e = let same : bytes ≡ text = cc 
 encoded_back Qp eol bytes text n small e = subst (λ o. IfSome o (λ x. IsContent Qp x bytes)) e (sym (qp_back eol bytes n small))
 encoded_back Base64 eol bytes text n small e = subst (λ o. IfSome o (λ x. IsContent Base64 x bytes)) e (base64_back eol bytes n small)
 encoded_back Other eol bytes text n small e = absurd (cc)
-
--- an accepted body is its plan
-pub record IsPlan (t u : Document) (e : PlainEdit) : Type 0 where
-  pub plan : Plan
-  pub is : plan_of e t ≡ Ok plan
-  pub gives : u ≡ planned t.envelope plan
-
-err_ok : {A : Type 0} (e : Refusal) (u : Document) → ◌≡◌ {A = Result Document Refusal} (Err e) (Ok u) → A
-err_ok e u h = cc
-
-pub plan_by : (t u : Document) (e : PlainEdit) (r : Result Plan Refusal) → plan_of e t ≡ r → Holds IsFair r → judged_by t.envelope r ≡ Ok u → IsPlan t u e
-plan_by t u e (Ok p) q f h = record { plan = p; is = q; gives = (subst (λ r. IsJudged r (planned t.envelope p)) h (told t.envelope p f)).0 }
-plan_by t u e (Err d) q f h = err_ok d u h
-
-pub none_some : {A : Type 0} (p : Placed) → ◌≡◌ {A = Option Placed} None (Some p) → A
-none_some p e = cc
-
-pub some_same : (p q : Placed) → ◌≡◌ {A = Option Placed} (Some p) (Some q) → p ≡ q
-some_same p q e = cc
-
-pub ok_same : (p q : Plan) → ◌≡◌ {A = Result Plan Refusal} (Ok p) (Ok q) → p ≡ q
-ok_same p q e = cc
 
 one_same : (d e : PlainEdit) → ◌≡◌ {A = Meaning} (Ok (d ∷ [])) (Ok (e ∷ [])) → d ≡ e
 one_same d e h = cc

@@ -22,9 +22,10 @@ use Rattle.mk_decide.specs.EditLaws.{IsLeaf}
 use Rattle.mk_decide.specs.FieldEdits.{Found, field_at, find, starts_named}
 use Rattle.mk_decide.specs.Outcomes.{edited}
 use Rattle.mk_decide.specs.Plans.{Plan, add_plan, change_plan, drop_plan, fields_plan, place_of, plan_of, planned, unless, with_field}
+use Rattle.mk_decide.proofs.Accepted.{found_ok, none_some, ok_same, plan_by, some_same, there_again, unless_ok}
 use Rattle.mk_decide.proofs.EveryEdit.{plan_there}
 use Rattle.mk_decide.proofs.Late.{fair}
-use Rattle.mk_decide.proofs.PlacesAgain.{PathAgain, path_again, section_there}
+use Rattle.mk_decide.proofs.PlacesAgain.{section_there}
 use Rattle.mk_view.specs.Extracts.{IsExtract}
 use Rattle.mk_view.specs.Listing.{encoding_in}
 use Rattle.mk_script.specs.declared.script.ChosenEncoding.{ChosenEncoding}
@@ -35,7 +36,7 @@ use Rattle.mk_expand.specs.ExpandLaws.{EncodingsKeepContents, all_edited, and_ed
 use Rattle.mk_expand.specs.FieldWords.{name_in, put, put_over, those}
 use Rattle.mk_expand.specs.Meanings.{Meaning, BinaryContent}
 use Rattle.mk_expand.proofs.Base64Read.{content_is_read}
-use Rattle.mk_expand.proofs.ContentsBack.{back_by, none_some, ok_same, plan_by, some_same}
+use Rattle.mk_expand.proofs.ContentsBack.{back_by}
 use Rattle.mk_expand.proofs.FirstFields.{IsFirst, first_after, first_is_read, first_put, first_stays}
 
 -- the name of the field, and its line
@@ -85,11 +86,6 @@ record AtLeaf (path : List ℕ) (fs : List Frame) (ls fields : List TextLine) (t
   separator : Option TextLine
   there : place_of path t.root ≡ Some (fs, leaf (record { fields = fields; separator = separator }) ls)
 
-pub there_again : (path : List ℕ) (root : Entity) (fs : List Frame) (s new : Entity) → place_of path root ≡ Some (fs, s) → place_of path (plug fs new) ≡ Some (fs, new)
-there_again path root fs s new o =
-    let again : PathAgain path (Some (fs, s)) = subst (PathAgain path) o (path_again path root) in
-    ap (λ js. place_of js (plug fs new)) (sym (append-nil path)) ∙ (again [] new ∙ ap (λ gs. Some (gs, new)) (append-nil fs))
-
 -- with other fields
 moved : (path : List ℕ) (fs : List Frame) (ls fields new given : List TextLine) (t u : Document) (at : AtLeaf path fs ls fields t) → u ≡ planned t.envelope (fields_plan fs (leaf (record { fields = fields; separator = at.separator }) ls) new given)
     → AtLeaf path fs ls new u
@@ -99,17 +95,6 @@ moved path fs ls fields new given t u at gives = record {
       = ap (λ (d : Document). place_of path d.root) gives
       ∙ there_again path t.root fs (leaf (record { fields = fields; separator = at.separator }) ls) (leaf (record { fields = new; separator = at.separator }) ls) at.there;
 }
-
-err_plan : {A : Type 0} (e : Refusal) (p : Plan) → ◌≡◌ {A = Result Plan Refusal} (Err e) (Ok p) → A
-err_plan e p h = cc
-
-unless_ok : (t : Bool) (e : Refusal) (a p : Plan) → unless t e (Ok a) ≡ Ok p → a ≡ p
-unless_ok true e a p h = err_plan e p h
-unless_ok false e a p h = ok_same a p h
-
-found_ok : (o : Option Found) (f : Found → Result Plan Refusal) (p : Plan) → with_field o f ≡ Ok p → (x : Found) × (o ≡ Some x) × (f x ≡ Ok p)
-found_ok None f p h = err_plan _ p h
-found_ok (Some x) f p h = (x, refl, h)
 
 -- the field is added
 after_add : (path text : List ℕ) (first : TextLine) (fs : List Frame) (ls fields : List TextLine) (t u : Document) → cut text ≡ first ∷ [] → AtLeaf path fs ls fields t → edited (AddField path false text) t ≡ Ok u → AtLeaf path fs ls (fields ++ first ∷ []) u
