@@ -66,5 +66,6 @@ def is_mark(content, boundary):
 
 
 def turned(text, ending):
-    """The text with this ending at each line that has one (own)."""
-    return b"".join(line.content + (ending if line.ending else b"") for line in cut(text))
+    """The text with this ending at each line that has one; no carriage return stays before a line feed alone (own)."""
+    kept = (line.content.rstrip(b"\r") if line.ending and ending == b"\n" else line.content for line in cut(text))
+    return b"".join(content + (ending if line.ending else b"") for content, line in zip(kept, cut(text)))

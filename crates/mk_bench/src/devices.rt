@@ -10,7 +10,7 @@ use mk_run::Folder;
 #[derive(Debug, Drop)]
 pub struct Taken {
     pub digest: Digest,
-    is_finished: bool,
+    finishes: u64,
 }
 
 impl Taken {
@@ -18,7 +18,7 @@ impl Taken {
     pub fn new() -> Taken {
         Taken {
             digest: Digest::new(),
-            is_finished: false,
+            finishes: 0,
         }
     }
 }
@@ -28,7 +28,7 @@ impl Sink for Taken {
 
     ghost failures = { λ _. 0 };
 
-    ghost finished = { λ s. s.is_finished };
+    ghost finishes = { λ s. s.finishes };
 
     fn write(&mut self, piece: &[u8]) -> Result<usize, Fault> {
         self.digest.add(piece);
@@ -36,7 +36,7 @@ impl Sink for Taken {
     }
 
     fn finish(&mut self) -> Result<(), Fault> {
-        self.is_finished = true;
+        self.finishes = self.finishes.saturating_add(1);
         Ok(())
     }
 
@@ -50,7 +50,7 @@ impl Sink for Taken {
 pub struct Page {
     pub held: Vec<u8>,
     faults: u64,
-    is_finished: bool,
+    finishes: u64,
 }
 
 impl Page {
@@ -59,7 +59,7 @@ impl Page {
         Page {
             held,
             faults: 0,
-            is_finished: false,
+            finishes: 0,
         }
     }
 }
@@ -69,7 +69,7 @@ impl Sink for Page {
 
     ghost failures = { λ s. s.faults };
 
-    ghost finished = { λ s. s.is_finished };
+    ghost finishes = { λ s. s.finishes };
 
     fn write(&mut self, piece: &[u8]) -> Result<usize, Fault> {
         match self.held.extend_from_slice(piece) {
@@ -82,7 +82,7 @@ impl Sink for Page {
     }
 
     fn finish(&mut self) -> Result<(), Fault> {
-        self.is_finished = true;
+        self.finishes = self.finishes.saturating_add(1);
         Ok(())
     }
 

@@ -11,7 +11,7 @@ const BOUNDARY_LETTERS: usize = 24;
 const FIELDS: usize = 240;
 
 /// What messages are put together of.
-#[derive(Debug, Drop)]
+#[derive(Drop)]
 pub struct Supply {
     alloc: Global,
     pub eol: &'static [u8],

@@ -14,7 +14,7 @@ const PIECES: usize = 8;
 const PIECE: usize = 40_000;
 
 /// Pieces of whole lines.
-#[derive(Debug, Drop)]
+#[derive(Drop)]
 pub struct Pool {
     pieces: Vec<Vec<u8>>,
 }

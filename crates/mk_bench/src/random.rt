@@ -6,7 +6,7 @@ const SPREAD: u64 = 0x9E37_79B9_7F4A_7C15;
 const FACTOR: u64 = 0x2545_F491_4F6C_DD1D;
 
 /// A row of numbers.
-#[derive(Debug, Drop)]
+#[derive(Drop)]
 pub struct Random {
     state: u64,
 }

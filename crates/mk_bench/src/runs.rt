@@ -9,7 +9,7 @@ use mk_tree::Doc;
 use std::alloc::{AllocError, Global};
 
 /// What the runs of a job gave.
-#[derive(Debug, Drop)]
+#[derive(Drop)]
 pub struct Results {
     alloc: Global,
     digest: Digest,

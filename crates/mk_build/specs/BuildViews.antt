@@ -1,5 +1,5 @@
 -- What is attached, in memory, as plain data; and the refusals.
-use Rattle.std.specs.Prelude.{◌≡◌, ℕ, None, Some, List}
+use Rattle.std.specs.Prelude.{◌≡◌, ℕ, Bool, true, false, None, Some, List}
 use Rattle.std.specs.Option.{option_map}
 use Rattle.mk_build.specs.declared.attachment.Attach.{Attach}
 use Rattle.mk_build.specs.declared.attachment.Written.{Written}
@@ -16,6 +16,11 @@ attached_of a = record { media = a.media.items; name = option_map (λ v. v.items
 -- the same under a name in UTF-8
 abbrev pub named_of : Attach → Attached
 named_of a = named_in_utf8 (attached_of a)
+
+-- what is attached, under a name in UTF-8 where that is asked for
+abbrev pub written_in : Bool → Attach → Attached
+written_in false a = attached_of a
+written_in true a = named_of a
 
 -- what is written of it
 abbrev pub written_of : Written → Attached

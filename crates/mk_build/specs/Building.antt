@@ -1,7 +1,7 @@
 -- Messages built from files: what is attached, and the message around it (RFC 2045, 5 and 6; RFC 2046, 5.1; RFC 2183; RFC 2231).
+use Rattle.std.specs.Option.{option_map_or, option_map}
 use Rattle.std.specs.Prelude.{◌==◌, ◌&&◌, ◌||◌, ◌++◌, if◌then◌else◌, ℕ, suc, Bool, true, false, not, Option, None, Some, List, [], ◌∷◌, codes, length, map, nat_eq, nat_le, option_and_then, take}
-use Rattle.std.specs.List.{list_all, ends_with, flat_map, starts_with}
-use Rattle.std.specs.Option.{option_map}
+use Rattle.std.specs.List.{list_all, flat_map, starts_with}
 use Rattle.std.specs.Str.{bytes_eq, is_utf8}
 use Rattle.mk_line.specs.declared.cutting.Ending.{Ending}
 use Rattle.mk_line.specs.Lines.{TextLine, cut, ending_bytes, is_nil}
@@ -38,14 +38,9 @@ longest = 100
 abbrev pub is_single : List ℕ → Bool
 is_single main = not (bytes_eq (lowered main) (codes "multipart")) && not (bytes_eq (lowered main) (codes "message"))
 
--- a token after a slash (RFC 2045, 5.1)
-abbrev pub is_subtype : Option (List ℕ) → Bool
-is_subtype None = false
-is_subtype (Some sub) = is_token sub
-
 -- a media type that may be attached: token, slash, token (RFC 2045, 5.1)
 abbrev pub is_media : List ℕ → Bool
-is_media media = nat_le (length media) longest && (is_token (before slash media) && (is_subtype (following slash media) && is_single (before slash media)))
+is_media media = nat_le (length media) longest && (is_token (before slash media) && (option_map_or is_token (following slash media) false && is_single (before slash media)))
 
 -- a byte of a name: 32 to 126, no quote and no backslash (own)
 abbrev pub is_name_byte : ℕ → Bool
@@ -54,11 +49,6 @@ is_name_byte byte = nat_le 32 byte && (nat_le byte 126 && (not (byte == quote) &
 -- a name that may be written
 abbrev pub is_name : List ℕ → Bool
 is_name name = not (is_nil name) && (nat_le (length name) longest && list_all is_name_byte name)
-
--- no name, or one that may be written
-abbrev pub is_name_or_none : Option (List ℕ) → Bool
-is_name_or_none None = true
-is_name_or_none (Some name) = is_name name
 
 -- the most bytes of a name as people write it: a file has no longer one on the systems of today (own)
 abbrev pub longest_said : ℕ
@@ -88,7 +78,7 @@ named_in_utf8 a = record {
 
 -- why something can't be attached, the media type first
 abbrev pub attach_refusal : Attached → Option AttachError
-attach_refusal a = if is_media a.media then (if is_name_or_none a.name then None else Some attach.BadName) else Some attach.BadType
+attach_refusal a = if is_media a.media then (if option_map_or is_name a.name true then None else Some attach.BadName) else Some attach.BadType
 
 -- the name in the type, and the line that says it again as the name of a file
 abbrev pub name_param : Option (List ℕ) → List ℕ
@@ -153,7 +143,7 @@ abbrev pub build_refusal : List (List ℕ) → List Attached → List ℕ → Op
 build_refusal fields parts boundary =
     refusal_at build.BadField (first_failing is_free_field fields)
     (refusal_at build.BadType (first_failing (λ a. is_media a.media) parts)
-    (refusal_at build.BadName (first_failing (λ a. is_name_or_none a.name) parts)
+    (refusal_at build.BadName (first_failing (λ a. option_map_or is_name a.name true) parts)
     (if is_boundary boundary then None else Some build.BadBoundary)))
 
 -- a field whose last line has an ending

@@ -1,7 +1,7 @@
 -- Messages built as multiparts of any kind, whose texts may name a charset (RFC 2045, 5.1; RFC 2046, 4.1.2 and 5.1).
 use Rattle.std.specs.Prelude.{◌&&◌, ◌++◌, if◌then◌else◌, ℕ, Bool, true, is_some, Option, None, Some, List, [], codes}
 use Rattle.std.specs.List.{flat_map}
-use Rattle.std.specs.Option.{option_map}
+use Rattle.std.specs.Option.{option_map, option_map_or}
 use Rattle.std.specs.Str.{bytes_eq}
 use Rattle.mk_line.specs.declared.cutting.Ending.{Ending}
 use Rattle.mk_line.specs.Ascii.{slash}
@@ -12,7 +12,7 @@ use Rattle.mk_head.specs.Values.{is_token, lowered}
 use Rattle.mk_build.specs.declared.building.BuildError.{BuildError}
 use Rattle.mk_build.specs.declared.building.BuildError.TheVariants as build
 use Rattle.mk_build.specs.declared.multipart.Multipart as declared
-use Rattle.mk_build.specs.Building.{Attached, close_line, closed_field, disposition_line, encoded, encoding_line, first_failing, is_free_field, is_media, is_name_or_none, name_param, refusal_at}
+use Rattle.mk_build.specs.Building.{Attached, close_line, closed_field, disposition_line, encoded, encoding_line, first_failing, is_free_field, is_media, name_param, refusal_at, is_name}
 
 -- the multipart of a message: its subtype, the charset that its texts name, where they name one, and its boundary
 pub record Multipart : Type 0 where
@@ -50,15 +50,10 @@ type_line_as eol charset a = codes "Content-Type: " ++ (a.media ++ (charset_para
 abbrev pub attached_as : Ending → Option (List ℕ) → Attached → List ℕ
 attached_as eol charset a = type_line_as eol charset a ++ (disposition_line eol a.name a.said ++ (encoding_line eol a.base64 ++ (ending_bytes eol ++ encoded eol a)))
 
--- no charset, or a token (RFC 2045, 5.1)
-abbrev pub is_charset_or_none : Option (List ℕ) → Bool
-is_charset_or_none None = true
-is_charset_or_none (Some charset) = is_token charset
-
 -- why a multipart can't be made: its subtype, its charset, its boundary (RFC 2045, 5.1; RFC 2046, 5.1.1)
 abbrev pub multipart_refusal : Multipart → Option BuildError
 multipart_refusal m =
-    if is_token m.subtype then (if is_charset_or_none m.charset then (if is_boundary m.boundary then None else Some build.BadBoundary) else Some build.BadCharset)
+    if is_token m.subtype then (if option_map_or is_token m.charset true then (if is_boundary m.boundary then None else Some build.BadBoundary) else Some build.BadCharset)
     else Some build.BadSubtype
 
 -- why a message can't be built: fields first, then types, then names, then the multipart, and of each the first
@@ -66,7 +61,7 @@ abbrev pub refusal_as : List (List ℕ) → List Attached → Multipart → Opti
 refusal_as fields parts m =
     refusal_at build.BadField (first_failing is_free_field fields)
     (refusal_at build.BadType (first_failing (λ a. is_media a.media) parts)
-    (refusal_at build.BadName (first_failing (λ a. is_name_or_none a.name) parts)
+    (refusal_at build.BadName (first_failing (λ a. option_map_or is_name a.name true) parts)
     (multipart_refusal m)))
 
 -- a part: its delimiter, what is attached, and the ending that belongs to the next delimiter

@@ -1,11 +1,11 @@
 //! Parts of messages, from what is attached (RFC 2045, 5 and 6; RFC 2183).
 ghost use Rattle.std.specs.Prelude.{◌≡◌, ◌≢◌, ◌++◌, None, IfOk, IfErr, OnOk};
-ghost use Rattle.mk_build.specs.BuildViews.{attached_of, named_of, written_of, IsAttachRefused};
+ghost use Rattle.mk_build.specs.BuildViews.{attached_of, written_in, written_of, IsAttachRefused};
 ghost use Rattle.mk_build.specs.Building.{attach_refusal, attached as attached_text, disposition_line, encoded, encoding_line, encoding_name as name_of_encoding, name_param, said_param};
 ghost use Rattle.mk_build.specs.Multiparts.{attached_as, charset_param, type_line_as};
 ghost use Rattle.std.specs.Option.{option_map};
 
-use crate::attachment::{Attach, Written, as_given, has_name, in_utf8, is_media};
+use crate::attachment::{Attach, Written, as_named, has_name, is_media};
 use crate::multipart::charset_for;
 use mk_code::{push_b64, push_qp};
 use mk_line::Ending;
@@ -38,6 +38,28 @@ impl From<AllocError> for AttachError {
     }
 }
 
+/// How a part is written. By default it names no charset, and its name is written as it is given.
+#[derive(Clone, Copy, Debug)]
+pub struct AttachOptions<'a> {
+    /// The charset that a text names, as `utf-8`. Whether it can be one, the caller asks `is_charset`.
+    pub charset: Option<&'a [u8]>,
+    /// Whether a name in UTF-8 that isn't printable ASCII is written a second time, as it is (RFC 2231, 4).
+    pub utf8_names: bool,
+}
+
+impl<'a> Default for AttachOptions<'a> {
+    ghost use Rattle.std.specs.Prelude.{◌≡◌, None, false};
+
+    ghost is_default = { λ options. options ≡ record { charset = None; utf8_names = false } };
+
+    fn default() -> AttachOptions<'a> {
+        AttachOptions {
+            charset: None,
+            utf8_names: false,
+        }
+    }
+}
+
 /// A part: the fields that say what is attached, an empty line, and the encoded bytes. Lines end with `eol`; the last has
 /// no ending where the bytes have none.
 pub fn attach(alloc: Global, attached: &Attach, eol: Ending) -> Result<Vec<u8>, AttachError>
@@ -45,46 +67,22 @@ pub fn attach(alloc: Global, attached: &Attach, eol: Ending) -> Result<Vec<u8>, 
     ensures text { IfOk result (λ text. (attach_refusal (attached_of attached.now) ≡ None) × (text.items ≡ attached_text eol (attached_of attached.now))) }
     ensures refused { IfErr result (λ error. IsAttachRefused (attached_of attached.now) error) }
 {
-    attach_as(alloc, attached, None, eol)
+    attach_with(alloc, attached, AttachOptions::default(), eol)
 }
 
-/// The same, with a name in UTF-8 that isn't printable ASCII also written as it is (RFC 2231, 4).
-pub fn attach_in_utf8(alloc: Global, attached: &Attach, eol: Ending) -> Result<Vec<u8>, AttachError>
-    requires { eol ≢ Ending.Missing }
-    ensures text { IfOk result (λ text. (attach_refusal (named_of attached.now) ≡ None) × (text.items ≡ attached_text eol (named_of attached.now))) }
-    ensures refused { IfErr result (λ error. IsAttachRefused (named_of attached.now) error) }
-{
-    attach_as_in_utf8(alloc, attached, None, eol)
-}
-
-/// The same of a part that names a charset where it is a text. Whether that is a charset, the caller has to ask.
-pub fn attach_as(
+/// A part as `attach` makes it, written as the options say.
+pub fn attach_with(
     alloc: Global,
     attached: &Attach,
-    charset: Option<&[u8]>,
+    options: AttachOptions<'_>,
     eol: Ending,
 ) -> Result<Vec<u8>, AttachError>
     requires { eol ≢ Ending.Missing }
-    ensures text { IfOk result (λ text. (attach_refusal (attached_of attached.now) ≡ None) × (text.items ≡ attached_as eol (option_map (λ c. c.now) charset.entry) (attached_of attached.now))) }
-    ensures refused { IfErr result (λ error. IsAttachRefused (attached_of attached.now) error) }
+    ensures text { IfOk result (λ text. (attach_refusal (written_in options.entry.utf8_names attached.now) ≡ None) × (text.items ≡ attached_as eol (option_map (λ c. c.now) options.entry.charset) (written_in options.entry.utf8_names attached.now))) }
+    ensures refused { IfErr result (λ error. IsAttachRefused (written_in options.entry.utf8_names attached.now) error) }
 {
-    let written = as_given(alloc, attached)?;
-    attach_of(alloc, &written, charset, eol)
-}
-
-/// The same, with a name in UTF-8 that isn't printable ASCII also written as it is (RFC 2231, 4).
-pub fn attach_as_in_utf8(
-    alloc: Global,
-    attached: &Attach,
-    charset: Option<&[u8]>,
-    eol: Ending,
-) -> Result<Vec<u8>, AttachError>
-    requires { eol ≢ Ending.Missing }
-    ensures text { IfOk result (λ text. (attach_refusal (named_of attached.now) ≡ None) × (text.items ≡ attached_as eol (option_map (λ c. c.now) charset.entry) (named_of attached.now))) }
-    ensures refused { IfErr result (λ error. IsAttachRefused (named_of attached.now) error) }
-{
-    let written = in_utf8(alloc, attached)?;
-    attach_of(alloc, &written, charset, eol)
+    let written = as_named(alloc, attached, options.utf8_names)?;
+    attach_of(alloc, &written, options.charset, eol)
 }
 
 // The part of what is written of it.

@@ -1,10 +1,11 @@
 //! What is attached to a message, whether it may be (RFC 2045, 5.1), and the names that are written of it (RFC 2231).
-ghost use Rattle.std.specs.Prelude.{◌≡◌, IfOk};
+ghost use Rattle.std.specs.Prelude.{◌≡◌, IfOk, true};
 ghost use Rattle.std.specs.List.{list_all};
 ghost use Rattle.std.specs.Str.{is_utf8 as is_in_utf8};
 ghost use Rattle.mk_code.specs.EncodedWords.{is_shown};
-ghost use Rattle.mk_build.specs.BuildViews.{attached_of, named_of, written_of};
-ghost use Rattle.mk_build.specs.Building.{is_media as may_be_attached, is_name as may_be_written, is_name_byte as may_stand, is_name_or_none, is_said as is_said_so, is_single as is_one_body, name_byte as name_byte_for, plain_name as plain_name_of};
+ghost use Rattle.mk_build.specs.BuildViews.{attached_of, written_in, written_of};
+ghost use Rattle.mk_build.specs.Building.{is_media as may_be_attached, is_name as may_be_written, is_name_byte as may_stand, is_said as is_said_so, is_single as is_one_body, name_byte as name_byte_for, plain_name as plain_name_of};
+ghost use Rattle.std.specs.Option.{option_map_or};
 
 use mk_head::is_token;
 use mk_line::split_at_first;
@@ -72,8 +73,8 @@ pub(crate) struct Written<'a> {
     pub base64: bool,
 }
 
-/// What is written of it as it is given.
-pub(crate) fn as_given(alloc: Global, attached: &Attach) -> Result<Written<'_>, AllocError>
+// What is written of it as it is given.
+fn as_given(alloc: Global, attached: &Attach) -> Result<Written<'_>, AllocError>
     ensures { IfOk result (λ w. written_of w ≡ attached_of attached.now) }
 {
     let name = match &attached.name {
@@ -89,12 +90,16 @@ pub(crate) fn as_given(alloc: Global, attached: &Attach) -> Result<Written<'_>, 
     })
 }
 
-/// What is written of it under a name in UTF-8.
-pub(crate) fn in_utf8(alloc: Global, attached: &Attach) -> Result<Written<'_>, AllocError>
-    ensures { IfOk result (λ w. written_of w ≡ named_of attached.now) }
+/// What is written of it, under a name in UTF-8 where that is asked for.
+pub(crate) fn as_named(
+    alloc: Global,
+    attached: &Attach,
+    utf8_names: bool,
+) -> Result<Written<'_>, AllocError>
+    ensures { IfOk result (λ w. written_of w ≡ written_in utf8_names attached.now) }
 {
     match &attached.name {
-        Some(name) if is_said(name) => Ok(Written {
+        Some(name) if utf8_names && is_said(name) => Ok(Written {
             media: &attached.media,
             name: Some(plain_name(alloc, name)?),
             said: Some(name),
@@ -143,7 +148,7 @@ fn name_byte(byte: u8) -> u8
 }
 
 pub(crate) fn has_name(written: &Written<'_>) -> bool
-    ensures { result ≡ is_name_or_none (written_of written.now).name }
+    ensures { result ≡ option_map_or may_be_written (written_of written.now).name true }
 {
     match &written.name {
         Some(name) => is_name(name),

@@ -1,19 +1,19 @@
 //! Messages built from fields and parts (RFC 2046, 5.1).
-ghost use Rattle.std.specs.Prelude.{◌≡◌, ◌≢◌, ◌++◌, None, codes, map, nat_eq, IfOk, IfErr, OnOk};
+ghost use Rattle.std.specs.Prelude.{◌≡◌, ◌≢◌, ◌++◌, None, codes, map, nat_eq, IfOk, IfErr, OnOk, true};
 ghost use Rattle.std.specs.List.{flat_map, starts_with};
 ghost use Rattle.mk_line.specs.Lines.{cut as lines_of};
 ghost use Rattle.mk_head.specs.Values.{lowered};
-ghost use Rattle.mk_build.specs.BuildViews.{attached_of, named_of, written_of, IsBuildRefused};
-ghost use Rattle.mk_build.specs.Building.{build_refusal, built, close_line, closed_field, first_failing, is_free_field as may_begin, is_free_start as begins_free, is_made_name as is_made, is_media as may_be_attached, is_name_or_none};
+ghost use Rattle.mk_build.specs.BuildViews.{attached_of, written_in, written_of, IsBuildRefused};
+ghost use Rattle.mk_build.specs.Building.{build_refusal, built, close_line, closed_field, first_failing, is_free_field as may_begin, is_free_start as begins_free, is_made_name as is_made, is_media as may_be_attached, is_name as may_be_written};
+ghost use Rattle.std.specs.Option.{option_map_or};
 ghost use Rattle.mk_build.specs.ForwardViews.{forwarded_of, IsRefusedWith};
 ghost use Rattle.mk_build.specs.Forwards.{built_with, head_with, refusal_with};
-ghost use Rattle.mk_build.specs.MultipartViews.{IsRefusedAs};
-ghost use Rattle.mk_build.specs.Multiparts.{built_as, mixed as plain_mixed, multipart_of, multipart_refusal, part_as, refusal_as};
+ghost use Rattle.mk_build.specs.Multiparts.{multipart_of, multipart_refusal, part_as};
 
 use crate::attaching::push_attached;
-use crate::attachment::{Attach, Written, as_given, has_name, in_utf8, is_media};
+use crate::attachment::{Attach, Written, as_named, has_name, is_media};
 use crate::forwarding::{Forward, are_8bit, first_holding, push_8bit, push_forwards};
-use crate::multipart::{MIXED, Multipart, is_charset};
+use crate::multipart::{Multipart, is_charset};
 use mk_head::{is_boundary, is_token, one_field};
 use mk_line::{Ending, ends_open, first_line, name_len};
 use std::alloc::{AllocError, Global};
@@ -78,55 +78,10 @@ pub fn build(
     ensures text { IfOk result (λ text. (build_refusal (map (λ f. f.items) fields.now) (map attached_of parts.now) boundary.now ≡ None) × (text.items ≡ built eol (map (λ f. f.items) fields.now) (map attached_of parts.now) boundary.now)) }
     ensures refused { IfErr result (λ error. IsBuildRefused (map (λ f. f.items) fields.now) (map attached_of parts.now) boundary.now error) }
 {
-    build_as(alloc, fields, parts, &mixed(boundary), eol)
+    build_with(alloc, fields, parts, &[], &Multipart::mixed(boundary), eol)
 }
 
-/// The same, with each name in UTF-8 that isn't printable ASCII also written as it is (RFC 2231, 4).
-pub fn build_in_utf8(
-    alloc: Global,
-    fields: &[Vec<u8>],
-    parts: &[Attach],
-    boundary: &[u8],
-    eol: Ending,
-) -> Result<Vec<u8>, BuildError>
-    requires { eol ≢ Ending.Missing }
-    ensures text { IfOk result (λ text. (build_refusal (map (λ f. f.items) fields.now) (map named_of parts.now) boundary.now ≡ None) × (text.items ≡ built eol (map (λ f. f.items) fields.now) (map named_of parts.now) boundary.now)) }
-    ensures refused { IfErr result (λ error. IsBuildRefused (map (λ f. f.items) fields.now) (map named_of parts.now) boundary.now error) }
-{
-    build_as_in_utf8(alloc, fields, parts, &mixed(boundary), eol)
-}
-
-/// A message as `build` makes it, in a multipart of any kind.
-pub fn build_as(
-    alloc: Global,
-    fields: &[Vec<u8>],
-    parts: &[Attach],
-    multipart: &Multipart<'_>,
-    eol: Ending,
-) -> Result<Vec<u8>, BuildError>
-    requires { eol ≢ Ending.Missing }
-    ensures text { IfOk result (λ text. (refusal_as (map (λ f. f.items) fields.now) (map attached_of parts.now) (multipart_of multipart.now) ≡ None) × (text.items ≡ built_as eol (map (λ f. f.items) fields.now) (map attached_of parts.now) (multipart_of multipart.now))) }
-    ensures refused { IfErr result (λ error. IsRefusedAs (map (λ f. f.items) fields.now) (map attached_of parts.now) (multipart_of multipart.now) error) }
-{
-    build_with(alloc, fields, parts, &[], multipart, eol)
-}
-
-/// A message as `build_in_utf8` makes it, in a multipart of any kind.
-pub fn build_as_in_utf8(
-    alloc: Global,
-    fields: &[Vec<u8>],
-    parts: &[Attach],
-    multipart: &Multipart<'_>,
-    eol: Ending,
-) -> Result<Vec<u8>, BuildError>
-    requires { eol ≢ Ending.Missing }
-    ensures text { IfOk result (λ text. (refusal_as (map (λ f. f.items) fields.now) (map named_of parts.now) (multipart_of multipart.now) ≡ None) × (text.items ≡ built_as eol (map (λ f. f.items) fields.now) (map named_of parts.now) (multipart_of multipart.now))) }
-    ensures refused { IfErr result (λ error. IsRefusedAs (map (λ f. f.items) fields.now) (map named_of parts.now) (multipart_of multipart.now) error) }
-{
-    build_with_in_utf8(alloc, fields, parts, &[], multipart, eol)
-}
-
-/// A message as `build_as` makes it, with messages that are forwarded after the parts.
+/// A message as `build` makes it, in a multipart of any kind, with messages that are forwarded after the parts.
 pub fn build_with(
     alloc: Global,
     fields: &[Vec<u8>],
@@ -136,59 +91,24 @@ pub fn build_with(
     eol: Ending,
 ) -> Result<Vec<u8>, BuildError>
     requires { eol ≢ Ending.Missing }
-    ensures text { IfOk result (λ text. (refusal_with (map (λ f. f.items) fields.now) (map attached_of parts.now) (map forwarded_of messages.now) (multipart_of multipart.now) ≡ None) × (text.items ≡ built_with eol (map (λ f. f.items) fields.now) (map attached_of parts.now) (map forwarded_of messages.now) (multipart_of multipart.now))) }
-    ensures refused { IfErr result (λ error. IsRefusedWith (map (λ f. f.items) fields.now) (map attached_of parts.now) (map forwarded_of messages.now) (multipart_of multipart.now) error) }
+    ensures text { IfOk result (λ text. (refusal_with (map (λ f. f.items) fields.now) (map (written_in multipart.now.utf8_names) parts.now) (map forwarded_of messages.now) (multipart_of multipart.now) ≡ None) × (text.items ≡ built_with eol (map (λ f. f.items) fields.now) (map (written_in multipart.now.utf8_names) parts.now) (map forwarded_of messages.now) (multipart_of multipart.now))) }
+    ensures refused { IfErr result (λ error. IsRefusedWith (map (λ f. f.items) fields.now) (map (written_in multipart.now.utf8_names) parts.now) (map forwarded_of messages.now) (multipart_of multipart.now) error) }
 {
-    let parts = all_as_given(alloc, parts)?;
+    let parts = all_written(alloc, parts, multipart.utf8_names)?;
     build_of(alloc, fields, &parts, messages, multipart, eol)
 }
 
-/// A message as `build_as_in_utf8` makes it, with messages that are forwarded after the parts.
-pub fn build_with_in_utf8(
+// What is written of all parts, under names in UTF-8 where that is asked for.
+fn all_written(
     alloc: Global,
-    fields: &[Vec<u8>],
     parts: &[Attach],
-    messages: &[Forward],
-    multipart: &Multipart<'_>,
-    eol: Ending,
-) -> Result<Vec<u8>, BuildError>
-    requires { eol ≢ Ending.Missing }
-    ensures text { IfOk result (λ text. (refusal_with (map (λ f. f.items) fields.now) (map named_of parts.now) (map forwarded_of messages.now) (multipart_of multipart.now) ≡ None) × (text.items ≡ built_with eol (map (λ f. f.items) fields.now) (map named_of parts.now) (map forwarded_of messages.now) (multipart_of multipart.now))) }
-    ensures refused { IfErr result (λ error. IsRefusedWith (map (λ f. f.items) fields.now) (map named_of parts.now) (map forwarded_of messages.now) (multipart_of multipart.now) error) }
-{
-    let parts = all_in_utf8(alloc, parts)?;
-    build_of(alloc, fields, &parts, messages, multipart, eol)
-}
-
-// A multipart/mixed whose texts name no charset.
-fn mixed(boundary: &[u8]) -> Multipart<'_>
-    ensures { multipart_of result ≡ plain_mixed boundary.now }
-{
-    Multipart {
-        subtype: MIXED,
-        charset: None,
-        boundary,
-    }
-}
-
-// What is written of all parts as they are given.
-fn all_as_given(alloc: Global, parts: &[Attach]) -> Result<Vec<Written<'_>>, AllocError>
-    ensures { IfOk result (λ list. map written_of list.items ≡ map attached_of parts.now) }
+    utf8_names: bool,
+) -> Result<Vec<Written<'_>>, AllocError>
+    ensures { IfOk result (λ list. map written_of list.items ≡ map (written_in utf8_names) parts.now) }
 {
     let mut list = Vec::with_capacity(alloc, parts.len())?;
     for part in parts {
-        list.push(as_given(alloc, part)?)?;
-    }
-    Ok(list)
-}
-
-// What is written of all parts under names in UTF-8.
-fn all_in_utf8(alloc: Global, parts: &[Attach]) -> Result<Vec<Written<'_>>, AllocError>
-    ensures { IfOk result (λ list. map written_of list.items ≡ map named_of parts.now) }
-{
-    let mut list = Vec::with_capacity(alloc, parts.len())?;
-    for part in parts {
-        list.push(in_utf8(alloc, part)?)?;
+        list.push(as_named(alloc, part, utf8_names)?)?;
     }
     Ok(list)
 }
@@ -271,7 +191,7 @@ fn bad_type(parts: &[Written<'_>]) -> Option<usize>
 
 // The index of the first part whose name can't be written, from 0.
 fn bad_name(parts: &[Written<'_>]) -> Option<usize>
-    ensures { result ≡ first_failing (λ a. is_name_or_none a.name) (map written_of parts.now) }
+    ensures { result ≡ first_failing (λ a. option_map_or may_be_written a.name true) (map written_of parts.now) }
 {
     for (index, part) in parts.iter().enumerate() {
         if !has_name(part) {

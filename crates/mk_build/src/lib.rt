@@ -23,12 +23,11 @@ mod attaching;
 mod attachment;
 mod building;
 mod forwarding;
+pub mod laws;
 mod multipart;
 
-pub use attaching::{AttachError, attach, attach_as, attach_as_in_utf8, attach_in_utf8};
+pub use attaching::{AttachError, AttachOptions, attach, attach_with};
 pub use attachment::Attach;
-pub use building::{
-    BuildError, build, build_as, build_as_in_utf8, build_in_utf8, build_with, build_with_in_utf8,
-};
+pub use building::{BuildError, build, build_with};
 pub use forwarding::Forward;
 pub use multipart::{MIXED, Multipart, is_charset};

@@ -1,7 +1,8 @@
 //! The multipart around the parts of a message, and whether it can be made (RFC 2045, 5.1; RFC 2046, 5.1.1).
-ghost use Rattle.std.specs.Prelude.{◌≡◌};
-ghost use Rattle.std.specs.Option.{option_map};
-ghost use Rattle.mk_build.specs.Multiparts.{charset_for as charset_of_type, is_charset_or_none, is_text as is_of_text};
+ghost use Rattle.std.specs.Prelude.{◌≡◌, true};
+ghost use Rattle.std.specs.Option.{option_map, option_map_or};
+ghost use Rattle.mk_build.specs.Multiparts.{charset_for as charset_of_type, is_text as is_of_text};
+ghost use Rattle.mk_head.specs.Values.{is_token as token};
 
 use mk_head::is_token;
 use mk_line::split_at_first;
@@ -22,11 +23,31 @@ pub struct Multipart<'a> {
     pub charset: Option<&'a [u8]>,
     /// What stands between the parts.
     pub boundary: &'a [u8],
+    /// Whether a name in UTF-8 that isn't printable ASCII is written a second time, as it is (RFC 2231, 4).
+    pub utf8_names: bool,
+}
+
+impl<'a> Multipart<'a> {
+    ghost use Rattle.std.specs.Prelude.{◌≡◌, false};
+    ghost use Rattle.mk_build.specs.Multiparts.{mixed, multipart_of};
+
+    /// A multipart/mixed whose texts name no charset, with names as they are given.
+    pub fn mixed(boundary: &'a [u8]) -> Multipart<'a>
+        ensures kind { multipart_of result ≡ mixed boundary.now }
+        ensures names { result.utf8_names ≡ false }
+    {
+        Multipart {
+            subtype: MIXED,
+            charset: None,
+            boundary,
+            utf8_names: false,
+        }
+    }
 }
 
 /// Whether there is no charset, or it is a token.
 pub fn is_charset(charset: Option<&[u8]>) -> bool
-    ensures { result ≡ is_charset_or_none (option_map (λ c. c.now) charset.entry) }
+    ensures { result ≡ option_map_or token (option_map (λ c. c.now) charset.entry) true }
 {
     match charset {
         Some(charset) => is_token(charset),

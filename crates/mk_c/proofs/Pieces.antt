@@ -11,7 +11,8 @@ use Rattle.mk_mailbox.specs.declared.mailbox.MailFault.{MailFault}
 use Rattle.mk_mailbox.specs.declared.mailbox.MailFault.TheVariants as fault
 use Rattle.mk_mailbox.specs.Devices.{IsLong}
 use Rattle.mk_mailbox.specs.Held.{Held}
-use Rattle.mk_mailbox.specs.Mailboxes.{Answers, IsKnownWhole}
+use Rattle.mk_mailbox.specs.Mailboxes.{IsKnownWhole}
+use Rattle.mk_mailbox.specs.inner.Answers.{Answers}
 use Rattle.mk_mailbox.specs.MailboxLaws.{IsReply, Reply, error, message, none}
 use Rattle.mk_c.specs.Mail.{IsShort, ReadsOn}
 use Rattle.mk_c.specs.inner.Inputs.{ReadsTo, is_drained, reason_for, to_read}

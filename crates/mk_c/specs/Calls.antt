@@ -1,4 +1,5 @@
 -- What the calls of C do (own): each is a step of mk_edit or a view of mk_view, or says why not.
+use Rattle.std.specs.Option.{option_map_or}
 use Rattle.std.specs.Prelude.{◌≡◌, ◌≢◌, ◌+◌, ◌++◌, ℕ, Option, Some, None, Result, Ok, Err, List, [], ◌∷◌, length}
 use Rattle.mk_tree.specs.Documents.{tree}
 use Rattle.mk_tree.specs.Sections.{Placed, section_at}
@@ -142,8 +143,3 @@ CountsSteps done undone ending old new = (ending ≡ Ok tt) × (new ≡ old) × 
 abbrev pub Copies : List ℕ → List ℕ → Ending → Desk → Desk → Type 0
 Copies before after (Ok x) old new = (after ≡ old.answer) × (new ≡ record old { answer = [] })
 Copies before after (Err reason) old new = (reason ≡ BadSize) × (length before ≢ length old.answer) × (after ≡ before) × (new ≡ old)
-
--- how many bytes the answer has
-abbrev pub answer_size : Option Desk → ℕ
-answer_size None = 0
-answer_size (Some d) = length d.answer

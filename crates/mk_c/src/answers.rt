@@ -1,7 +1,8 @@
 //! The calls that answer bytes. The answer stays in the handle: its size is asked for first, and then it
 //! is copied into memory of C's, and let go.
-ghost use Rattle.std.specs.Prelude.{◌≡◌};
-ghost use Rattle.mk_c.specs.Calls.{Calls, Copies, IsContentAt, IsSavedJournal, IsListing, IsMemory, IsNameAt, IsText, NoContentAt, NoNameAt, AnswersWith, answer_size};
+ghost use Rattle.std.specs.Prelude.{◌≡◌, length};
+ghost use Rattle.mk_c.specs.Calls.{Calls, Copies, IsContentAt, IsSavedJournal, IsListing, IsMemory, IsNameAt, IsText, NoContentAt, NoNameAt, AnswersWith};
+ghost use Rattle.std.specs.Option.{option_map_or};
 
 use crate::handle::Handle;
 use crate::status::{Place, Reason, told};
@@ -86,7 +87,7 @@ pub extern "C" fn mk_c_name(
 /// How many bytes the answer has; 0 where the handle is closed.
 #[unsafe(no_mangle)]
 pub extern "C" fn mk_c_size(alloc: Global, handle: &mut Handle) -> usize
-    ensures size { result ≡ answer_size handle.old.desk }
+    ensures size { result ≡ option_map_or (λ d. length d.answer) handle.old.desk 0 }
     ensures same { handle.new.desk ≡ handle.old.desk }
 {
     let Some(editor) = handle.take(alloc) else {

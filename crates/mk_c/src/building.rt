@@ -94,6 +94,7 @@ pub extern "C" fn mk_c_build(
         subtype,
         charset: given(charset_given, charset),
         boundary,
+        utf8_names: true,
     };
     let eol = if crlf { Ending::Crlf } else { Ending::Lf };
     let ended = editor.build(alloc, &multipart, eol);

@@ -8,7 +8,7 @@ ghost use Rattle.mk_c.specs.Building.{PutsField, PutsMessage, PutsPart};
 ghost use Rattle.mk_c.specs.Desks.{no_draft};
 
 use crate::status::Reason;
-use mk_build::{Attach, BuildError, Forward, Multipart, build_with_in_utf8};
+use mk_build::{Attach, BuildError, Forward, Multipart, build_with};
 use mk_line::Ending;
 use std::alloc::Global;
 use std::marker::Model;
@@ -100,7 +100,7 @@ impl Draft {
         }
     }
 
-    /// Builds the message.
+    /// Builds the message, with names in UTF-8 also written as they are.
     pub(crate) fn build(
         &self,
         alloc: Global,
@@ -111,12 +111,16 @@ impl Draft {
         ensures text { IfOk result (λ text. (refusal_with self.now.fields self.now.parts self.now.messages (multipart_of multipart.now) ≡ None) × (text.items ≡ built_with eol self.now.fields self.now.parts self.now.messages (multipart_of multipart.now))) }
         ensures refused { IfErr result (λ error. IsRefusedWith self.now.fields self.now.parts self.now.messages (multipart_of multipart.now) error) }
     {
-        build_with_in_utf8(
+        let multipart = Multipart {
+            utf8_names: true,
+            ..*multipart
+        };
+        build_with(
             alloc,
             &self.fields,
             &self.parts,
             &self.messages,
-            multipart,
+            &multipart,
             eol,
         )
     }

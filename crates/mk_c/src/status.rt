@@ -12,7 +12,7 @@ use std::alloc::AllocError;
 const OK: u32 = 0;
 
 /// Why a call did nothing.
-#[derive(Clone, Copy, Debug, PartialEq, Eq)]
+#[derive(Clone, Copy, Debug)]
 pub enum Reason {
     /// The handle is closed.
     Closed,

@@ -59,7 +59,7 @@ b_text text =
 abbrev pub put_before : ℕ → Option (List ℕ) → Option (List ℕ)
 put_before byte rest = option_map (λ bytes. byte ∷ bytes) rest
 
--- `_` is a space, `=` alone is nothing, and other printable bytes stand for themselves (RFC 2047, 4.2)
+-- `_` is a space, `=` without two digits is invalid, and other printable bytes stand for themselves (RFC 2047, 4.2)
 abbrev pub q_byte : ℕ → Option (List ℕ) → Option (List ℕ)
 q_byte byte rest =
     if byte == underscore then put_before space rest

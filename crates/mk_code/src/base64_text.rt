@@ -1,5 +1,5 @@
 //! Base64 as a transfer encoding (RFC 2045, 6.8).
-ghost use Rattle.std.specs.Prelude.{◌≡◌, ◌≢◌, ◌<◌, ◌≤◌, ◌==◌, ◌++◌, ◌%◌, [], length, not, filter, take, take_while, IfOk, IfErr, OnOk};
+ghost use Rattle.std.specs.Prelude.{◌≡◌, ◌≢◌, ◌<◌, ◌≤◌, ◌==◌, ◌++◌, ◌%◌, [], length, not, filter, take, take_while, IfOk, IfErr, OnErr, OnOk};
 ghost use Rattle.std.specs.List.{prefix_len};
 ghost use Rattle.base64.specs.GeneralPurpose.{encode_of};
 ghost use Rattle.base64.specs.Engines.{standard};
@@ -8,6 +8,7 @@ ghost use Rattle.mk_code.specs.Base64Text.{IsBase64Of, letters as letters_of, ba
 ghost use Rattle.mk_code.specs.OutputLines.{widest};
 ghost use Rattle.mk_code.specs.Contents.{IsRefused};
 ghost use Rattle.mk_code.specs.inner.Decoded.{HasDecoded, EncodesNone, IsUngrouped};
+ghost use Rattle.mk_line.specs.inner.Kept.{IsKept};
 ghost use Rattle.mk_code.specs.inner.Strays.{is_stray};
 ghost use Rattle.mk_head.specs.declared.encodings.Encoding.TheVariants.{Base64};
 
@@ -50,10 +51,25 @@ pub fn b64_encode(alloc: Global, bytes: &[u8], eol: Ending) -> Result<Vec<u8>, A
     Ok(text)
 }
 
-/// Appends what `b64_encode` gives to a text.
+/// Appends what `b64_encode` gives to a text. After an error the text is as before.
 pub fn push_b64(text: &mut Vec<u8>, bytes: &[u8], eol: Ending) -> Result<(), AllocError>
     requires { eol ≢ Ending.Missing }
-    ensures { OnOk result (text.new.items ≡ text.old.items ++ base64_encoded eol bytes.now) }
+    ensures appended { OnOk result (text.new.items ≡ text.old.items ++ base64_encoded eol bytes.now) }
+    ensures unchanged { OnErr result (text.new.items ≡ text.old.items) }
+{
+    let size = text.len();
+    let pushed = push_blocks(text, bytes, eol);
+    if pushed.is_err() {
+        text.truncate(size);
+    }
+    pushed
+}
+
+// The same, encoded block by block; after an error more may follow the text.
+fn push_blocks(text: &mut Vec<u8>, bytes: &[u8], eol: Ending) -> Result<(), AllocError>
+    requires { eol ≢ Ending.Missing }
+    ensures appended { OnOk result (text.new.items ≡ text.old.items ++ base64_encoded eol bytes.now) }
+    ensures kept { IsKept text.old.items text.new.items }
 {
     let ending = eol.bytes();
     text.reserve(room(bytes, ending))?;
@@ -95,7 +111,8 @@ fn write_letters(block: &[u8], letters: &mut [u8]) -> usize
 
 // Appends letters in lines, with the ending between two.
 fn push_lines(text: &mut Vec<u8>, letters: &[u8], ending: &[u8]) -> Result<(), AllocError>
-    ensures { OnOk result (text.new.items ≡ text.old.items ++ lined ending.now widest letters.now) }
+    ensures appended { OnOk result (text.new.items ≡ text.old.items ++ lined ending.now widest letters.now) }
+    ensures kept { IsKept text.old.items text.new.items }
 {
     let mut rest = letters;
     while rest.len() > WIDEST {

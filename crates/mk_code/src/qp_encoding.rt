@@ -1,9 +1,10 @@
 //! Encoding as quoted-printable (RFC 2045, 6.7).
-ghost use Rattle.std.specs.Prelude.{◌≡◌, ◌≢◌, ◌<◌, ◌≤◌, ◌+◌, ◌-◌, ◌==◌, ◌++◌, ◌∷◌, [], ℕ, List, true, length, take, drop, IfOk, OnOk, IfSome, MatchOption};
+ghost use Rattle.std.specs.Prelude.{◌≡◌, ◌≢◌, ◌<◌, ◌≤◌, ◌+◌, ◌-◌, ◌==◌, ◌++◌, ◌∷◌, [], ℕ, List, true, length, take, drop, IfOk, OnOk, IfSome, MatchOption, OnErr};
 ghost use Rattle.std.specs.List.{prefix_len};
 ghost use Rattle.mk_line.specs.Ascii.{is_blank as blank};
 ghost use Rattle.mk_line.specs.Lines.{is_nil};
 ghost use Rattle.mk_code.specs.OutputLines.{widest};
+ghost use Rattle.mk_line.specs.inner.Kept.{IsKept};
 ghost use Rattle.mk_code.specs.QuotedPrintable.{qp_encoded, packed, form, limit as line_limit, is_plain, is_quiet as quiet, is_guarded as guarded, escaped, hex_digit as digit_of, logical_lines};
 ghost use Rattle.mk_line.specs.declared.cutting.Ending.TheVariants.{Crlf};
 
@@ -37,10 +38,25 @@ pub fn qp_encode(alloc: Global, bytes: &[u8], eol: Ending) -> Result<Vec<u8>, Al
     Ok(text)
 }
 
-/// Appends what `qp_encode` gives to a text.
+/// Appends what `qp_encode` gives to a text. After an error the text is as before.
 pub fn push_qp(text: &mut Vec<u8>, bytes: &[u8], eol: Ending) -> Result<(), AllocError>
     requires { eol ≢ Ending.Missing }
-    ensures { OnOk result (text.new.items ≡ text.old.items ++ qp_encoded eol bytes.now) }
+    ensures appended { OnOk result (text.new.items ≡ text.old.items ++ qp_encoded eol bytes.now) }
+    ensures unchanged { OnErr result (text.new.items ≡ text.old.items) }
+{
+    let size = text.len();
+    let pushed = push_logical_lines(text, bytes, eol);
+    if pushed.is_err() {
+        text.truncate(size);
+    }
+    pushed
+}
+
+// The same; after an error more may follow the text.
+fn push_logical_lines(text: &mut Vec<u8>, bytes: &[u8], eol: Ending) -> Result<(), AllocError>
+    requires { eol ≢ Ending.Missing }
+    ensures appended { OnOk result (text.new.items ≡ text.old.items ++ qp_encoded eol bytes.now) }
+    ensures kept { IsKept text.old.items text.new.items }
 {
     text.reserve(bytes.len())?;
     let ending = eol.bytes();
@@ -77,7 +93,8 @@ fn split_at_crlf(bytes: &[u8]) -> Option<(&[u8], &[u8])>
 
 // Appends a logical line, cut into output lines.
 fn push_packed(out: &mut Vec<u8>, line: &[u8], eol: &[u8]) -> Result<(), AllocError>
-    ensures { OnOk result (out.new.items ≡ out.old.items ++ packed eol.now 0 line.now) }
+    ensures appended { OnOk result (out.new.items ≡ out.old.items ++ packed eol.now 0 line.now) }
+    ensures kept { IsKept out.old.items out.new.items }
 {
     if stands_whole(line) {
         return out.extend_from_slice(line);
@@ -121,6 +138,7 @@ fn break_line(
     ensures told { IfOk result (λ start. let begun = form start byte more.now in
         out.new.items ++ (begun ++ packed eol.now (start + length begun) more.now)
         ≡ out.old.items ++ packed eol.now column (byte ∷ more.now)) }
+    ensures kept { IsKept out.old.items out.new.items }
 {
     if column + width(column, byte, more) <= limit(more) {
         return Ok(column);
@@ -158,6 +176,7 @@ fn push_form(out: &mut Vec<u8>, column: usize, byte: u8, more: &[u8]) -> Result<
     ensures form { OnOk result (out.new.items ≡ out.old.items ++ form column byte more.now) }
     ensures width { IfOk result (λ width. width ≡ length (form column byte more.now)) }
     ensures some { IfOk result (λ width. 0 < width) }
+    ensures kept { IsKept out.old.items out.new.items }
 {
     if stands_plain(column, byte, more) {
         out.push(byte)?;
@@ -177,6 +196,7 @@ fn push_quiet(out: &mut Vec<u8>, column: usize, rest: &[u8]) -> Result<usize, Al
     ensures told { IfOk result (λ size. (eol : List ℕ) →
         out.new.items ++ packed eol (column + size) (drop size rest.now)
         ≡ out.old.items ++ packed eol column rest.now) }
+    ensures kept { IsKept out.old.items out.new.items }
 {
     let room = (WIDEST - 1)
         .saturating_sub(column)

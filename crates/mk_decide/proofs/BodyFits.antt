@@ -2,10 +2,10 @@
 use Rattle.std.proofs.Common.{◌≡◌, ◌+◌, ◌++◌, if◌then◌else◌, ℕ, suc, Bool, true, false, not, Option, None, Some, Ok, List, [], ◌∷◌, refl, ap, sym, ◌∙◌, subst, length, inl, inr, append_assoc}
 use Rattle.std.proofs.lemmas.Bool.{cases_Bool}
 use Rattle.mk_line.specs.declared.cutting.Ending.{Ending}
-use Rattle.mk_line.specs.Lines.{TextLine, cut, text_of, ending_bytes, eol_of, is_open, AreLines}
+use Rattle.mk_line.specs.Lines.{TextLine, cut, text_of, ending_bytes, eol_of, is_open, AreLines, is_nil, text_line}
 use Rattle.mk_line.proofs.Cuts.{text_cut, lines_cut, text_append, append_nil}
-use Rattle.mk_head.specs.Split.{Head, head_lines, option_line}
-use Rattle.mk_head.specs.Splits.{has_line}
+use Rattle.mk_head.specs.Split.{Head, head_lines}
+use Rattle.std.specs.Option.{option_to_list}
 use Rattle.mk_tree.specs.Tree.{Entity, leaf, message, multi, print, entity_head}
 use Rattle.mk_tree.specs.Documents.{levels, tree}
 use Rattle.mk_tree.specs.Spans.{size}
@@ -17,7 +17,7 @@ use Rattle.mk_tree.proofs.Plugs.{lines_end}
 use Rattle.mk_tree.proofs.Stability.{read_stable}
 use Rattle.mk_decide.specs.Edits.{SetBody, NotLeaf}
 use Rattle.mk_decide.specs.EditSplices.{one_splice, made_separator}
-use Rattle.mk_decide.specs.Wrapping.{separator_or}
+use Rattle.std.specs.Prelude.{unwrap_or}
 use Rattle.mk_decide.specs.Plans.{set_body, body_plan, planned, plan_of}
 use Rattle.mk_decide.specs.Outcomes.{hit, edited}
 use Rattle.mk_decide.specs.Local.{IsLocal}
@@ -50,14 +50,14 @@ body_are : (eol : Ending) (o : Option TextLine) (given : List ℕ) → is_open e
 body_are eol None given c = (separator_line eol None c tt, (λ m. true_false (ap is_open (sym m) ∙ c)), lines_cut given)
 body_are eol (Some l) given c = lines_cut given
 
-separator_text : (eol : Ending) (o : Option TextLine) → Each (option_line o) → (if has_separator o then [] else ending_bytes eol) ≡ text_of (made_separator eol o)
+separator_text : (eol : Ending) (o : Option TextLine) → Each (option_to_list o) → (if has_separator o then [] else ending_bytes eol) ≡ text_of (made_separator eol o)
 separator_text eol None e = sym (append_nil (ending_bytes eol))
 separator_text eol (Some l) e = rw (separator_there l e.0) refl
 
-body_lines_are : (eol : Ending) (h : Head) (ls : List TextLine) → (h.fields ++ (separator_or eol h.separator ∷ [])) ++ ls ≡ head_lines h ++ ((made_separator eol h.separator ++ ls) ++ [])
+body_lines_are : (eol : Ending) (h : Head) (ls : List TextLine) → (h.fields ++ (unwrap_or h.separator (text_line [] eol) ∷ [])) ++ ls ≡ head_lines h ++ ((made_separator eol h.separator ++ ls) ++ [])
 body_lines_are eol h ls =
     let made = made_separator eol h.separator in
-    ap (λ xs. (h.fields ++ xs) ++ ls) (separated eol h.separator) ∙ (regroup h.fields (option_line h.separator) made ls ∙ ap (λ xs. head_lines h ++ xs) (sym (lines_end (made ++ ls))))
+    ap (λ xs. (h.fields ++ xs) ++ ls) (separated eol h.separator) ∙ (regroup h.fields (option_to_list h.separator) made ls ∙ ap (λ xs. head_lines h ++ xs) (sym (lines_end (made ++ ls))))
 
 pub not_glued : (t : Bool) → not t ≡ true → t ≡ false
 not_glued true h = cc
@@ -73,13 +73,13 @@ body_stays text path p s eol h ls given e g =
     let w : IsWellRead (left_at levels s.around) (default_at false s.around) (leaf h ls) = subst (IsWellRead (left_at levels s.around) (default_at false s.around)) e s.well in
     let new = (body_plan eol s.around h given).new in (
       fits_unglued false s.around new g,
-      (root_told (tree text).envelope s.around new).0 (λ q. subst BeginsPlain (sym (append_assoc h.fields (separator_or eol h.separator ∷ []) given)) (plain_some h.fields (separator_or eol h.separator) given w.0.run (separator_empty eol (has_line h.fields) h.separator ls w.0.next))),
+      (root_told (tree text).envelope s.around new).0 (λ q. subst BeginsPlain (sym (append_assoc h.fields (unwrap_or h.separator (text_line [] eol) ∷ []) given)) (plain_some h.fields (unwrap_or h.separator (text_line [] eol)) given w.0.run (separator_empty eol (not (is_nil h.fields)) h.separator ls w.0.next))),
     )
 
 body_unglued : (text path : List ℕ) (p : Placed) (s : IsSite text path p) (eol : Ending) (h : Head) (given : List TextLine) → FitsIn s.around (body_plan eol s.around h given).new → frames_glued false s.around ≡ false
 body_unglued text path p s eol h given f =
     elim (cases_Bool (frames_glued false s.around)) [
-      | inl g ↦ absurd (some_open h.fields (separator_or eol h.separator) (glued_head s.around (body_plan eol s.around h given).new (before_each text path p s).1 g f))
+      | inl g ↦ absurd (some_open h.fields (unwrap_or h.separator (text_line [] eol)) (glued_head s.around (body_plan eol s.around h given).new (before_each text path p s).1 g f))
       | inr g ↦ g
     ]
 
@@ -97,7 +97,7 @@ leaf_answers text path given p s h ls x =
     let glued : glued_below false (after_first path) root ≡ frames_glued false s.around = ap (λ ks. glued_below false ks root) numbers ∙ glued_told text path p s in
     let made = made_separator eol h.separator in
     let own : separator_bytes text p ≡ text_of (made_separator eol (entity_head p.entity).separator) =
-    separator_text eol (entity_head p.entity).separator (each_front (option_line (entity_head p.entity).separator) (body_lines p.entity) (each_line (option_line (entity_head p.entity).separator ++ body_lines p.entity) (after_are text path p s))) in
+    separator_text eol (entity_head p.entity).separator (each_front (option_to_list (entity_head p.entity).separator) (body_lines p.entity) (each_line (option_to_list (entity_head p.entity).separator ++ body_lines p.entity) (after_are text path p s))) in
     let bytes : body_bytes text p given ≡ text_of (made ++ cut given) = ap (λ t. t ++ given) (own ∙ ap (λ y. text_of (made_separator eol (entity_head y).separator)) x) ∙ (ap (λ t. text_of made ++ t) (sym (text_cut given)) ∙ sym (text_append made (cut given))) in
     let spliced_so = splices_here e text path p s refl ∙ ap (λ t. one_splice (body_place p) (body_text p) (t ++ given)) (sym own) in
     planned_answers e text plan (opens_at text (body_place p) (length (body_text p)) (body_bytes text p given)) (hit_below (cut given) 1 (after_first path) root) (not (glued_below false (after_first path) root))

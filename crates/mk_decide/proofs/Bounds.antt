@@ -14,10 +14,11 @@ use Rattle.mk_line.proofs.Blanks.{trimmed_kept, untold}
 use Rattle.mk_head.specs.declared.encodings.Encoding.{Encoding}
 use Rattle.mk_head.specs.Split.{is_start, is_more}
 use Rattle.mk_head.specs.Fields.{continuations, field_text, is_named}
-use Rattle.mk_head.specs.Unfolding.{contents, or_nothing, value_in}
+use Rattle.mk_head.specs.Unfolding.{contents, value_in}
 use Rattle.mk_line.specs.Parting.{following}
 use Rattle.mk_head.specs.Values.{param_of, content_type_of}
-use Rattle.mk_head.specs.Types.{field_value, type_by, header_encoding, trimmed_boundary, boundary_of}
+use Rattle.mk_head.specs.Types.{field_value, type_by, header_encoding, boundary_of}
+use Rattle.std.specs.Prelude.{unwrap_or}
 use Rattle.mk_head.proofs.Bytes.{parameters_bytes, boundaries_trimmed}
 use Rattle.mk_tree.specs.Kinds.{Leaf, Message, Multi, has_return, has_boundary, holds_message, kind_of, kind, kind_at}
 use Rattle.mk_decide.proofs.Openings.{Each}
@@ -45,7 +46,7 @@ join_pass : (f : ℕ → Bool) (xs ys : List ℕ) → list_all f xs ≡ true →
 join_pass f [] ys h k = k
 join_pass f (x ∷ xs) ys h k = let p = both (f x) (list_all f xs) h in and_true (f x) (list_all f (xs ++ ys)) p.0 (join_pass f xs ys p.1 k)
 
-after_pass : (f : ℕ → Bool) (byte : ℕ) (xs : List ℕ) → list_all f xs ≡ true → list_all f (or_nothing (following byte xs)) ≡ true
+after_pass : (f : ℕ → Bool) (byte : ℕ) (xs : List ℕ) → list_all f xs ≡ true → list_all f (unwrap_or (following byte xs) []) ≡ true
 after_pass f byte [] h = refl
 after_pass f byte (x ∷ xs) h =
     let p = both (f x) (list_all f xs) h in
@@ -91,7 +92,7 @@ value_pass name (l ∷ ls) e =
     (after_pass no_feed_byte 58 (l.content ++ contents (continuations ls)) (join_pass no_feed_byte l.content (contents (continuations ls)) (feed_pass l.content e.0.no_feed) (more_pass ls e.1)))
     (value_pass name ls e.1)
 
-param_pass : (f : ℕ → Bool) (value name : List ℕ) (o : Option (List ℕ)) → list_all f value ≡ true → param_of name (content_type_of value).params ≡ o → list_all f (trimmed_boundary o) ≡ true
+param_pass : (f : ℕ → Bool) (value name : List ℕ) (o : Option (List ℕ)) → list_all f value ≡ true → param_of name (content_type_of value).params ≡ o → list_all f (trimmed (unwrap_or o [])) ≡ true
 param_pass f value name None h e = refl
 param_pass f value name (Some b) h e = trimmed_pass f b (parameters_bytes f value name b h e)
 

@@ -2,7 +2,7 @@
 use Rattle.std.proofs.Common.{◌≡◌, ◌++◌, ℕ, Bool, true, false, not, Option, Some, List, [], ◌∷◌, refl, sym, subst}
 use Rattle.mk_line.specs.Lines.{TextLine, cut}
 use Rattle.mk_line.proofs.Cuts.{lines_cut}
-use Rattle.mk_head.specs.Split.{option_line}
+use Rattle.std.specs.Option.{option_to_list}
 use Rattle.mk_head.specs.Splits.{IsRun}
 use Rattle.mk_head.specs.Fields.{is_one_field}
 use Rattle.mk_tree.specs.Cutting.{tail_lines, Unmarked}
@@ -24,32 +24,32 @@ use Rattle.mk_decide.proofs.Renaming.{renamed_start, renamed_line}
 
 -- the lines of an entity's fields, and the others
 pub fields_each : (s : Entity) → Each (print s) → Each (field_lines s)
-fields_each (leaf h ls) e = each_front h.fields (option_line h.separator) (each_front (h.fields ++ option_line h.separator) ls e)
-fields_each (message h x) e = each_front h.fields (option_line h.separator) (each_front (h.fields ++ option_line h.separator) (print x) e)
-fields_each (multi h b pre ps t) e = each_front h.fields (option_line h.separator) (each_front (h.fields ++ option_line h.separator) (pre ++ (print_parts ps ++ tail_lines t)) e)
+fields_each (leaf h ls) e = each_front h.fields (option_to_list h.separator) (each_front (h.fields ++ option_to_list h.separator) ls e)
+fields_each (message h x) e = each_front h.fields (option_to_list h.separator) (each_front (h.fields ++ option_to_list h.separator) (print x) e)
+fields_each (multi h b pre ps t) e = each_front h.fields (option_to_list h.separator) (each_front (h.fields ++ option_to_list h.separator) (pre ++ (print_parts ps ++ tail_lines t)) e)
 
 each_fields : (fields : List TextLine) (s : Entity) → Each fields → Each (print s) → Each (print (with_fields fields s))
 each_fields fields (leaf h ls) f e =
-    each_join (fields ++ option_line h.separator) ls (each_join fields (option_line h.separator) f (each_back h.fields (option_line h.separator) (each_front (h.fields ++ option_line h.separator) ls e))) (each_back (h.fields ++ option_line h.separator) ls e)
+    each_join (fields ++ option_to_list h.separator) ls (each_join fields (option_to_list h.separator) f (each_back h.fields (option_to_list h.separator) (each_front (h.fields ++ option_to_list h.separator) ls e))) (each_back (h.fields ++ option_to_list h.separator) ls e)
 each_fields fields (message h x) f e =
-    each_join (fields ++ option_line h.separator) (print x) (each_join fields (option_line h.separator) f (each_back h.fields (option_line h.separator) (each_front (h.fields ++ option_line h.separator) (print x) e))) (each_back (h.fields ++ option_line h.separator) (print x) e)
+    each_join (fields ++ option_to_list h.separator) (print x) (each_join fields (option_to_list h.separator) f (each_back h.fields (option_to_list h.separator) (each_front (h.fields ++ option_to_list h.separator) (print x) e))) (each_back (h.fields ++ option_to_list h.separator) (print x) e)
 each_fields fields (multi h b pre ps t) f e =
     let body = pre ++ (print_parts ps ++ tail_lines t) in
-    each_join (fields ++ option_line h.separator) body (each_join fields (option_line h.separator) f (each_back h.fields (option_line h.separator) (each_front (h.fields ++ option_line h.separator) body e))) (each_back (h.fields ++ option_line h.separator) body e)
+    each_join (fields ++ option_to_list h.separator) body (each_join fields (option_to_list h.separator) f (each_back h.fields (option_to_list h.separator) (each_front (h.fields ++ option_to_list h.separator) body e))) (each_back (h.fields ++ option_to_list h.separator) body e)
 
 pub fields_marks : (c : List ℕ) (s : Entity) → Unmarked c (print s) → Unmarked c (field_lines s)
-fields_marks c (leaf h ls) u = unmarked_left c h.fields (option_line h.separator) (unmarked_left c (h.fields ++ option_line h.separator) ls u)
-fields_marks c (message h x) u = unmarked_left c h.fields (option_line h.separator) (unmarked_left c (h.fields ++ option_line h.separator) (print x) u)
-fields_marks c (multi h b pre ps t) u = unmarked_left c h.fields (option_line h.separator) (unmarked_left c (h.fields ++ option_line h.separator) (pre ++ (print_parts ps ++ tail_lines t)) u)
+fields_marks c (leaf h ls) u = unmarked_left c h.fields (option_to_list h.separator) (unmarked_left c (h.fields ++ option_to_list h.separator) ls u)
+fields_marks c (message h x) u = unmarked_left c h.fields (option_to_list h.separator) (unmarked_left c (h.fields ++ option_to_list h.separator) (print x) u)
+fields_marks c (multi h b pre ps t) u = unmarked_left c h.fields (option_to_list h.separator) (unmarked_left c (h.fields ++ option_to_list h.separator) (pre ++ (print_parts ps ++ tail_lines t)) u)
 
 body_marks : (c : List ℕ) (fields front rest : List TextLine) (o : List TextLine) → Unmarked c ((front ++ o) ++ rest) → Unmarked c fields → Unmarked c ((fields ++ o) ++ rest)
 body_marks c fields front rest o u v =
     unmarked_join c (fields ++ o) rest (unmarked_join c fields o v (unmarked_right c front o (unmarked_left c (front ++ o) rest u))) (unmarked_right c (front ++ o) rest u)
 
 marks_fields : (c : List ℕ) (fields : List TextLine) (s : Entity) → Unmarked c fields → Unmarked c (print s) → Unmarked c (print (with_fields fields s))
-marks_fields c fields (leaf h ls) v u = body_marks c fields h.fields ls (option_line h.separator) u v
-marks_fields c fields (message h x) v u = body_marks c fields h.fields (print x) (option_line h.separator) u v
-marks_fields c fields (multi h b pre ps t) v u = body_marks c fields h.fields (pre ++ (print_parts ps ++ tail_lines t)) (option_line h.separator) u v
+marks_fields c fields (leaf h ls) v u = body_marks c fields h.fields ls (option_to_list h.separator) u v
+marks_fields c fields (message h x) v u = body_marks c fields h.fields (print x) (option_to_list h.separator) u v
+marks_fields c fields (multi h b pre ps t) v u = body_marks c fields h.fields (pre ++ (print_parts ps ++ tail_lines t)) (option_to_list h.separator) u v
 
 pub fields_same : (fields : List TextLine) (s : Entity) → field_lines (with_fields fields s) ≡ fields
 fields_same fields (leaf h ls) = refl

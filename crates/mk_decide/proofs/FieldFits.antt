@@ -3,8 +3,8 @@ use Rattle.std.proofs.Common.{◌≡◌, ◌↔◌, ◌&&◌, ◌||◌, ◌+◌,
 use Rattle.std.proofs.lemmas.Bool.{cases_Bool, or_parts}
 use Rattle.mk_line.specs.Lines.{TextLine, cut, text_of, is_nil, AreLines}
 use Rattle.mk_line.proofs.Cuts.{cut_text, lines_cut, lines_following}
-use Rattle.mk_head.specs.Split.{option_line}
-use Rattle.mk_head.specs.Splits.{IsRun, has_line, IsSplit}
+use Rattle.std.specs.Option.{option_to_list}
+use Rattle.mk_head.specs.Splits.{IsRun, IsSplit}
 use Rattle.mk_tree.specs.Kinds.{kind_at, is_digest}
 use Rattle.mk_tree.specs.Tree.{Entity, leaf, message, multi, print, field_lines, entity_head, with_fields}
 use Rattle.mk_tree.specs.Documents.{IsStable, levels, tree, document_lines}
@@ -58,34 +58,34 @@ some_put : (text path : List ℕ) (edit : FieldEdit) (p : Placed) (s : IsSite te
 some_put text path edit p s q h n = subst (OfPut IsSome) (sym (ap (puts edit) (head_cut text path p s ∙ n)) ∙ h) (some_new edit)
 
 -- the lines of the document, and those of the section
-all_lines : (text path : List ℕ) (p : Placed) (s : IsSite text path p) → AreLines (option_line (tree text).envelope ++ (lines_before s.around ++ (print p.entity ++ lines_after s.around)))
+all_lines : (text path : List ℕ) (p : Placed) (s : IsSite text path p) → AreLines (option_to_list (tree text).envelope ++ (lines_before s.around ++ (print p.entity ++ lines_after s.around)))
 all_lines text path p s =
-    subst AreLines (sym (lines_kept text) ∙ (ap document_lines (sym s.whole) ∙ ap (λ ls. option_line (tree text).envelope ++ ls) (print_plug s.around p.entity))) (lines_cut text)
+    subst AreLines (sym (lines_kept text) ∙ (ap document_lines (sym s.whole) ∙ ap (λ ls. option_to_list (tree text).envelope ++ ls) (print_plug s.around p.entity))) (lines_cut text)
 
 pub entity_are : (text path : List ℕ) (p : Placed) (s : IsSite text path p) → AreLines (print p.entity)
 entity_are text path p s =
     lines_front (print p.entity) (lines_after s.around)
-    (lines_following (lines_before s.around) (print p.entity ++ lines_after s.around) (lines_following (option_line (tree text).envelope) (lines_before s.around ++ (print p.entity ++ lines_after s.around)) (all_lines text path p s)))
+    (lines_following (lines_before s.around) (print p.entity ++ lines_after s.around) (lines_following (option_to_list (tree text).envelope) (lines_before s.around ++ (print p.entity ++ lines_after s.around)) (all_lines text path p s)))
 
-pub before_each : (text path : List ℕ) (p : Placed) (s : IsSite text path p) → Each (option_line (tree text).envelope) × Each (lines_before s.around)
+pub before_each : (text path : List ℕ) (p : Placed) (s : IsSite text path p) → Each (option_to_list (tree text).envelope) × Each (lines_before s.around)
 before_each text path p s =
-    let front = option_line (tree text).envelope in
+    let front = option_to_list (tree text).envelope in
     let following = lines_before s.around ++ (print p.entity ++ lines_after s.around) in
     let each = each_line (front ++ following) (all_lines text path p s) in
     (each_front front following each, each_front (lines_before s.around) (print p.entity ++ lines_after s.around) (each_back front following each))
 
-pub after_are : (text path : List ℕ) (p : Placed) (s : IsSite text path p) → AreLines (option_line (entity_head p.entity).separator ++ body_lines p.entity)
+pub after_are : (text path : List ℕ) (p : Placed) (s : IsSite text path p) → AreLines (option_to_list (entity_head p.entity).separator ++ body_lines p.entity)
 after_are text path p s = lines_following (field_lines p.entity) (after_fields p.entity) (subst AreLines (entity_lines p.entity) (entity_are text path p s))
 
 pub body_cut : (text path : List ℕ) (p : Placed) (s : IsSite text path p) → cut (body_text p) ≡ body_lines p.entity
-body_cut text path p s = cut_text (body_lines p.entity) (lines_following (option_line (entity_head p.entity).separator) (body_lines p.entity) (after_are text path p s))
+body_cut text path p s = cut_text (body_lines p.entity) (lines_following (option_to_list (entity_head p.entity).separator) (body_lines p.entity) (after_are text path p s))
 
 -- where no line opens early, the new fields are lines
 pub early_middle : (xs ys zs : List TextLine) → is_open_early (xs ++ (ys ++ zs)) ≡ false → is_open_early ys ≡ false
 early_middle xs ys zs h =
-    let a = or_parts (is_open_early xs) ((last_open xs && has_line (ys ++ zs)) || is_open_early (ys ++ zs)) (sym (early_join xs (ys ++ zs)) ∙ h) in
-    let b = or_parts (last_open xs && has_line (ys ++ zs)) (is_open_early (ys ++ zs)) a.1 in
-    (or_parts (is_open_early ys) ((last_open ys && has_line zs) || is_open_early zs) (sym (early_join ys zs) ∙ b.1)).0
+    let a = or_parts (is_open_early xs) ((last_open xs && not (is_nil (ys ++ zs))) || is_open_early (ys ++ zs)) (sym (early_join xs (ys ++ zs)) ∙ h) in
+    let b = or_parts (last_open xs && not (is_nil (ys ++ zs))) (is_open_early (ys ++ zs)) a.1 in
+    (or_parts (is_open_early ys) ((last_open ys && not (is_nil zs)) || is_open_early zs) (sym (early_join ys zs) ∙ b.1)).0
 
 abbrev pub IsClosed : (text path : List ℕ) (p : Placed) → IsSite text path p → LinePut → Type 0
 IsClosed text path p s q = is_open_early (document_lines (planned (tree text).envelope (put_plan s.around p.entity q))) ≡ false
@@ -95,7 +95,7 @@ put_are text path edit p s q h c =
     let fields = lines_put q in
     let t = tree text in
     are_lines fields ((new_put text path edit p s q h).lines (fields_each p.entity (each_line (print p.entity) (entity_are text path p s))))
-    (early_middle (option_line t.envelope ++ lines_before s.around) fields (after_fields p.entity ++ lines_after s.around)
+    (early_middle (option_to_list t.envelope ++ lines_before s.around) fields (after_fields p.entity ++ lines_after s.around)
     (ap is_open_early (sym (apart t.envelope s.around (with_fields fields p.entity) fields (after_fields p.entity) (changed_lines fields p.entity))) ∙ c))
 
 put_run : (text path : List ℕ) (edit : FieldEdit) (p : Placed) (s : IsSite text path p) (q : LinePut) → IsPutAt edit p q → IsRun false (lines_put q)
@@ -116,7 +116,7 @@ pub no_text : (bytes : List ℕ) → 0 < length bytes → is_nil bytes ≡ false
 no_text [] h = let none : 0 < 0 = h in absurd (omega arith)
 no_text (b ∷ bs) h = refl
 
-pub nil_told : (fields : List TextLine) → AreLines fields → is_nil (text_of fields) ≡ not (has_line fields)
+pub nil_told : (fields : List TextLine) → AreLines fields → is_nil (text_of fields) ≡ not (not (is_nil fields))
 nil_told [] a = refl
 nil_told (l ∷ ls) a = no_text (text_of (l ∷ ls)) (some_text l ls a.0)
 
@@ -153,14 +153,14 @@ abbrev pub look_there : (text path : List ℕ) (p : Placed) → IsSite text path
 look_there text path p s q = ends_there (is_nil (put_head p q)) (is_first s.numbers p.start) (entity_head p.entity).separator (cut (body_text p))
 
 look_is : (text path : List ℕ) (edit : FieldEdit) (p : Placed) (s : IsSite text path p) (q : LinePut) → IsPutAt edit p q → IsClosed text path p s q
-    → look_there text path p s q ≡ ends_there (not (has_line (lines_put q))) (begins_root (tree text).envelope s.around) (entity_head p.entity).separator (body_lines p.entity)
+    → look_there text path p s q ≡ ends_there (not (not (is_nil (lines_put q)))) (begins_root (tree text).envelope s.around) (entity_head p.entity).separator (body_lines p.entity)
 look_is text path edit p s q h c =
     let separator = (entity_head p.entity).separator in
     let first = is_first s.numbers p.start in
     ap (λ x. ends_there x first separator (cut (body_text p))) (ap is_nil (head_is text path edit p s q h) ∙ nil_told (lines_put q) (put_are text path edit p s q h c))
-    ∙ (ap (λ x. ends_there (not (has_line (lines_put q))) x separator (cut (body_text p)))
+    ∙ (ap (λ x. ends_there (not (not (is_nil (lines_put q)))) x separator (cut (body_text p)))
     (ap (λ (x : Placed). is_first s.numbers x.start) s.placed_is ∙ first_is s.numbers (tree text).envelope s.around (as_long s.numbers (tree text).root s.around p.entity s.found) (before_each text path p s).0)
-    ∙ ap (ends_there (not (has_line (lines_put q))) (begins_root (tree text).envelope s.around) separator) (body_cut text path p s))
+    ∙ ap (ends_there (not (not (is_nil (lines_put q)))) (begins_root (tree text).envelope s.around) separator) (body_cut text path p s))
 
 ends_stay : (text path : List ℕ) (edit : FieldEdit) (p : Placed) (s : IsSite text path p) (q : LinePut) → IsPutAt edit p q → IsClosed text path p s q
     → ((look_there text path p s q ≡ true) ↔ (HeaderEnds (lines_put q) (entity_head p.entity).separator (body_lines p.entity) × RootFits (tree text).envelope s.around (with_fields (lines_put q) p.entity)))
@@ -170,8 +170,8 @@ ends_stay text path edit p s q h c =
     let envelope = (tree text).envelope in
     let separator = (entity_head e).separator in
     let told =
-    head_told fields separator (body_lines e) (begins_root envelope s.around) (has_line (field_lines e)) (put_run text path edit p s q h) (split_of (left_at levels s.around) (default_at false s.around) e s.well).next
-    (each_front (option_line separator) (body_lines e) (each_line (option_line separator ++ body_lines e) (after_are text path p s))) in
+    head_told fields separator (body_lines e) (begins_root envelope s.around) (not (is_nil (field_lines e))) (put_run text path edit p s q h) (split_of (left_at levels s.around) (default_at false s.around) e s.well).next
+    (each_front (option_to_list separator) (body_lines e) (each_line (option_to_list separator ++ body_lines e) (after_are text path p s))) in
     let root = root_told envelope s.around (with_fields fields e) in
     let same = look_is text path edit p s q h c in (
       (λ k. let r = told.0 (sym same ∙ k) in (r.0, root.0 (λ x. subst BeginsPlain (sym (changed_lines fields e)) (r.1 x)))),

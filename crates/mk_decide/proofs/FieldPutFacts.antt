@@ -13,7 +13,8 @@ use Rattle.mk_decide.specs.declared.field_edits.Put.{Put}
 use Rattle.mk_decide.specs.Edits.{Refusal, BadField, BadName}
 use Rattle.mk_line.specs.Kinds.{is_name}
 use Rattle.mk_decide.specs.FieldEdits.{Found, field_at, after_name, renamed}
-use Rattle.mk_decide.specs.FieldPuts.{LinePut, add_put, set_put, name_put, put_unless, put_found, puts, PutsLines, IsPut}
+use Rattle.mk_decide.specs.FieldPuts.{LinePut, add_put, set_put, name_put, put_unless, puts, PutsLines, IsPut}
+use Rattle.mk_decide.specs.Plans.{with_field}
 use Rattle.mk_decide.proofs.Runs.{IsFound, FoundIn, field_is}
 use Rattle.mk_decide.proofs.Counting.{name_before}
 
@@ -32,7 +33,7 @@ unless_puts : (fields : List TextLine) (t : Bool) (e : Refusal) (q : LinePut) �
 unless_puts fields true e q h = tt
 unless_puts fields false e q h = h
 
-found_puts : (fields : List TextLine) (o : Option Found) (g : Found → Result LinePut Refusal) → FoundIn fields o → ((f : Found) → IsFound fields f → Puts fields (g f)) → Puts fields (put_found o g)
+found_puts : (fields : List TextLine) (o : Option Found) (g : Found → Result LinePut Refusal) → FoundIn fields o → ((f : Found) → IsFound fields f → Puts fields (g f)) → Puts fields (with_field o g)
 found_puts fields None g h k = tt
 found_puts fields (Some f) g h k = k f h
 

@@ -8,17 +8,18 @@ use Rattle.mk_tree.specs.Spans.{size}
 use Rattle.mk_decide.specs.declared.field_edits.Put.{Put}
 use Rattle.mk_decide.specs.Edits.{Refusal, NoSuchField}
 use Rattle.mk_decide.specs.FieldEdits.{Found, after_name, renamed}
-use Rattle.mk_decide.specs.FieldPuts.{LinePut, add_put, set_put, name_put, put_unless, put_found, PutsLines, IsPut, IsFieldAt, first_line_size, after_field_name}
+use Rattle.mk_decide.specs.FieldPuts.{LinePut, add_put, set_put, name_put, put_unless, PutsLines, IsPut, IsFieldAt, first_line_size, after_field_name}
+use Rattle.mk_decide.specs.Plans.{with_field}
 use Rattle.mk_decide.proofs.Counting.{name_before}
 
 pub put_by : (r : Put) (x y : Result LinePut Refusal) → y ≡ x → IsPut r x → IsPut r y
 put_by r x y e h = subst (IsPut r) (sym e) h
 
-pub found_put : (o : Option Found) (f : Found) (g : Found → Result LinePut Refusal) → o ≡ Some f → put_found o g ≡ g f
-found_put o f g e = ap (λ q. put_found q g) e
+pub found_put : (o : Option Found) (f : Found) (g : Found → Result LinePut Refusal) → o ≡ Some f → with_field o g ≡ g f
+found_put o f g e = ap (λ q. with_field q g) e
 
-pub missing_put : (o : Option Found) (g : Found → Result LinePut Refusal) → o ≡ None → put_found o g ≡ Err NoSuchField
-missing_put o g e = ap (λ q. put_found q g) e
+pub missing_put : (o : Option Found) (g : Found → Result LinePut Refusal) → o ≡ None → with_field o g ≡ Err NoSuchField
+missing_put o g e = ap (λ q. with_field q g) e
 
 pub may_put : (t : Bool) (e : Refusal) (p : LinePut) → t ≡ true → put_unless (not t) e p ≡ Ok p
 may_put t e p h = rw h refl

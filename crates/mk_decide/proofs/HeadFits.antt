@@ -5,8 +5,9 @@ use Rattle.std.proofs.lemmas.Bool.{cases_Bool, eqb-true}
 use Rattle.std.specs.List.{starts_with}
 use Rattle.mk_line.specs.Lines.{TextLine, is_nil}
 use Rattle.mk_line.specs.Kinds.{is_field_start, is_from_line}
-use Rattle.mk_head.specs.Split.{is_empty, option_line}
-use Rattle.mk_head.specs.Splits.{IsRun, has_line, Follows}
+use Rattle.mk_head.specs.Split.{is_empty}
+use Rattle.std.specs.Option.{option_to_list}
+use Rattle.mk_head.specs.Splits.{IsRun, Follows}
 use Rattle.mk_tree.specs.Tree.{Entity, print}
 use Rattle.mk_tree.specs.Spans.{size}
 use Rattle.mk_tree.specs.Places.{Frame, lines_before}
@@ -39,11 +40,11 @@ pub plain_some : (fields : List TextLine) (l : TextLine) (body : List TextLine) 
 plain_some [] l body r h = nil_from l.content h
 plain_some (f ∷ fields) l body r h = start_from f.content (belongs_start f r.0)
 
-pub plain_none : (fields body : List TextLine) → IsRun false fields → (has_line fields ≡ false → BeginsPlain body) → BeginsPlain (fields ++ body)
+pub plain_none : (fields body : List TextLine) → IsRun false fields → (not (is_nil fields) ≡ false → BeginsPlain body) → BeginsPlain (fields ++ body)
 plain_none [] body r h = h refl
 plain_none (f ∷ fields) body r h = start_from f.content (belongs_start f r.0)
 
-bare_plain : (fields body : List TextLine) → has_line fields ≡ false → BeginsPlain (fields ++ body) → BeginsPlain body
+bare_plain : (fields body : List TextLine) → not (is_nil fields) ≡ false → BeginsPlain (fields ++ body) → BeginsPlain body
 bare_plain [] body n h = h
 bare_plain (f ∷ fields) body n h = true_false n
 
@@ -51,11 +52,11 @@ bare_plain (f ∷ fields) body n h = true_false n
 there_some : (none first : Bool) (l : TextLine) (body : List TextLine) → has_separator (Some l) ≡ true → ends_there none first (Some l) body ≡ true
 there_some none first l body h = rw h refl
 
-pub head_told : (fields : List TextLine) (o : Option TextLine) (body : List TextLine) (first old : Bool) → IsRun false fields → Follows old o body → Each (option_line o)
-    → ((ends_there (not (has_line fields)) first o body ≡ true) ↔ (HeaderEnds fields o body × (first ≡ true → BeginsPlain (fields ++ (option_line o ++ body)))))
-head_told fields (Some l) body first old r f e = ((λ h. (tt, λ q. plain_some fields l body r f)), (λ k. there_some (not (has_line fields)) first l body (separator_there l e.0)))
+pub head_told : (fields : List TextLine) (o : Option TextLine) (body : List TextLine) (first old : Bool) → IsRun false fields → Follows old o body → Each (option_to_list o)
+    → ((ends_there (not (not (is_nil fields))) first o body ≡ true) ↔ (HeaderEnds fields o body × (first ≡ true → BeginsPlain (fields ++ (option_to_list o ++ body)))))
+head_told fields (Some l) body first old r f e = ((λ h. (tt, λ q. plain_some fields l body r f)), (λ k. there_some (not (not (is_nil fields))) first l body (separator_there l e.0)))
 head_told fields None body first old r f e =
-    let told = ends_told (has_line fields) first old body f in (
+    let told = ends_told (not (is_nil fields)) first old body f in (
       (λ h. let t = told.0 h in (follow_ends fields None body r t.0, λ q. plain_none fields body r (λ n. t.1 n q))),
       (λ k. told.1 (ends_follow old fields None body body f k.0, λ n q. bare_plain fields body n (k.1 q))),
     )
@@ -82,7 +83,7 @@ some_start n h =
     ]
 
 -- the section's numbers and its start tell it
-pub first_is : (numbers : List ℕ) (envelope : Option TextLine) (fs : List Frame) → length fs ≡ length numbers → Each (option_line envelope) → is_first numbers (size (option_line envelope ++ lines_before fs)) ≡ begins_root envelope fs
+pub first_is : (numbers : List ℕ) (envelope : Option TextLine) (fs : List Frame) → length fs ≡ length numbers → Each (option_to_list envelope) → is_first numbers (size (option_to_list envelope ++ lines_before fs)) ≡ begins_root envelope fs
 first_is [] None [] h e = refl
 first_is [] (Some l) [] h e = some_start (size (l ∷ [])) (some_text l [] e.0)
 first_is [] o (f ∷ fs) h e = none_more (length fs) (sym h)

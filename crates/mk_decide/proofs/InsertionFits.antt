@@ -2,10 +2,11 @@
 use Rattle.std.proofs.Common.{◌≡◌, ◌↔◌, ◌==◌, ◌&&◌, ◌||◌, ◌+◌, ◌<◌, ◌++◌, ℕ, zero, suc, Bool, true, false, not, Option, None, Some, Ok, List, [], ◌∷◌, refl, ap, sym, ◌∙◌, subst, length, arith, inl, inr, append_assoc}
 use Rattle.std.proofs.lemmas.Bool.{cases_Bool, eqb-true}
 use Rattle.mk_line.specs.declared.cutting.Ending.{Ending}
-use Rattle.mk_line.specs.Lines.{TextLine, cut, text_of, eol_of, is_open, AreLines}
+use Rattle.mk_line.specs.Lines.{TextLine, cut, text_of, eol_of, is_open, AreLines, is_nil}
 use Rattle.mk_line.proofs.Cuts.{text_cut, cut_text, lines_cut, text_append}
-use Rattle.mk_head.specs.Split.{Head, is_start, head_lines, option_line}
-use Rattle.mk_head.specs.Splits.{IsRun, has_line, Stops, Follows}
+use Rattle.mk_head.specs.Split.{Head, is_start, head_lines}
+use Rattle.std.specs.Option.{option_to_list}
+use Rattle.mk_head.specs.Splits.{IsRun, Stops, Follows}
 use Rattle.mk_tree.specs.Cutting.{tail_lines}
 use Rattle.mk_tree.specs.Kinds.{Message, Multi, kind, kind_at}
 use Rattle.mk_tree.specs.Tree.{Entity, leaf, message, multi, Parts, no_parts, part, print, print_parts, entity_head, field_lines}
@@ -60,7 +61,7 @@ bare_kind zero d b g e = multi_leaf b g (sym e)
 bare_kind (suc n) true b g e = let none : Message ≡ Multi b g = sym typed ∙ e in cc
 bare_kind (suc n) false b g e = multi_leaf b g (sym e ∙ untyped (suc n))
 
-some_fields : (n : ℕ) (d : Bool) (b : List ℕ) (g : Bool) (fields : List TextLine) → kind_at n fields d ≡ Multi b g → has_line fields ≡ true
+some_fields : (n : ℕ) (d : Bool) (b : List ℕ) (g : Bool) (fields : List TextLine) → kind_at n fields d ≡ Multi b g → not (is_nil fields) ≡ true
 some_fields n d b g [] e = absurd (bare_kind n d b g e)
 some_fields n d b g (l ∷ ls) e = refl
 
@@ -121,8 +122,8 @@ body_told eol b start head [] no_parts x old_after after tail e f s =
       (λ h. test ∙ stops_delimiter eol b ((print x ++ print_parts after) ++ tail) h),
     )
 
-ends_by : (fields : List TextLine) (o : Option TextLine) (start head : ℕ) (eol : Ending) (b : List ℕ) (pre : List TextLine) (before : Parts) (x : Entity) (after : Parts) (tail : List TextLine) → has_line fields ≡ true → IsRun false fields → Each (option_line o) → Each pre → Each (print_parts before)
-    → Follows (has_line fields) o (pre ++ (print_parts (append_parts before after) ++ tail))
+ends_by : (fields : List TextLine) (o : Option TextLine) (start head : ℕ) (eol : Ending) (b : List ℕ) (pre : List TextLine) (before : Parts) (x : Entity) (after : Parts) (tail : List TextLine) → not (is_nil fields) ≡ true → IsRun false fields → Each (option_to_list o) → Each pre → Each (print_parts before)
+    → Follows (not (is_nil fields)) o (pre ++ (print_parts (append_parts before after) ++ tail))
     → ((look o start head (start + (head + size (pre ++ print_parts before))) (delimiter_line eol b) ≡ true) ↔ HeaderEnds fields o (pre ++ (print_parts (append_parts before (part (delimiter_line eol b) x after)) ++ tail)))
 ends_by fields (Some l) start head eol b pre before x after tail m r e f g s = ((λ h. tt), (λ h. rw (separator_there l e.0) refl))
 ends_by fields None start head eol b pre before x after tail m r e f g s =
@@ -130,7 +131,7 @@ ends_by fields None start head eol b pre before x after tail m r e f g s =
     let old = pre ++ (print_parts (append_parts before after) ++ tail) in
     let told = body_told eol b start head pre before x after after tail f g (subst (λ t. Stops t old) m s) in (
       (λ h. follow_ends fields None new r (subst (λ t. Stops t new) (sym m) (told.0 h))),
-      (λ h. told.1 (subst (λ t. Stops t new) m (ends_follow (has_line fields) fields None old new s h))),
+      (λ h. told.1 (subst (λ t. Stops t new) m (ends_follow (not (is_nil fields)) fields None old new s h))),
     )
 
 -- the new multipart
@@ -162,8 +163,8 @@ ends_told text path p s h b pre ps t i eol x q a =
     let n = left_at levels s.around in
     let d = default_at false s.around in
     ends_by h.fields h.separator p.start (size (head_lines h)) eol b pre q.0 x q.1 (tail_lines t) (some_fields n d b (digest_below d h) h.fields i.well.1) i.well.0.run
-    (each_back h.fields (option_line h.separator) head) (each_front pre (print_parts ps ++ tail_lines t) body) before
-    (subst (λ qs. Follows (has_line h.fields) h.separator (pre ++ (print_parts qs ++ tail_lines t))) (sym a) i.well.0.next)
+    (each_back h.fields (option_to_list h.separator) head) (each_front pre (print_parts ps ++ tail_lines t) body) before
+    (subst (λ qs. Follows (not (is_nil h.fields)) h.separator (pre ++ (print_parts qs ++ tail_lines t))) (sym a) i.well.0.next)
 
 -- it may stand where the old one stood
 outer_stays : (text path : List ℕ) (p : Placed) (s : IsSite text path p) (h : Head) (b : List ℕ) (pre : List TextLine) (ps : Parts) (t : Option (TextLine × List TextLine)) → IsSpot text path p s h b pre ps t → frames_glued false s.around ≡ false
@@ -183,9 +184,9 @@ first_stays text path p s h b pre ps qs t i =
     let n = left_at levels s.around in
     let d = default_at false s.around in
     let rest = pre ++ (print_parts qs ++ tail_lines t) in
-    let some : has_line h.fields ≡ true = some_fields n d b (digest_below d h) h.fields i.well.1 in
+    let some : not (is_nil h.fields) ≡ true = some_fields n d b (digest_below d h) h.fields i.well.1 in
     (root_told (tree text).envelope s.around (multi h b pre qs t)).0
-    (λ q. subst BeginsPlain (sym (append_assoc h.fields (option_line h.separator) rest)) (plain_none h.fields (option_line h.separator ++ rest) i.well.0.run (λ e. true_false (sym some ∙ e))))
+    (λ q. subst BeginsPlain (sym (append_assoc h.fields (option_to_list h.separator) rest)) (plain_none h.fields (option_to_list h.separator ++ rest) i.well.0.run (λ e. true_false (sym some ∙ e))))
 
 -- the made line and those given
 given_are : (text path : List ℕ) (p : Placed) (s : IsSite text path p) (h : Head) (b : List ℕ) (pre : List TextLine) (ps : Parts) (t : Option (TextLine × List TextLine)) → IsSpot text path p s h b pre ps t → (eol : Ending) → is_open eol ≡ false → (given : List ℕ) → AreLines (delimiter_line eol b ∷ cut given)
@@ -193,7 +194,7 @@ given_are text path p s h b pre ps t i eol c given =
     let n = left_at levels s.around in
     let d = default_at false s.around in
     let each = each_line (print (multi h b pre ps t)) i.lines in
-    let fields = each_front h.fields (option_line h.separator) (each_front (head_lines h) (pre ++ (print_parts ps ++ tail_lines t)) each) in
+    let fields = each_front h.fields (option_to_list h.separator) (each_front (head_lines h) (pre ++ (print_parts ps ++ tail_lines t)) each) in
     (delimiter_is eol b c (read_bound n h.fields d b (digest_below d h) fields i.well.1), (λ m. true_false (ap is_open (sym m) ∙ c)), lines_cut given)
 
 made_text : (l : TextLine) (given : List ℕ) → text_of (l ∷ []) ++ given ≡ text_of (l ∷ cut given)

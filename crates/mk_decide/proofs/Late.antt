@@ -1,10 +1,9 @@
 -- The reasons from OpenLine to Recut hold exactly where the edited document isn't stable.
 use Rattle.std.proofs.Common.{◌≡◌, ◌++◌, if◌then◌else◌, ℕ, Bool, true, false, not, Option, None, Some, Result, Ok, Err, List, [], ◌∷◌, refl, sym, ◌∙◌, subst, suc, length}
 use Rattle.mk_line.specs.declared.cutting.Ending.{Ending}
-use Rattle.mk_line.specs.Lines.{TextLine, text_line, cut, is_open, eol_of, AreLines}
+use Rattle.mk_line.specs.Lines.{TextLine, text_line, cut, is_open, eol_of, AreLines, is_nil}
 use Rattle.mk_line.proofs.Cuts.{lines_cut}
 use Rattle.mk_head.specs.Split.{Head, head_lines}
-use Rattle.mk_head.specs.Splits.{has_line}
 use Rattle.mk_tree.specs.Cutting.{Unmarked, tail_lines}
 use Rattle.mk_tree.specs.Tree.{Entity, leaf, message, multi, Parts, part, read, print, print_parts, field_lines, with_fields}
 use Rattle.mk_tree.specs.Documents.{Document, levels, printed, document_lines, IsStable}
@@ -28,7 +27,8 @@ use Rattle.mk_decide.specs.FieldEdits.{field_at, renamed}
 use Rattle.mk_decide.proofs.Answered.{Holds, unless_holds, field_holds, place_holds}
 use Rattle.mk_line.specs.Marks.{delimiter_line, close_line}
 use Rattle.mk_head.specs.Types.{type_line}
-use Rattle.mk_decide.specs.Wrapping.{ended_lines, separator_or, other_fields, version_lines, inner_head, inner_part}
+use Rattle.mk_decide.specs.Wrapping.{ended_lines, other_fields, version_lines, inner_head, inner_part}
+use Rattle.std.specs.Prelude.{unwrap_or}
 use Rattle.mk_decide.specs.Plans.{Plan, plain_plan, fields_plan, add_plan, drop_plan, rename_plan, change_plan, unless, set_body, parts_at, part_read, part_plan, insert_between, insert, last_without, remove, wrap, plan_at, place_of, plan_of, planned}
 use Rattle.mk_decide.specs.Outcomes.{has_mark, hit, or_own, hit_level, unless_hit, judged, judged_by}
 use Rattle.mk_decide.specs.EditLaws.{IsJudged, StabilityReasons}
@@ -95,7 +95,7 @@ pub renamed_unmarked : (l : TextLine) (before after : List TextLine) (b : List �
 renamed_unmarked l before after b u = ((unmarked_right b before (l ∷ after) u).0, tt)
 
 body_fair : (eol : Ending) (fs : List Frame) (s : Entity) (given : List TextLine) → Holds IsFair (set_body eol fs s given)
-body_fair eol fs (leaf h ls) given = plain_fair fs (leaf (record { fields = h.fields; separator = Some (separator_or eol h.separator) }) given) given (λ b u. unmarked_right b (h.fields ++ (separator_or eol h.separator ∷ [])) given u)
+body_fair eol fs (leaf h ls) given = plain_fair fs (leaf (record { fields = h.fields; separator = Some (unwrap_or h.separator (text_line [] eol)) }) given) given (λ b u. unmarked_right b (h.fields ++ (unwrap_or h.separator (text_line [] eol) ∷ [])) given u)
 body_fair eol fs (message h e) given = tt
 body_fair eol fs (multi h b pre ps t) given = tt
 
@@ -142,7 +142,7 @@ end_unmarked b eol true ls u = u
 end_unmarked b eol false ls u = ended_unmarked b eol ls u
 
 body_unmarked : (b : List ℕ) (eol : Ending) (fs : List Frame) (s : Entity) → Unmarked b (print (inner_part eol fs s)) → Unmarked b (body_lines s)
-body_unmarked b eol fs (leaf h ls) u = end_unmarked b eol (has_line (lines_after fs)) ls (unmarked_right b (head_lines (inner_head eol h)) (if has_line (lines_after fs) then ls else ended_lines eol ls) u)
+body_unmarked b eol fs (leaf h ls) u = end_unmarked b eol (not (is_nil (lines_after fs))) ls (unmarked_right b (head_lines (inner_head eol h)) (if not (is_nil (lines_after fs)) then ls else ended_lines eol ls) u)
 body_unmarked b eol fs (message h e) u = unmarked_right b (head_lines (inner_head eol h)) (print e) u
 body_unmarked b eol fs (multi h c pre ps t) u = unmarked_right b (head_lines (inner_head eol h)) (pre ++ (print_parts ps ++ tail_lines t)) u
 

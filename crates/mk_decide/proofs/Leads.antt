@@ -2,7 +2,7 @@
 use Rattle.std.proofs.Common.{◌≡◌, ◌+◌, ◌++◌, if◌then◌else◌, ℕ, Bool, true, false, Option, List, [], ◌∷◌, refl, ap, sym, ◌∙◌, subst, length, arith, append_assoc, length-append, add-zero}
 use Rattle.mk_line.specs.Lines.{TextLine, text_of, cut, printed_line, ending_bytes}
 use Rattle.mk_line.proofs.Cuts.{text_append, text_cut, append_nil}
-use Rattle.mk_head.specs.Split.{option_line}
+use Rattle.std.specs.Option.{option_to_list}
 use Rattle.mk_head.specs.Fields.{name_of}
 use Rattle.mk_tree.specs.Tree.{Entity, print, field_lines, with_fields}
 use Rattle.mk_tree.specs.Documents.{printed}
@@ -43,18 +43,18 @@ pub record Within (s n : Entity) (at : ℕ) (old new : List ℕ) : Type 0 where
   pub after : text_of (print n) ≡ front ++ (new ++ following)
 
 put_text : (envelope : Option TextLine) (fs : List Frame) (s : Entity) (front mid following : List ℕ) → text_of (print s) ≡ front ++ (mid ++ following)
-    → printed (put envelope fs s) ≡ (text_of (option_line envelope ++ lines_before fs) ++ front) ++ (mid ++ (following ++ text_of (lines_after fs)))
+    → printed (put envelope fs s) ≡ (text_of (option_to_list envelope ++ lines_before fs) ++ front) ++ (mid ++ (following ++ text_of (lines_after fs)))
 put_text envelope fs s front mid following e =
-    let all = option_line envelope ++ lines_before fs in
-    ap (λ ls. text_of (option_line envelope ++ ls)) (print_plug fs s)
-    ∙ (ap text_of (sym (append_assoc (option_line envelope) (lines_before fs) (print s ++ lines_after fs)))
+    let all = option_to_list envelope ++ lines_before fs in
+    ap (λ ls. text_of (option_to_list envelope ++ ls)) (print_plug fs s)
+    ∙ (ap text_of (sym (append_assoc (option_to_list envelope) (lines_before fs) (print s ++ lines_after fs)))
     ∙ (text_append all (print s ++ lines_after fs)
     ∙ (ap (λ t. text_of all ++ t) (text_append (print s) (lines_after fs))
     ∙ (ap (λ t. text_of all ++ (t ++ text_of (lines_after fs))) e ∙ simp append_assoc refl))))
 
 pub put_led : (envelope : Option TextLine) (fs : List Frame) (s n : Entity) (at : ℕ) (old new : List ℕ) → Within s n at old new → Led (printed (put envelope fs s)) (printed (put envelope fs n)) (one_splice ((placed envelope fs s).start + at) old new)
 put_led envelope fs s n at old new w =
-    let all = option_line envelope ++ lines_before fs in
+    let all = option_to_list envelope ++ lines_before fs in
     let start : size all + at ≡ length (text_of all ++ w.front) = omega (arith, w.at_is, length-append (text_of all) w.front) in
     record {
       front = text_of all ++ w.front;

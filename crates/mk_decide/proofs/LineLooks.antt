@@ -10,7 +10,7 @@ use Rattle.mk_line.proofs.Cuts.{text_cut, append_nil}
 use Rattle.mk_tree.specs.Tree.{Entity, print, field_lines, entity_head}
 use Rattle.mk_tree.specs.Sections.{body_lines}
 use Rattle.mk_tree.specs.Spans.{size}
-use Rattle.mk_head.specs.Split.{option_line}
+use Rattle.std.specs.Option.{option_to_list}
 use Rattle.mk_tree.proofs.OwnFields.{size_entity}
 use Rattle.mk_decide.proofs.Walking.{first_is, none_is, begins_far, begins_next, cut_next, line_size}
 use Rattle.mk_decide.specs.Looks.{IsNext, IsEnd, has_separator}
@@ -46,7 +46,7 @@ end_is text place e = let none = none_is (cut (drop place text)) e in record { l
 -- the sizes of an entity's lines tell whether a separator is there
 pub separator_by_size : (e : Entity) (whole fields body : ℕ) → whole ≡ size (print e) → fields ≡ size (field_lines e) → body ≡ size (body_lines e) → nat_lt body (whole - fields) ≡ has_separator (entity_head e).separator
 separator_by_size e whole fields body p q r =
-    let n = size (option_line (entity_head e).separator) in
+    let n = size (option_to_list (entity_head e).separator) in
     elim (cases_Bool (nat_lt 0 n)) [
       | inl h ↦ rw h (let some : 0 < n = ltb-true 0 n h in let all : body < whole - fields = omega (arith, some, p, q, r, size_entity e) in lt-ltb body (whole - fields) all)
       | inr h ↦ rw h (let none : n ≤ 0 = ltb-false 0 n h in let all : whole - fields ≤ body = omega (arith, none, p, q, r, size_entity e) in le-ltb body (whole - fields) all)

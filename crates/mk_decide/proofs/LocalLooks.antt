@@ -3,7 +3,8 @@ use Rattle.std.proofs.Common.{◌≡◌, ◌↔◌, ◌&&◌, ◌++◌, Bool, tr
 use Rattle.std.proofs.lemmas.Bool.{or_parts, lt-ltb}
 use Rattle.mk_line.specs.Lines.{TextLine, IsLine}
 use Rattle.mk_line.specs.Kinds.{is_from_line}
-use Rattle.mk_head.specs.Split.{Head, is_start, is_more, belongs, option_line, head_lines}
+use Rattle.mk_head.specs.Split.{Head, is_start, is_more, belongs, head_lines}
+use Rattle.std.specs.Option.{option_to_list}
 use Rattle.mk_head.specs.Splits.{Stops}
 use Rattle.mk_tree.specs.Tree.{Entity, entity_head, field_lines, print_parts}
 use Rattle.mk_tree.specs.Places.{Frame, in_message, in_multi, lines_before}
@@ -67,12 +68,12 @@ fits_unglued g (f ∷ []) e h = fits_frame f e h
 fits_unglued g (f ∷ k ∷ fs) e h = fits_unglued (frame_glues f) (k ∷ fs) e h
 
 -- after a message without one, only an entity without a head
-bare_after : (fields : List TextLine) (o : Option TextLine) (e : Entity) → Each (option_line o) → not (has_separator o) ≡ true → Continues fields o e → entity_head e ≡ open_head []
+bare_after : (fields : List TextLine) (o : Option TextLine) (e : Entity) → Each (option_to_list o) → not (has_separator o) ≡ true → Continues fields o e → entity_head e ≡ open_head []
 bare_after fields None e s h c = c.0
 bare_after fields (Some l) e s h c = true_false (sym (separator_there l s.0) ∙ not_true (has_separator (Some l)) h)
 
 bare_frame : (f : Frame) (e : Entity) → Each (lines_before (f ∷ [])) → frame_glues f ≡ true → FitsFrame f e → entity_head e ≡ open_head []
-bare_frame (in_message h) e s g c = bare_after h.fields h.separator e (each_back h.fields (option_line h.separator) (each_front (head_lines h) [] s)) g c
+bare_frame (in_message h) e s g c = bare_after h.fields h.separator e (each_back h.fields (option_to_list h.separator) (each_front (head_lines h) [] s)) g c
 bare_frame (in_multi h b pre before l after t) e s g c = false_true g
 
 each_further : (f k : Frame) (fs : List Frame) → Each (lines_before (f ∷ k ∷ fs)) → Each (lines_before (k ∷ fs))

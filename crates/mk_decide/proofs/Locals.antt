@@ -3,7 +3,7 @@
 use Rattle.std.proofs.Common.{◌≡◌, ◌↔◌, ◌++◌, ℕ, Bool, true, false, Option, None, Some, List, refl, sym, subst, suc, length}
 use Rattle.mk_line.specs.Lines.{TextLine, AreLines}
 use Rattle.mk_line.proofs.Cuts.{lines_cut, cut_text}
-use Rattle.mk_head.specs.Split.{option_line}
+use Rattle.std.specs.Option.{option_to_list}
 use Rattle.mk_tree.specs.Cutting.{Unmarked}
 use Rattle.mk_tree.specs.Tree.{Entity, print}
 use Rattle.mk_tree.specs.Documents.{levels, printed, document_lines, IsStable}
@@ -29,19 +29,19 @@ pub record IsEdit (n : ℕ) (d : Bool) (s : Entity) (p : Plan) (Asked : Type 0) 
   pub of_asked : IsWellRead n d s → Each (print s) → Unmarked p.boundary p.inside → Asked → IsWellRead n d p.new
 
 -- the lines of an entity among those of the document
-put_each : (envelope : Option TextLine) (fs : List Frame) (e : Entity) → Each (document_lines (put envelope fs e)) → Each (option_line envelope ++ (lines_before fs ++ (print e ++ lines_after fs)))
-put_each envelope fs e h = subst (λ ls. Each (option_line envelope ++ ls)) (print_plug fs e) h
+put_each : (envelope : Option TextLine) (fs : List Frame) (e : Entity) → Each (document_lines (put envelope fs e)) → Each (option_to_list envelope ++ (lines_before fs ++ (print e ++ lines_after fs)))
+put_each envelope fs e h = subst (λ ls. Each (option_to_list envelope ++ ls)) (print_plug fs e) h
 
 each_there : (envelope : Option TextLine) (fs : List Frame) (e : Entity) → Each (document_lines (put envelope fs e)) → Each (print e)
-each_there envelope fs e h = each_front (print e) (lines_after fs) (each_back (lines_before fs) (print e ++ lines_after fs) (each_back (option_line envelope) (lines_before fs ++ (print e ++ lines_after fs)) (put_each envelope fs e h)))
+each_there envelope fs e h = each_front (print e) (lines_after fs) (each_back (lines_before fs) (print e ++ lines_after fs) (each_back (option_to_list envelope) (lines_before fs ++ (print e ++ lines_after fs)) (put_each envelope fs e h)))
 
 each_put : (envelope : Option TextLine) (fs : List Frame) (s e : Entity) → Each (document_lines (put envelope fs s)) → Each (print e) → Each (document_lines (put envelope fs e))
 each_put envelope fs s e h k =
     let whole = put_each envelope fs s h in
-    let below = each_back (option_line envelope) (lines_before fs ++ (print s ++ lines_after fs)) whole in
+    let below = each_back (option_to_list envelope) (lines_before fs ++ (print s ++ lines_after fs)) whole in
     let following = each_back (print s) (lines_after fs) (each_back (lines_before fs) (print s ++ lines_after fs) below) in
-    subst (λ ls. Each (option_line envelope ++ ls)) (sym (print_plug fs e))
-    (each_join (option_line envelope) (lines_before fs ++ (print e ++ lines_after fs)) (each_front (option_line envelope) (lines_before fs ++ (print s ++ lines_after fs)) whole)
+    subst (λ ls. Each (option_to_list envelope ++ ls)) (sym (print_plug fs e))
+    (each_join (option_to_list envelope) (lines_before fs ++ (print e ++ lines_after fs)) (each_front (option_to_list envelope) (lines_before fs ++ (print s ++ lines_after fs)) whole)
     (each_join (lines_before fs) (print e ++ lines_after fs) (each_front (lines_before fs) (print s ++ lines_after fs) below) (each_join (print e) (lines_after fs) k following)))
 
 some_none : {A : Type 0} (level : ℕ) → ◌≡◌ {A = Option ℕ} (Some level) None → A

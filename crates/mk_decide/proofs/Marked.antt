@@ -8,7 +8,7 @@ use Rattle.mk_line.specs.Marks.{mark}
 use Rattle.mk_tree.specs.Cutting.{Unmarked}
 use Rattle.mk_tree.specs.Tree.{Entity, leaf, message, multi, print, print_parts, with_fields}
 use Rattle.mk_tree.specs.Cutting.{tail_lines}
-use Rattle.mk_head.specs.Split.{option_line}
+use Rattle.std.specs.Option.{option_to_list}
 use Rattle.mk_tree.specs.Places.{Frame, in_message, in_multi}
 use Rattle.mk_tree.specs.Locality.{Unmarked_in}
 use Rattle.mk_tree.proofs.Plugs.{unmarked_left}
@@ -63,6 +63,6 @@ unmarked_both (in_multi h b pre before l after t ∷ fs) xs ys zs f u v = (f b u
 
 -- the fields of an entity are lines of it
 pub fields_unmarked : (b : List ℕ) (fields : List TextLine) (s : Entity) → Unmarked b (print (with_fields fields s)) → Unmarked b fields
-fields_unmarked b fields (leaf h ls) u = unmarked_left b fields (option_line h.separator) (unmarked_left b (fields ++ option_line h.separator) ls u)
-fields_unmarked b fields (message h e) u = unmarked_left b fields (option_line h.separator) (unmarked_left b (fields ++ option_line h.separator) (print e) u)
-fields_unmarked b fields (multi h c pre ps t) u = unmarked_left b fields (option_line h.separator) (unmarked_left b (fields ++ option_line h.separator) (pre ++ (print_parts ps ++ tail_lines t)) u)
+fields_unmarked b fields (leaf h ls) u = unmarked_left b fields (option_to_list h.separator) (unmarked_left b (fields ++ option_to_list h.separator) ls u)
+fields_unmarked b fields (message h e) u = unmarked_left b fields (option_to_list h.separator) (unmarked_left b (fields ++ option_to_list h.separator) (print e) u)
+fields_unmarked b fields (multi h c pre ps t) u = unmarked_left b fields (option_to_list h.separator) (unmarked_left b (fields ++ option_to_list h.separator) (pre ++ (print_parts ps ++ tail_lines t)) u)

@@ -1,9 +1,10 @@
 -- A section under new fields: it is read back exactly where it stays of its kind, its direct parts do, and the fields end
 -- where they ended.
 use Rattle.std.proofs.Common.{◌≡◌, ◌++◌, if◌then◌else◌, ℕ, zero, suc, Bool, true, false, Option, None, Some, List, ap, sym, ◌∙◌, subst, codes}
-use Rattle.mk_line.specs.Lines.{TextLine}
+use Rattle.mk_line.specs.Lines.{TextLine, is_nil}
 use Rattle.mk_head.specs.declared.encodings.Encoding.{Encoding}
-use Rattle.mk_head.specs.Splits.{IsRun, has_line, Follows}
+use Rattle.mk_head.specs.Splits.{IsRun, Follows}
+use Rattle.std.specs.Prelude.{not}
 use Rattle.mk_head.specs.Types.{field_value, type_by, header_encoding}
 use Rattle.mk_tree.specs.Cutting.{tail_lines}
 use Rattle.mk_tree.specs.Kinds.{Leaf, Message, Multi, kind_of, holds_message, kind, kind_at, is_digest}
@@ -16,13 +17,13 @@ use Rattle.mk_tree.proofs.Plugs.{ends_of, of_ends, stops_first, first_stops}
 use Rattle.mk_decide.specs.Local.{IsAlike, AreKept, HeaderEnds, AreFieldsFor}
 
 -- a header that ends before a body
-pub ends_follow : (inside : Bool) (fields : List TextLine) (o : Option TextLine) (old new : List TextLine) → Follows inside o old → HeaderEnds fields o new → Follows (has_line fields) o new
+pub ends_follow : (inside : Bool) (fields : List TextLine) (o : Option TextLine) (old new : List TextLine) → Follows inside o old → HeaderEnds fields o new → Follows (not (is_nil fields)) o new
 ends_follow inside fields (Some l) old new f e = f
-ends_follow inside fields None old new f e = first_stops (has_line fields) new (of_ends fields (first_line new) e).next
+ends_follow inside fields None old new f e = first_stops (not (is_nil fields)) new (of_ends fields (first_line new) e).next
 
-pub follow_ends : (fields : List TextLine) (o : Option TextLine) (body : List TextLine) → IsRun false fields → Follows (has_line fields) o body → HeaderEnds fields o body
+pub follow_ends : (fields : List TextLine) (o : Option TextLine) (body : List TextLine) → IsRun false fields → Follows (not (is_nil fields)) o body → HeaderEnds fields o body
 follow_ends fields (Some l) body r f = tt
-follow_ends fields None body r f = ends_of fields (first_line body) (record { run = r; next = stops_first (has_line fields) body f })
+follow_ends fields None body r f = ends_of fields (first_line body) (record { run = r; next = stops_first (not (is_nil fields)) body f })
 
 leaf_multi : {A : Type 0} (b : List ℕ) (g : Bool) → Leaf ≡ Multi b g → A
 leaf_multi b g e = cc
@@ -76,15 +77,15 @@ parts_kept n d f b (part l e ps) w v = (kind_kept n d f e w.2 v.2, parts_kept n 
 
 pub fields_read : (n : ℕ) (d : Bool) (fields : List TextLine) (s : Entity) → IsRun false fields → IsWellRead n d s → AreFieldsFor n d fields s → IsWellRead n d (with_fields fields s)
 fields_read n d fields (leaf h ls) r w a =
-    (record { run = r; next = ends_follow (has_line h.fields) fields h.separator ls ls w.0.next a.header }, subst (λ k. IsAlike k (kind_at n fields d)) w.1 a.kind)
+    (record { run = r; next = ends_follow (not (is_nil h.fields)) fields h.separator ls ls w.0.next a.header }, subst (λ k. IsAlike k (kind_at n fields d)) w.1 a.kind)
 fields_read n d fields (message h e) r w a =
-    (record { run = r; next = ends_follow (has_line h.fields) fields h.separator (print e) (print e) w.0.next a.header }, subst (λ k. IsAlike k (kind_at n fields d)) w.1 a.kind, w.2)
+    (record { run = r; next = ends_follow (not (is_nil h.fields)) fields h.separator (print e) (print e) w.0.next a.header }, subst (λ k. IsAlike k (kind_at n fields d)) w.1 a.kind, w.2)
 fields_read n d fields (multi h b pre ps t) r w a =
     let body = pre ++ (print_parts ps ++ tail_lines t) in
     let k : kind_at n fields d ≡ Multi b (is_digest (kind_at n fields d)) = subst (λ k. IsAlike k (kind_at n fields d)) w.1 a.kind in
     let new : is_digest (kind fields d) ≡ is_digest (kind_at n fields d) = digest_kind n fields d b (is_digest (kind_at n fields d)) k in
     let kept : AreKept (below n) (digest_below d h) (is_digest (kind_at n fields d)) ps = subst (λ g. AreKept (below n) g (is_digest (kind_at n fields d)) ps) (ap is_digest w.1) a.parts in (
-      record { run = r; next = ends_follow (has_line h.fields) fields h.separator body body w.0.next a.header },
+      record { run = r; next = ends_follow (not (is_nil h.fields)) fields h.separator body body w.0.next a.header },
       k ∙ ap (λ g. Multi b g) (sym new),
       subst (λ g. AreWellRead (below n) g b ps) (sym new) (parts_other (below n) (digest_below d h) (is_digest (kind_at n fields d)) b ps kept w.2),
       w.3,

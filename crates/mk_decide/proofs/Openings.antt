@@ -8,8 +8,7 @@ use Rattle.mk_line.proofs.Cuts.{append_nil}
 use Rattle.mk_decide.specs.Reasons.{is_open_early}
 
 abbrev pub has_line : List TextLine → Bool
-has_line [] = false
-has_line (l ∷ ls) = true
+has_line ls = not (is_nil ls)
 
 -- the last line is open
 abbrev pub last_open : List TextLine → Bool
@@ -28,7 +27,7 @@ no_feed_open : (b : ℕ) (bs : List ℕ) → has_line_feed (b ∷ bs) ≡ false 
 no_feed_open b [] h = ap not (or_parts (b == 10) false h).0
 no_feed_open b (c ∷ bs) h = no_feed_open c bs (or_parts (b == 10) (has_line_feed (c ∷ bs)) h).1
 
-nil_full : {A : Type 0} → is_nil [] ≡ false → A
+nil_full : {A : Type 0} → is_nil {X = ℕ} [] ≡ false → A
 nil_full e = cc
 
 open_content : (content : List ℕ) → IsLine (text_line content Missing) → ends_open content ≡ true

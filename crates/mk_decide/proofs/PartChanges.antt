@@ -1,13 +1,14 @@
 -- New sections, bodies and parts show of themselves what an edit has to.
 use Rattle.std.proofs.Common.{◌≡◌, ◌++◌, ℕ, zero, suc, Bool, true, false, Option, None, Some, List, [], ◌∷◌, refl, ap, sym, subst, append_assoc}
-use Rattle.std.specs.Option.{option_map}
+use Rattle.std.specs.Option.{option_map, option_to_list}
 use Rattle.mk_line.specs.declared.cutting.Ending.{Ending}
 use Rattle.mk_line.specs.declared.marks.Mark.TheVariants.{No, Part}
-use Rattle.mk_line.specs.Lines.{TextLine, cut, is_open, IsLine}
+use Rattle.mk_line.specs.Lines.{TextLine, cut, is_open, IsLine, is_nil, text_line}
 use Rattle.mk_line.specs.Marks.{mark, delimiter_line}
 use Rattle.mk_line.proofs.Cuts.{lines_cut}
-use Rattle.mk_head.specs.Split.{Head, is_empty, head_lines, option_line}
-use Rattle.mk_head.specs.Splits.{has_line, Follows}
+use Rattle.mk_head.specs.Split.{Head, is_empty, head_lines}
+use Rattle.mk_head.specs.Splits.{Follows}
+use Rattle.std.specs.Prelude.{not, unwrap_or}
 use Rattle.mk_tree.specs.Cutting.{tail_lines, Unmarked}
 use Rattle.mk_tree.specs.Tree.{Entity, leaf, message, multi, Parts, no_parts, part, read, print, print_parts, entity_head, field_lines}
 use Rattle.mk_tree.specs.Documents.{levels}
@@ -20,7 +21,6 @@ use Rattle.mk_tree.proofs.Kept.{print_read}
 use Rattle.mk_tree.proofs.WellRead.{read_well}
 use Rattle.mk_tree.proofs.Plugs.{unmarked_left, unmarked_right, unmarked_join, print_append}
 use Rattle.mk_decide.specs.Plans.{Plan, read_plan, part_plan, part_read, set_body, insert_between, insert, parts_at}
-use Rattle.mk_decide.specs.Wrapping.{separator_or}
 use Rattle.mk_decide.specs.Local.{HeaderEnds}
 use Rattle.mk_decide.proofs.Openings.{Each, each_line, each_join, each_front, each_back}
 use Rattle.mk_decide.proofs.Answered.{Holds}
@@ -44,15 +44,15 @@ read_edit fs s text =
     }
 
 -- a separator, made or not
-pub separator_line : (eol : Ending) (o : Option TextLine) → is_open eol ≡ false → Each (option_line o) → IsLine (separator_or eol o)
+pub separator_line : (eol : Ending) (o : Option TextLine) → is_open eol ≡ false → Each (option_to_list o) → IsLine (unwrap_or o (text_line [] eol))
 separator_line eol None c e = made_line eol [] c refl refl
 separator_line eol (Some l) c e = e.0
 
-pub separator_mark : (b : List ℕ) (eol : Ending) (o : Option TextLine) → Unmarked b (option_line o) → mark b (separator_or eol o).content ≡ No
+pub separator_mark : (b : List ℕ) (eol : Ending) (o : Option TextLine) → Unmarked b (option_to_list o) → mark b (unwrap_or o (text_line [] eol)).content ≡ No
 separator_mark b eol None u = refl
 separator_mark b eol (Some l) u = u.0
 
-pub separator_empty : (eol : Ending) (inside : Bool) (o : Option TextLine) (ls : List TextLine) → Follows inside o ls → is_empty (separator_or eol o) ≡ true
+pub separator_empty : (eol : Ending) (inside : Bool) (o : Option TextLine) (ls : List TextLine) → Follows inside o ls → is_empty (unwrap_or o (text_line [] eol)) ≡ true
 separator_empty eol inside None ls f = refl
 separator_empty eol inside (Some l) ls f = f
 
@@ -64,22 +64,22 @@ pub body_edit : (eol : Ending) (fs : List Frame) (s : Entity) (text : List ℕ) 
 body_edit eol fs (message h e) text c = tt
 body_edit eol fs (multi h b pre ps t) text c = tt
 body_edit eol fs (leaf h ls) text c =
-    let separator = separator_or eol h.separator in (
+    let separator = unwrap_or h.separator (text_line [] eol) in (
       refl,
       record {
         fair = plain_fair fs (leaf (record { fields = h.fields; separator = Some separator }) (cut text)) (cut text) (λ b u. unmarked_right b (h.fields ++ (separator ∷ [])) (cut text) u);
         lines = λ w k e.
-            let head = each_front (h.fields ++ option_line h.separator) ls e in
+            let head = each_front (h.fields ++ option_to_list h.separator) ls e in
             each_join (h.fields ++ (separator ∷ [])) (cut text)
-            (each_join h.fields (separator ∷ []) (each_front h.fields (option_line h.separator) head) (separator_line eol h.separator c (each_back h.fields (option_line h.separator) head), tt))
+            (each_join h.fields (separator ∷ []) (each_front h.fields (option_to_list h.separator) head) (separator_line eol h.separator c (each_back h.fields (option_to_list h.separator) head), tt))
             (each_line (cut text) (lines_cut text));
         marks = λ b w u v.
-            let head = unmarked_left b (h.fields ++ option_line h.separator) ls u in
+            let head = unmarked_left b (h.fields ++ option_to_list h.separator) ls u in
             unmarked_join b (h.fields ++ (separator ∷ [])) (cut text)
-            (unmarked_join b h.fields (separator ∷ []) (unmarked_left b h.fields (option_line h.separator) head) (separator_mark b eol h.separator (unmarked_right b h.fields (option_line h.separator) head), tt))
+            (unmarked_join b h.fields (separator ∷ []) (unmarked_left b h.fields (option_to_list h.separator) head) (separator_mark b eol h.separator (unmarked_right b h.fields (option_to_list h.separator) head), tt))
             v;
         asked_of = λ w e v. tt;
-        of_asked = λ w e u k. (record { run = w.0.run; next = separator_empty eol (has_line h.fields) h.separator ls w.0.next }, w.1);
+        of_asked = λ w e u k. (record { run = w.0.run; next = separator_empty eol (not (is_nil h.fields)) h.separator ls w.0.next }, w.1);
       },
     )
 
@@ -146,7 +146,7 @@ between_edit eol fs h b pre t text before after c =
       lines = λ w k e.
           let apart = subst Each old e in
           let head = each_front (head_lines h) (pre ++ (print_parts (append_parts before after) ++ tail_lines t)) e in
-          let bound = read_bound n h.fields d b g (each_front h.fields (option_line h.separator) head) w.1 in
+          let bound = read_bound n h.fields d b g (each_front h.fields (option_to_list h.separator) head) w.1 in
           subst Each (sym new) (each_join front ((l ∷ print x) ++ rest) (each_front front rest apart) (each_join (l ∷ print x) rest (delimiter_is eol b c bound, subst Each (sym kept) (each_line (cut text) (lines_cut text))) (each_back front rest apart)));
       marks = λ m w u v.
           let apart = subst (Unmarked m) old u in
@@ -154,8 +154,8 @@ between_edit eol fs h b pre t text before after c =
       asked_of = λ w e v. follow_ends h.fields h.separator (pre ++ (print_parts (append_parts before (part l x after)) ++ tail_lines t)) v.0.run v.0.next;
       of_asked = λ w e u k.
           let head = each_front (head_lines h) (pre ++ (print_parts (append_parts before after) ++ tail_lines t)) e in
-          let bound = read_bound n h.fields d b g (each_front h.fields (option_line h.separator) head) w.1 in (
-            record { run = w.0.run; next = ends_follow (has_line h.fields) h.fields h.separator (pre ++ (print_parts (append_parts before after) ++ tail_lines t)) (pre ++ (print_parts (append_parts before (part l x after)) ++ tail_lines t)) w.0.next k },
+          let bound = read_bound n h.fields d b g (each_front h.fields (option_to_list h.separator) head) w.1 in (
+            record { run = w.0.run; next = ends_follow (not (is_nil h.fields)) h.fields h.separator (pre ++ (print_parts (append_parts before after) ++ tail_lines t)) (pre ++ (print_parts (append_parts before (part l x after)) ++ tail_lines t)) w.0.next k },
             w.1,
             part_added (below n) g b before l x after (delimiter_mark b bound.trimmed_so) (subst (Unmarked b) (sym kept) u) (read_well (below n) g (cut text)) w.2,
             w.3,

@@ -1,10 +1,10 @@
 -- The splices of new bodies, sections and parts, and of parts that go, lead from text to text.
 use Rattle.std.proofs.Common.{◌≡◌, ◌+◌, ◌-◌, ◌++◌, ℕ, zero, suc, false, Option, None, Some, List, [], ◌∷◌, refl, ap, sym, ◌∙◌, subst, arith, append_assoc}
-use Rattle.std.specs.Option.{option_map}
+use Rattle.std.specs.Option.{option_map, option_to_list}
 use Rattle.mk_line.specs.declared.cutting.Ending.{Ending}
-use Rattle.mk_line.specs.Lines.{TextLine, text_of, cut}
+use Rattle.mk_line.specs.Lines.{TextLine, text_of, cut, text_line}
 use Rattle.mk_line.proofs.Cuts.{text_append, text_cut, append_nil}
-use Rattle.mk_head.specs.Split.{Head, head_lines, option_line}
+use Rattle.mk_head.specs.Split.{Head, head_lines}
 use Rattle.mk_tree.specs.Cutting.{tail_lines}
 use Rattle.mk_tree.specs.Tree.{Entity, leaf, message, multi, Parts, no_parts, part, read, print, print_parts, entity_head}
 use Rattle.mk_tree.specs.Documents.{levels, printed}
@@ -14,7 +14,8 @@ use Rattle.mk_tree.specs.Places.{Frame, in_message, in_multi, append_parts, plug
 use Rattle.mk_tree.proofs.Descent.{size_append}
 use Rattle.mk_tree.proofs.Kept.{print_read}
 use Rattle.mk_line.specs.Marks.{delimiter_line}
-use Rattle.mk_decide.specs.Wrapping.{separator_or, wrapped}
+use Rattle.mk_decide.specs.Wrapping.{wrapped}
+use Rattle.std.specs.Prelude.{unwrap_or}
 use Rattle.mk_decide.specs.Plans.{read_plan, plain_plan, part_read, parts_at, set_body, insert, insert_between, without, last_without, remove, wrap}
 use Rattle.mk_splice.specs.Splices.{Splice}
 use Rattle.mk_decide.specs.EditSplices.{one_splice, made_separator, front_lines, part_splices, own_delimiter}
@@ -46,14 +47,14 @@ read_led envelope fs s text =
     put_first envelope fs s new (text_of (print s)) text (subst (Within s new 0 (text_of (print s))) kept (whole_within s new))
 
 -- another body, after the separator or a made one
-pub separated : (eol : Ending) (o : Option TextLine) → separator_or eol o ∷ [] ≡ option_line o ++ made_separator eol o
+pub separated : (eol : Ending) (o : Option TextLine) → unwrap_or o (text_line [] eol) ∷ [] ≡ option_to_list o ++ made_separator eol o
 separated eol None = refl
 separated eol (Some l) = refl
 
-body_text : (eol : Ending) (h : Head) (text : List ℕ) → text_of ((h.fields ++ (separator_or eol h.separator ∷ [])) ++ cut text) ≡ text_of (head_lines h) ++ ((text_of (made_separator eol h.separator) ++ text) ++ [])
+body_text : (eol : Ending) (h : Head) (text : List ℕ) → text_of ((h.fields ++ (unwrap_or h.separator (text_line [] eol) ∷ [])) ++ cut text) ≡ text_of (head_lines h) ++ ((text_of (made_separator eol h.separator) ++ text) ++ [])
 body_text eol h text =
     let made = made_separator eol h.separator in
-    let head : h.fields ++ (separator_or eol h.separator ∷ []) ≡ head_lines h ++ made = ap (λ ls. h.fields ++ ls) (separated eol h.separator) ∙ sym (append_assoc h.fields (option_line h.separator) made) in
+    let head : h.fields ++ (unwrap_or h.separator (text_line [] eol) ∷ []) ≡ head_lines h ++ made = ap (λ ls. h.fields ++ ls) (separated eol h.separator) ∙ sym (append_assoc h.fields (option_to_list h.separator) made) in
     ap (λ ls. text_of (ls ++ cut text)) head
     ∙ (text_append (head_lines h ++ made) (cut text)
     ∙ (ap (λ t. t ++ text_of (cut text)) (text_append (head_lines h) made)
@@ -65,7 +66,7 @@ pub body_led : (envelope : Option TextLine) (eol : Ending) (fs : List Frame) (s 
 body_led envelope eol fs (message h e) text = tt
 body_led envelope eol fs (multi h b pre ps t) text = tt
 body_led envelope eol fs (leaf h ls) text =
-    put_led envelope fs (leaf h ls) (leaf (record { fields = h.fields; separator = Some (separator_or eol h.separator) }) (cut text)) (size (head_lines h)) (text_of ls) (text_of (made_separator eol h.separator) ++ text)
+    put_led envelope fs (leaf h ls) (leaf (record { fields = h.fields; separator = Some (unwrap_or h.separator (text_line [] eol)) }) (cut text)) (size (head_lines h)) (text_of ls) (text_of (made_separator eol h.separator) ++ text)
     (record {
       front = text_of (head_lines h);
       following = [];
@@ -151,11 +152,11 @@ abbrev pub gone_splices : Option TextLine → List Frame → Entity → List Spl
 gone_splices envelope fs s = one_splice ((placed envelope fs s).start - size (own_delimiter fs)) (text_of (own_delimiter fs ++ print s)) []
 
 start_back : (envelope : Option TextLine) (gs : List Frame) (h : Head) (b : List ℕ) (pre : List TextLine) (before : Parts) (l : TextLine) (after : Parts) (t : Option (TextLine × List TextLine))
-    → size (option_line envelope ++ lines_before (gs ++ (in_multi h b pre before l after t ∷ []))) - size (l ∷ []) ≡ size (option_line envelope ++ lines_before gs) + size (front_of h pre before)
+    → size (option_to_list envelope ++ lines_before (gs ++ (in_multi h b pre before l after t ∷ []))) - size (l ∷ []) ≡ size (option_to_list envelope ++ lines_before gs) + size (front_of h pre before)
 start_back envelope gs h b pre before l after t =
-    let around = option_line envelope ++ lines_before gs in
-    let lines : option_line envelope ++ lines_before (gs ++ (in_multi h b pre before l after t ∷ [])) ≡ around ++ (front_of h pre before ++ (l ∷ [])) =
-    ap (λ ls. option_line envelope ++ ls) (before_join gs (in_multi h b pre before l after t ∷ [])) ∙ simp append_assoc refl in
+    let around = option_to_list envelope ++ lines_before gs in
+    let lines : option_to_list envelope ++ lines_before (gs ++ (in_multi h b pre before l after t ∷ [])) ≡ around ++ (front_of h pre before ++ (l ∷ [])) =
+    ap (λ ls. option_to_list envelope ++ ls) (before_join gs (in_multi h b pre before l after t ∷ [])) ∙ simp append_assoc refl in
     omega (arith, ap size lines, size_append around (front_of h pre before ++ (l ∷ [])), size_append (front_of h pre before) (l ∷ []))
 
 gone_within : (h : Head) (b : List ℕ) (pre : List TextLine) (before : Parts) (l : TextLine) (s : Entity) (after : Parts) (t : Option (TextLine × List TextLine))
@@ -174,11 +175,11 @@ gone_led envelope gs h b pre before l s after t fs e =
     let new = multi h b pre (append_parts before after) t in
     let f = in_multi h b pre before l after t in
     let mark : own_delimiter (gs ++ (f ∷ [])) ≡ l ∷ [] = last_delimiter gs f in
-    let place : size (option_line envelope ++ lines_before (gs ++ (f ∷ []))) - size (own_delimiter (gs ++ (f ∷ []))) ≡ size (option_line envelope ++ lines_before gs) + size (front_of h pre before) =
-    ap (λ ls. size (option_line envelope ++ lines_before (gs ++ (f ∷ []))) - size ls) mark ∙ start_back envelope gs h b pre before l after t in
+    let place : size (option_to_list envelope ++ lines_before (gs ++ (f ∷ []))) - size (own_delimiter (gs ++ (f ∷ []))) ≡ size (option_to_list envelope ++ lines_before gs) + size (front_of h pre before) =
+    ap (λ ls. size (option_to_list envelope ++ lines_before (gs ++ (f ∷ []))) - size ls) mark ∙ start_back envelope gs h b pre before l after t in
     let led = put_led envelope gs (plug_one f s) new (size (front_of h pre before)) (text_of (l ∷ print s)) [] (gone_within h b pre before l s after t) in
-    let there = subst (λ (root : Entity). Led (printed (record { envelope = envelope; root = root })) (printed (put envelope gs new)) (one_splice (size (option_line envelope ++ lines_before gs) + size (front_of h pre before)) (text_of (l ∷ print s)) [])) (sym (plug_join gs (f ∷ []) s)) led in
-    let named = subst (λ ls. Led (printed (put envelope (gs ++ (f ∷ [])) s)) (printed (put envelope gs new)) (one_splice (size (option_line envelope ++ lines_before gs) + size (front_of h pre before)) (text_of (ls ++ print s)) [])) (sym mark) there in
+    let there = subst (λ (root : Entity). Led (printed (record { envelope = envelope; root = root })) (printed (put envelope gs new)) (one_splice (size (option_to_list envelope ++ lines_before gs) + size (front_of h pre before)) (text_of (l ∷ print s)) [])) (sym (plug_join gs (f ∷ []) s)) led in
+    let named = subst (λ ls. Led (printed (put envelope (gs ++ (f ∷ [])) s)) (printed (put envelope gs new)) (one_splice (size (option_to_list envelope ++ lines_before gs) + size (front_of h pre before)) (text_of (ls ++ print s)) [])) (sym mark) there in
     let begun = subst (λ k. Led (printed (put envelope (gs ++ (f ∷ [])) s)) (printed (put envelope gs new)) (one_splice k (text_of (own_delimiter (gs ++ (f ∷ [])) ++ print s)) [])) (sym place) named in
     subst (λ rs. Led (printed (put envelope rs s)) (printed (put envelope gs new)) (gone_splices envelope rs s)) (sym e) begun
 

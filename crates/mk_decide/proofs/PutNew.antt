@@ -12,7 +12,8 @@ use Rattle.mk_decide.specs.declared.field_edits.FieldEdit.TheVariants.{Add, Remo
 use Rattle.mk_decide.specs.Edits.{Refusal, BadField, BadName}
 use Rattle.mk_line.specs.Kinds.{is_name}
 use Rattle.mk_decide.specs.FieldEdits.{Found, field_at, renamed}
-use Rattle.mk_decide.specs.FieldPuts.{LinePut, add_put, set_put, name_put, put_unless, put_found, puts}
+use Rattle.mk_decide.specs.FieldPuts.{LinePut, add_put, set_put, name_put, put_unless, puts}
+use Rattle.mk_decide.specs.Plans.{with_field}
 use Rattle.mk_decide.proofs.Openings.{Each}
 use Rattle.mk_decide.proofs.Runs.{IsFound, FoundIn, field_is}
 use Rattle.mk_decide.proofs.Renaming.{renamed_line}
@@ -30,7 +31,7 @@ pub unless_put : (P : LinePut → Type 0) (t : Bool) (e : Refusal) (q : LinePut)
 unless_put P true e q h = tt
 unless_put P false e q h = h refl
 
-found_put : (P : LinePut → Type 0) (ls : List TextLine) (o : Option Found) (g : Found → Result LinePut Refusal) → FoundIn ls o → ((f : Found) → IsFound ls f → OfPut P (g f)) → OfPut P (put_found o g)
+found_put : (P : LinePut → Type 0) (ls : List TextLine) (o : Option Found) (g : Found → Result LinePut Refusal) → FoundIn ls o → ((f : Found) → IsFound ls f → OfPut P (g f)) → OfPut P (with_field o g)
 found_put P ls None g h k = tt
 found_put P ls (Some f) g h k = k f h
 
@@ -83,8 +84,8 @@ none_found : (name : List ℕ) (k : ℕ) → field_at name k [] ≡ None
 none_found name zero = refl
 none_found name (suc k) = refl
 
-none_put : (P : LinePut → Type 0) (o : Option Found) (g : Found → Result LinePut Refusal) → o ≡ None → OfPut P (put_found o g)
-none_put P o g e = subst (λ x. OfPut P (put_found x g)) (sym e) tt
+none_put : (P : LinePut → Type 0) (o : Option Found) (g : Found → Result LinePut Refusal) → o ≡ None → OfPut P (with_field o g)
+none_put P o g e = subst (λ x. OfPut P (with_field x g)) (sym e) tt
 
 pub some_new : (edit : FieldEdit) → OfPut IsSome (puts edit [])
 some_new (Add top text) = unless_put IsSome (not (is_one_field (cut text.now))) BadField (add_put top (cut text.now) []) (λ h. some_added top (cut text.now) (not_true (is_one_field (cut text.now)) h))

@@ -12,7 +12,7 @@ use Rattle.mk_decide.specs.Edits.{Refusal, BadField, BadName}
 use Rattle.mk_line.specs.Kinds.{is_name}
 use Rattle.mk_decide.specs.FieldEdits.{Found, field_at}
 use Rattle.mk_decide.specs.Plans.{Plan, fields_plan, add_plan, change_plan, drop_plan, rename_plan, unless, with_field, plan_at}
-use Rattle.mk_decide.specs.FieldPuts.{LinePut, add_put, set_put, name_put, put_unless, put_found, puts, plain_of}
+use Rattle.mk_decide.specs.FieldPuts.{LinePut, add_put, set_put, name_put, put_unless, puts, plain_of}
 
 -- the lines with those put among them
 abbrev pub lines_put : LinePut → List TextLine
@@ -33,7 +33,7 @@ unless_same : (fs : List Frame) (s : Entity) (t : Bool) (e : Refusal) (p : Plan)
 unless_same fs s true e p q h = refl
 unless_same fs s false e p q h = ap (λ x. Ok x) h
 
-found_same : (fs : List Frame) (s : Entity) (o : Option Found) (f : Found → Result Plan Refusal) (g : Found → Result LinePut Refusal) → ((x : Found) → f x ≡ plan_of_put fs s (g x)) → with_field o f ≡ plan_of_put fs s (put_found o g)
+found_same : (fs : List Frame) (s : Entity) (o : Option Found) (f : Found → Result Plan Refusal) (g : Found → Result LinePut Refusal) → ((x : Found) → f x ≡ plan_of_put fs s (g x)) → with_field o f ≡ plan_of_put fs s (with_field o g)
 found_same fs s None f g h = refl
 found_same fs s (Some x) f g h = h x
 

@@ -16,10 +16,10 @@ use Rattle.mk_decide.specs.declared.field_edits.FieldEdit.TheVariants.{Add, Remo
 use Rattle.mk_decide.specs.Edits.{Refusal, BadField, BadName}
 use Rattle.mk_line.specs.Kinds.{is_name}
 use Rattle.mk_decide.specs.FieldEdits.{Found, field_at, after_name, renamed}
-use Rattle.mk_decide.specs.Plans.{place_of}
+use Rattle.mk_decide.specs.Plans.{place_of, with_field}
 use Rattle.mk_splice.specs.Splices.{Splice}
 use Rattle.mk_decide.specs.EditSplices.{one_splice, for_found, splices_in, splices_at, splices_of}
-use Rattle.mk_decide.specs.FieldPuts.{LinePut, add_put, set_put, name_put, put_unless, put_found, puts, plain_of}
+use Rattle.mk_decide.specs.FieldPuts.{LinePut, add_put, set_put, name_put, put_unless, puts, plain_of}
 use Rattle.mk_decide.proofs.Counting.{name_before}
 use Rattle.mk_decide.proofs.FieldPutFacts.{IsLinePut}
 use Rattle.mk_decide.proofs.PutNew.{OfPut, unless_put}
@@ -64,7 +64,7 @@ name_splices start to f =
     let new : text_of (renamed to f.start ∷ []) ≡ to ++ kept = append_nil (printed_line (renamed to f.start)) ∙ append_assoc to (after_name f.start.content) (ending_bytes f.start.ending) in
     same_splice (start + size f.before) (start + size f.before) (name_of f.start) _ to _ refl (sym (front_taken (name_of f.start) kept (text_of (f.start ∷ [])) old)) (sym (front_taken to kept (text_of (renamed to f.start ∷ [])) new))
 
-found_splices : (start : ℕ) (o : Option Found) (f : Found → List Splice) (g : Found → Result LinePut Refusal) → ((x : Found) → OfPut (λ q. f x ≡ put_splices start q) (g x)) → OfPut (λ q. for_found o f ≡ put_splices start q) (put_found o g)
+found_splices : (start : ℕ) (o : Option Found) (f : Found → List Splice) (g : Found → Result LinePut Refusal) → ((x : Found) → OfPut (λ q. f x ≡ put_splices start q) (g x)) → OfPut (λ q. for_found o f ≡ put_splices start q) (with_field o g)
 found_splices start None f g k = tt
 found_splices start (Some x) f g k = k x
 

@@ -1,8 +1,8 @@
 -- A part that goes: what is answered is what is defined.
 use Rattle.std.proofs.Common.{◌≡◌, ◌+◌, ◌-◌, ◌++◌, ℕ, zero, suc, Option, None, Some, Ok, List, [], ◌∷◌, refl, ap, sym, ◌∙◌, subst, length, arith, append_assoc}
-use Rattle.std.specs.Option.{option_map}
+use Rattle.std.specs.Option.{option_map, option_to_list}
 use Rattle.mk_line.specs.Lines.{TextLine, text_of}
-use Rattle.mk_head.specs.Split.{Head, head_lines, option_line}
+use Rattle.mk_head.specs.Split.{Head, head_lines}
 use Rattle.mk_tree.specs.Tree.{Entity, leaf, message, multi, Parts, no_parts, part, print, print_parts}
 use Rattle.mk_tree.specs.Documents.{tree, IsStable}
 use Rattle.mk_tree.specs.Spans.{size}
@@ -111,11 +111,11 @@ part_of number h b pre ps t f s (Some q) e h2 = part_by number h b pre ps t f s 
 
 -- where it begins
 start_apart : (envelope : Option TextLine) (gs : List Frame) (h : Head) (b : List ℕ) (pre : List TextLine) (before : Parts) (l : TextLine) (after : Parts) (t : Option (TextLine × List TextLine))
-    → size (option_line envelope ++ lines_before (gs ++ (in_multi h b pre before l after t ∷ []))) ≡ size (option_line envelope ++ lines_before gs) + size (front_of h pre before) + size (l ∷ [])
+    → size (option_to_list envelope ++ lines_before (gs ++ (in_multi h b pre before l after t ∷ []))) ≡ size (option_to_list envelope ++ lines_before gs) + size (front_of h pre before) + size (l ∷ [])
 start_apart envelope gs h b pre before l after t =
-    let around = option_line envelope ++ lines_before gs in
-    let lines : option_line envelope ++ lines_before (gs ++ (in_multi h b pre before l after t ∷ [])) ≡ around ++ (front_of h pre before ++ (l ∷ [])) =
-    ap (λ ls. option_line envelope ++ ls) (before_join gs (in_multi h b pre before l after t ∷ [])) ∙ simp append_assoc refl in
+    let around = option_to_list envelope ++ lines_before gs in
+    let lines : option_to_list envelope ++ lines_before (gs ++ (in_multi h b pre before l after t ∷ [])) ≡ around ++ (front_of h pre before ++ (l ∷ [])) =
+    ap (λ ls. option_to_list envelope ++ ls) (before_join gs (in_multi h b pre before l after t ∷ [])) ∙ simp append_assoc refl in
     omega (arith, ap size lines, size_append around (front_of h pre before ++ (l ∷ [])), size_append (front_of h pre before) (l ∷ []))
 
 multi_answers : (text path : List ℕ) (number : ℕ) (p : Placed) (s : IsSite text path p) (q : Placed) (a : IsAround text path number s.around p.entity q) (h : Head) (b : List ℕ) (pre : List TextLine) (ps : Parts) (t : Option (TextLine × List TextLine)) → q.entity ≡ multi h b pre ps t
@@ -134,7 +134,7 @@ multi_answers text path number p s q a h b pre ps t x =
     let gap : gap_at (number - 1) q ≡ Some place = gap_told (number - 1) q h b pre ps t x ∙ ap (at_parts place) i.there in
     let mark : own_delimiter s.around ≡ i.delimiter ∷ [] = ap own_delimiter fs ∙ last_delimiter a.around f in
     let start : p.start ≡ place + size (i.delimiter ∷ []) =
-    omega (arith, ap (λ (y : Placed). y.start) s.placed_is, ap (λ gs. size (option_line envelope ++ lines_before gs)) fs, start_apart envelope a.around h b pre i.before i.delimiter i.after t, ap (λ (y : Placed). y.start) a.placed_is, front) in
+    omega (arith, ap (λ (y : Placed). y.start) s.placed_is, ap (λ gs. size (option_to_list envelope ++ lines_before gs)) fs, start_apart envelope a.around h b pre i.before i.delimiter i.after t, ap (λ (y : Placed). y.start) a.placed_is, front) in
     let old = text_of (own_delimiter s.around ++ print p.entity) in
     let sizes : length old ≡ size (i.delimiter ∷ []) + size (print p.entity) = omega (arith, size_append (own_delimiter s.around) (print p.entity), ap size mark) in
     let stable : IsStable (planned envelope plan) = subst (IsRemoved envelope) planned_so (removed_is path (tree text) (read_stable text)) in

@@ -2,10 +2,12 @@
 use Rattle.std.proofs.Common.{◌≡◌, ◌++◌, ℕ, Bool, false, Option, None, Some, List, [], ◌∷◌, refl, ap, sym, ◌∙◌, subst, append_assoc}
 use Rattle.mk_line.specs.declared.marks.Mark.TheVariants.{Part}
 use Rattle.mk_line.specs.Marks.{mark}
-use Rattle.mk_line.specs.Lines.{TextLine, AreLines}
+use Rattle.mk_line.specs.Lines.{TextLine, AreLines, is_nil}
 use Rattle.mk_line.proofs.Cuts.{lines_cut, cut_text, lines_following}
-use Rattle.mk_head.specs.Split.{Head, head_lines, option_line}
-use Rattle.mk_head.specs.Splits.{has_line, Stops, Follows}
+use Rattle.mk_head.specs.Split.{Head, head_lines}
+use Rattle.std.specs.Option.{option_to_list}
+use Rattle.mk_head.specs.Splits.{Stops, Follows}
+use Rattle.std.specs.Prelude.{not}
 use Rattle.mk_tree.specs.Cutting.{tail_lines, Unmarked, Closes}
 use Rattle.mk_tree.specs.Kinds.{kind_at}
 use Rattle.mk_tree.specs.Tree.{Entity, multi, Parts, no_parts, part, print, print_parts}
@@ -54,7 +56,7 @@ less_read n g b (part m e ps) l x after w = (w.0, w.1, w.2, less_read n g b ps l
 without_read : (n : ℕ) (d : Bool) (h : Head) (b : List ℕ) (pre : List TextLine) (before : Parts) (l : TextLine) (x : Entity) (after : Parts) (t : Option (TextLine × List TextLine))
     → IsWellRead n d (multi h b pre (append_parts before (part l x after)) t) → IsWellRead n d (multi h b pre (append_parts before after) t)
 without_read n d h b pre before l x after t w = (
-  record { run = w.0.run; next = less_follows (below n) (digest_below d h) (has_line h.fields) h.separator b pre before l x after t w.2 w.4 w.0.next },
+  record { run = w.0.run; next = less_follows (below n) (digest_below d h) (not (is_nil h.fields)) h.separator b pre before l x after t w.2 w.4 w.0.next },
   w.1,
   less_read (below n) (digest_below d h) b before l x after w.2,
   w.3,
@@ -83,7 +85,7 @@ root_multi : (n : ℕ) (envelope : Option TextLine) (fs : List Frame) (h : Head)
     → IsWellRead (left_at n fs) (default_at false fs) (multi h b pre ps t) → RootFits envelope fs (multi h b pre ps t) → RootFits envelope fs (multi h b pre qs t)
 root_multi n (Some l) fs h b pre ps qs t w r = tt
 root_multi n None (f ∷ fs) h b pre ps qs t w r = tt
-root_multi n None [] h b pre ps qs t w r = fields_plain h.fields (option_line h.separator) (pre ++ (print_parts ps ++ tail_lines t)) (pre ++ (print_parts qs ++ tail_lines t)) (multi_fields n h b pre ps t w) r
+root_multi n None [] h b pre ps qs t w r = fields_plain h.fields (option_to_list h.separator) (pre ++ (print_parts ps ++ tail_lines t)) (pre ++ (print_parts qs ++ tail_lines t)) (multi_fields n h b pre ps t w) r
 
 -- the lines with the part, and without it
 print_with : (h : Head) (b : List ℕ) (pre : List TextLine) (before : Parts) (l : TextLine) (x : Entity) (after : Parts) (t : Option (TextLine × List TextLine))
@@ -97,8 +99,8 @@ print_without h b pre before after t = rw (print_append before after) (simp appe
 less_unmarked : (c : List ℕ) (xs : List TextLine) (l : TextLine) (ys zs : List TextLine) → Unmarked c (xs ++ (l ∷ (ys ++ zs))) → Unmarked c (xs ++ zs)
 less_unmarked c xs l ys zs u = unmarked_join c xs zs (unmarked_left c xs (l ∷ (ys ++ zs)) u) (unmarked_right c ys zs (unmarked_right c xs (l ∷ (ys ++ zs)) u).1)
 
-put_lines : (envelope : Option TextLine) (fs : List Frame) (e : Entity) (xs ys : List TextLine) → print e ≡ xs ++ ys → document_lines (put envelope fs e) ≡ (option_line envelope ++ (lines_before fs ++ xs)) ++ (ys ++ lines_after fs)
-put_lines envelope fs e xs ys p = ap (λ ls. option_line envelope ++ ls) (print_plug fs e ∙ ap (λ ls. lines_before fs ++ (ls ++ lines_after fs)) p) ∙ (simp append_assoc refl)
+put_lines : (envelope : Option TextLine) (fs : List Frame) (e : Entity) (xs ys : List TextLine) → print e ≡ xs ++ ys → document_lines (put envelope fs e) ≡ (option_to_list envelope ++ (lines_before fs ++ xs)) ++ (ys ++ lines_after fs)
+put_lines envelope fs e xs ys p = ap (λ ls. option_to_list envelope ++ ls) (print_plug fs e ∙ ap (λ ls. lines_before fs ++ (ls ++ lines_after fs)) p) ∙ (simp append_assoc refl)
 
 pub removed_stable : (envelope : Option TextLine) (fs : List Frame) (h : Head) (b : List ℕ) (pre : List TextLine) (before : Parts) (l : TextLine) (x : Entity) (after : Parts) (t : Option (TextLine × List TextLine))
     → IsStable (put envelope fs (multi h b pre (append_parts before (part l x after)) t)) → IsStable (put envelope fs (multi h b pre (append_parts before after) t))
@@ -110,10 +112,10 @@ removed_stable envelope fs h b pre before l x after t s =
     let r = (replaced envelope fs old old s).0 s in
     let w = well_of (left_at levels fs) (default_at false fs) old r.own in
     let whole : AreLines (document_lines (put envelope fs old)) = subst AreLines r.lines (lines_cut (printed (put envelope fs old))) in
-    let apart : AreLines ((option_line envelope ++ (lines_before fs ++ front)) ++ (l ∷ (print x ++ (rest ++ lines_after fs)))) =
-    subst AreLines (put_lines envelope fs old front (l ∷ (print x ++ rest)) (print_with h b pre before l x after t) ∙ ap (λ ls. (option_line envelope ++ (lines_before fs ++ front)) ++ (l ∷ ls)) (append_assoc (print x) rest (lines_after fs))) whole in
+    let apart : AreLines ((option_to_list envelope ++ (lines_before fs ++ front)) ++ (l ∷ (print x ++ (rest ++ lines_after fs)))) =
+    subst AreLines (put_lines envelope fs old front (l ∷ (print x ++ rest)) (print_with h b pre before l x after t) ∙ ap (λ ls. (option_to_list envelope ++ (lines_before fs ++ front)) ++ (l ∷ ls)) (append_assoc (print x) rest (lines_after fs))) whole in
     let less : AreLines (document_lines (put envelope fs new)) =
-    subst AreLines (sym (put_lines envelope fs new front rest (print_without h b pre before after t))) (lines_between (option_line envelope ++ (lines_before fs ++ front)) l (print x) (rest ++ lines_after fs) apart) in
+    subst AreLines (sym (put_lines envelope fs new front rest (print_without h b pre before after t))) (lines_between (option_to_list envelope ++ (lines_before fs ++ front)) l (print x) (rest ++ lines_after fs) apart) in
     (replaced envelope fs old new s).1 (record {
       lines = cut_text (document_lines (put envelope fs new)) less;
       unmarked = unmarked_given fs (print old) (print new) (λ c u. subst (Unmarked c) (sym (print_without h b pre before after t)) (less_unmarked c front l (print x) rest (subst (Unmarked c) (print_with h b pre before l x after t) u))) r.unmarked;

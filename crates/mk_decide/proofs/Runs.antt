@@ -5,9 +5,9 @@ use Rattle.std.specs.List.{list_all}
 use Rattle.mk_line.specs.Lines.{TextLine}
 use Rattle.mk_head.specs.Split.{is_start, is_more, belongs}
 use Rattle.mk_head.specs.Splits.{IsRun}
-use Rattle.mk_head.specs.Fields.{continuations, is_one_field}
+use Rattle.mk_head.specs.Fields.{continuations, is_one_field, after_more}
 use Rattle.mk_decide.specs.Reasons.{added}
-use Rattle.mk_decide.specs.FieldEdits.{starts_named, after_continuations, Found, found_after, find, field_at}
+use Rattle.mk_decide.specs.FieldEdits.{starts_named, Found, found_after, find, field_at}
 
 or_false : (a : Bool) → (a || false) ≡ a
 or_false true = refl
@@ -62,7 +62,7 @@ added_run true g fields r s = run_join false g fields r s
 added_run false g fields r s = run_join false fields g s r
 
 -- the lines after a field begin another
-pub after_run : (ls : List TextLine) → IsRun true ls → IsRun false (after_continuations ls)
+pub after_run : (ls : List TextLine) → IsRun true ls → IsRun false (after_more ls)
 after_run [] r = tt
 after_run (l ∷ ls) r =
     elim (cases_Bool (is_more l)) [
@@ -70,7 +70,7 @@ after_run (l ∷ ls) r =
       | inr h ↦ rw h (start_belongs false l (sym (or_false (is_start l)) ∙ (ap (λ t. is_start l || t) (sym h) ∙ r.0)), r.1)
     ]
 
-pub more_after : (ls : List TextLine) → continuations ls ++ after_continuations ls ≡ ls
+pub more_after : (ls : List TextLine) → continuations ls ++ after_more ls ≡ ls
 more_after [] = refl
 more_after (l ∷ ls) =
     elim (cases_Bool (is_more l)) [
@@ -92,7 +92,7 @@ later : (l : TextLine) (ls : List TextLine) (o : Option Found) → FoundIn ls o 
 later l ls None h = tt
 later l ls (Some f) h = record { whole = ap (λ xs. l ∷ xs) h.whole; start = h.start; after = h.after }
 
-here : (t : Bool) (l : TextLine) (ls : List TextLine) (o : Option Found) → (t ≡ true → is_start l ≡ true) → FoundIn ls o → FoundIn (l ∷ ls) (if t then Some (record { before = []; start = l; more = continuations ls; after = after_continuations ls }) else found_after l o)
+here : (t : Bool) (l : TextLine) (ls : List TextLine) (o : Option Found) → (t ≡ true → is_start l ≡ true) → FoundIn ls o → FoundIn (l ∷ ls) (if t then Some (record { before = []; start = l; more = continuations ls; after = after_more ls }) else found_after l o)
 here true l ls o s h = record {
   whole = ap (λ xs. l ∷ xs) (more_after ls);
   start = s refl;

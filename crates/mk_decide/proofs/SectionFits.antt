@@ -1,12 +1,12 @@
 -- Another section in the place of one: what is answered is what is defined.
 use Rattle.std.proofs.Common.{◌≡◌, ◌↔◌, ◌==◌, ◌||◌, ◌++◌, if◌then◌else◌, ℕ, zero, suc, Bool, true, false, not, Option, None, Some, List, [], ◌∷◌, refl, ap, sym, ◌∙◌, subst, length, add-zero}
-use Rattle.std.specs.Option.{option_map}
+use Rattle.std.specs.Option.{option_map, option_to_list}
 use Rattle.std.proofs.lemmas.Bool.{or_parts}
 use Rattle.mk_line.specs.Lines.{TextLine, cut, text_of, is_nil, AreLines}
 use Rattle.mk_line.specs.Kinds.{is_from_line}
 use Rattle.mk_line.proofs.Cuts.{text_cut, lines_cut}
-use Rattle.mk_head.specs.Split.{Head, belongs, is_empty, head_lines, option_line}
-use Rattle.mk_head.specs.Splits.{IsRun, has_line, Stops}
+use Rattle.mk_head.specs.Split.{Head, belongs, is_empty, head_lines}
+use Rattle.mk_head.specs.Splits.{IsRun, Stops}
 use Rattle.mk_head.specs.Fields.{counted}
 use Rattle.mk_tree.specs.Tree.{Entity, leaf, message, multi, Parts, read, print}
 use Rattle.mk_tree.specs.Documents.{levels, tree}
@@ -73,15 +73,15 @@ of_stops : (some : Bool) (l : TextLine) (ls : List TextLine) → Stops some (l �
 of_stops some l ls h = rw (h.0, h.1) refl
 
 -- an entity after the head of a message
-stays_message : (n : ℕ) (h : Head) (x new : Entity) (ls : List TextLine) → not (is_nil (text_of h.fields)) ≡ has_line h.fields → (g : Bool) → not (has_separator h.separator) ≡ g
-    → (g ≡ false → Continues h.fields h.separator new) → (g ≡ true → (Stops (has_line h.fields) ls ↔ Continues h.fields h.separator new)) → ((stays_after (message h x) ls ≡ true) ↔ Continues h.fields h.separator new)
+stays_message : (n : ℕ) (h : Head) (x new : Entity) (ls : List TextLine) → not (is_nil (text_of h.fields)) ≡ not (is_nil h.fields) → (g : Bool) → not (has_separator h.separator) ≡ g
+    → (g ≡ false → Continues h.fields h.separator new) → (g ≡ true → (Stops (not (is_nil h.fields)) ls ↔ Continues h.fields h.separator new)) → ((stays_after (message h x) ls ≡ true) ↔ Continues h.fields h.separator new)
 stays_message n h x new [] m false e u k = ((λ q. u refl), (λ q. refl))
 stays_message n h x new [] m true e u k = ((λ q. (k refl).0 tt), (λ q. refl))
 stays_message n h x new (l ∷ ls) m false e u k = ((λ q. u refl), (λ q. rw e refl))
 stays_message n h x new (l ∷ ls) m true e u k =
-    let test : (if not (has_separator h.separator) then not (runs_on (not (is_nil (text_of h.fields))) l.content) else true) ≡ not (runs_on (has_line h.fields) l.content) = rw (e, m) refl in (
-      (λ q. (k refl).0 (stops_of (has_line h.fields) l ls (sym test ∙ q))),
-      (λ q. test ∙ of_stops (has_line h.fields) l ls ((k refl).1 q)),
+    let test : (if not (has_separator h.separator) then not (runs_on (not (is_nil (text_of h.fields))) l.content) else true) ≡ not (runs_on (not (is_nil h.fields)) l.content) = rw (e, m) refl in (
+      (λ q. (k refl).0 (stops_of (not (is_nil h.fields)) l ls (sym test ∙ q))),
+      (λ q. test ∙ of_stops (not (is_nil h.fields)) l ls ((k refl).1 q)),
     )
 
 -- after a separator, or none
@@ -89,11 +89,11 @@ free_after : (fields : List TextLine) (o : Option TextLine) (new : Entity) → n
 free_after fields None new h = true_false h
 free_after fields (Some l) new h = tt
 
-glued_after : (n : ℕ) (fields : List TextLine) (o : Option TextLine) (new : Entity) (ls : List TextLine) → Each (option_line o) → IsRun false fields → IsWellRead n false new → print new ≡ ls → not (has_separator o) ≡ true → (Stops (has_line fields) ls ↔ Continues fields o new)
+glued_after : (n : ℕ) (fields : List TextLine) (o : Option TextLine) (new : Entity) (ls : List TextLine) → Each (option_to_list o) → IsRun false fields → IsWellRead n false new → print new ≡ ls → not (has_separator o) ≡ true → (Stops (not (is_nil fields)) ls ↔ Continues fields o new)
 glued_after n fields (Some l) new ls e r w q h = true_false (sym (separator_there l e.0) ∙ not_false (has_separator (Some l)) h)
 glued_after n fields None new ls e r w q h = (
-  (λ k. continues_of n false fields None new r (subst (Stops (has_line fields)) (sym q) k) w),
-  (λ c. subst (Stops (has_line fields)) q (first_stops (has_line fields) (print new) (of_ends fields (first_line (print new)) c.1).next)),
+  (λ k. continues_of n false fields None new r (subst (Stops (not (is_nil fields))) (sym q) k) w),
+  (λ c. subst (Stops (not (is_nil fields))) q (first_stops (not (is_nil fields)) (print new) (of_ends fields (first_line (print new)) c.1).next)),
 )
 
 not_not : (t : Bool) → not (not t) ≡ t
@@ -103,8 +103,8 @@ not_not false = refl
 message_told : (n m : ℕ) (d : Bool) (h : Head) (x new : Entity) (ls : List TextLine) → AreLines (print (message h x)) → IsWellRead m d (message h x) → IsWellRead n false new → print new ≡ ls → ((stays_after (message h x) ls ≡ true) ↔ Continues h.fields h.separator new)
 message_told n m d h x new ls a v w q =
     let fields : AreLines h.fields = entity_fields (message h x) a in
-    let line = each_back h.fields (option_line h.separator) (each_front (head_lines h) (print x) (each_line (print (message h x)) a)) in
-    stays_message n h x new ls (ap not (nil_told h.fields fields) ∙ not_not (has_line h.fields)) (not (has_separator h.separator)) refl (free_after h.fields h.separator new) (glued_after n h.fields h.separator new ls line v.0.run w q)
+    let line = each_back h.fields (option_to_list h.separator) (each_front (head_lines h) (print x) (each_line (print (message h x)) a)) in
+    stays_message n h x new ls (ap not (nil_told h.fields fields) ∙ not_not (not (is_nil h.fields))) (not (has_separator h.separator)) refl (free_after h.fields h.separator new) (glued_after n h.fields h.separator new ls line v.0.run w q)
 
 abbrev pair_frame : Frame × Entity → Option (Frame × Entity) → Frame
 pair_frame d None = d.0
@@ -163,7 +163,7 @@ stays_told text path p s ls None a =
     let envelope = (tree text).envelope in
     let new = new_at s.around ls in
     let printed_new : print new ≡ ls = print_read (left_at levels s.around) (default_at false s.around) ls in
-    let start : p.start ≡ size (option_line envelope ++ lines_before []) = ap (λ (x : Placed). x.start) s.placed_is ∙ ap (λ fs. size (option_line envelope ++ lines_before fs)) a in
+    let start : p.start ≡ size (option_to_list envelope ++ lines_before []) = ap (λ (x : Placed). x.start) s.placed_is ∙ ap (λ fs. size (option_to_list envelope ++ lines_before fs)) a in
     let first : (p.start == 0) ≡ begins_root envelope [] = ap (λ n. n == 0) start ∙ first_is [] envelope [] refl (before_each text path p s).0 in
     let root = root_told envelope [] new in
     let begins = begins_told p.start ls in

@@ -1,10 +1,9 @@
 -- A section of a document that was read: what stands around it, and that it is read back.
 use Rattle.std.proofs.Common.{◌≡◌, ◌==◌, ◌≤◌, ◌+◌, ◌++◌, ℕ, false, Option, None, Some, List, [], ◌∷◌, refl, ap, sym, ◌∙◌, subst, length, arith, inl, inr}
 use Rattle.std.proofs.lemmas.Bool.{cases_Bool, eqb-true}
-use Rattle.std.specs.Option.{option_map}
+use Rattle.std.specs.Option.{option_map, option_to_list}
 use Rattle.mk_line.specs.Lines.{TextLine, cut, AreLines}
 use Rattle.mk_line.proofs.Cuts.{cut_text, text_cut, lines_cut, lines_following}
-use Rattle.mk_head.specs.Split.{option_line}
 use Rattle.mk_head.specs.Splits.{IsRun}
 use Rattle.mk_tree.specs.Tree.{Entity, field_lines}
 use Rattle.mk_tree.specs.Documents.{Document, IsStable, levels, tree, document_lines}
@@ -71,7 +70,7 @@ site text (k ∷ ks) p e =
 
 -- the lines before the fields of a section, and those after them
 abbrev pub front_lines : (text path : List ℕ) (p : Placed) → IsSite text path p → List TextLine
-front_lines text path p s = option_line (tree text).envelope ++ lines_before s.around
+front_lines text path p s = option_to_list (tree text).envelope ++ lines_before s.around
 
 abbrev pub rest_lines : (text path : List ℕ) (p : Placed) → IsSite text path p → List TextLine
 rest_lines text path p s = after_fields p.entity ++ lines_after s.around

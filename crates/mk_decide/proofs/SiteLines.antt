@@ -3,7 +3,7 @@
 use Rattle.std.proofs.Common.{◌≡◌, ◌+◌, ◌≤◌, ◌++◌, ℕ, Some, List, refl, ap, sym, ◌∙◌, length, arith, append_assoc}
 use Rattle.mk_line.specs.Lines.{TextLine, cut, text_of, eol_of, AreLines}
 use Rattle.mk_line.proofs.Cuts.{text_cut}
-use Rattle.mk_head.specs.Split.{option_line}
+use Rattle.std.specs.Option.{option_to_list}
 use Rattle.mk_tree.specs.Tree.{Entity, print}
 use Rattle.mk_tree.specs.Documents.{tree, document_lines}
 use Rattle.mk_tree.specs.Spans.{size}
@@ -43,7 +43,7 @@ splices_here e text path p s h =
 -- the lines before the section, and those of the document
 pub lines_there : (text path : List ℕ) (p : Placed) (s : IsSite text path p) (new : Entity) → document_lines (put (tree text).envelope s.around new) ≡ front_lines text path p s ++ (print new ++ lines_after s.around)
 lines_there text path p s new =
-    ap (λ ls. option_line (tree text).envelope ++ ls) (print_plug s.around new) ∙ sym (append_assoc (option_line (tree text).envelope) (lines_before s.around) (print new ++ lines_after s.around))
+    ap (λ ls. option_to_list (tree text).envelope ++ ls) (print_plug s.around new) ∙ sym (append_assoc (option_to_list (tree text).envelope) (lines_before s.around) (print new ++ lines_after s.around))
 
 pub text_lines : (text path : List ℕ) (p : Placed) (s : IsSite text path p) → cut text ≡ front_lines text path p s ++ (print p.entity ++ lines_after s.around)
 text_lines text path p s = sym (lines_kept text) ∙ (ap document_lines (sym s.whole) ∙ lines_there text path p s p.entity)

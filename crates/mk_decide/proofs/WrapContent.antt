@@ -3,11 +3,10 @@ use Rattle.std.proofs.Common.{◌≡◌, ◌++◌, if◌then◌else◌, ℕ, Boo
 use Rattle.std.specs.Option.{option_map}
 use Rattle.mk_line.specs.declared.cutting.Ending.{Ending}
 use Rattle.mk_line.specs.declared.cutting.Ending.TheVariants.{Crlf, Lf, Missing}
-use Rattle.mk_line.specs.Lines.{TextLine, text_line, text_of, printed_line, is_open, eol_of}
+use Rattle.mk_line.specs.Lines.{TextLine, text_line, text_of, printed_line, is_open, eol_of, is_nil}
 use Rattle.mk_head.specs.Boundaries.{is_boundary}
 use Rattle.mk_head.specs.Values.{is_token}
 use Rattle.mk_head.specs.Split.{Head}
-use Rattle.mk_head.specs.Splits.{has_line}
 use Rattle.mk_tree.specs.Tree.{Entity, leaf, message, multi, no_parts}
 use Rattle.mk_tree.specs.Documents.{Document, document_lines}
 use Rattle.mk_tree.specs.Sections.{Placed, section_at, unended, content_text}
@@ -33,15 +32,15 @@ last_kept : (eol : Ending) (t : Bool) (l : TextLine) → is_open l.ending ≡ t 
 last_kept eol true l h = open_kept l.ending l.content h
 last_kept eol false l h = refl
 
-unended_more : (l : TextLine) (xs : List TextLine) → has_line xs ≡ true → unended (l ∷ xs) ≡ l ∷ unended xs
+unended_more : (l : TextLine) (xs : List TextLine) → not (is_nil xs) ≡ true → unended (l ∷ xs) ≡ l ∷ unended xs
 unended_more l [] h = cc
 unended_more l (x ∷ xs) h = refl
 
-some_by : (eol : Ending) (t : Bool) (l : TextLine) → has_line (if t then text_line l.content eol ∷ [] else l ∷ text_line [] eol ∷ []) ≡ true
+some_by : (eol : Ending) (t : Bool) (l : TextLine) → not (is_nil (if t then text_line l.content eol ∷ [] else l ∷ text_line [] eol ∷ [])) ≡ true
 some_by eol true l = refl
 some_by eol false l = refl
 
-some_ended : (eol : Ending) (l : TextLine) (ls : List TextLine) → has_line (ended_lines eol (l ∷ ls)) ≡ true
+some_ended : (eol : Ending) (l : TextLine) (ls : List TextLine) → not (is_nil (ended_lines eol (l ∷ ls))) ≡ true
 some_ended eol l [] = some_by eol (is_open l.ending) l
 some_ended eol l (m ∷ ls) = refl
 
@@ -55,11 +54,11 @@ content_kept eol true ls = refl
 content_kept eol false ls = text_kept eol ls
 
 -- the part is followed by the close line
-line_front : (xs ys : List TextLine) → has_line xs ≡ true → has_line (xs ++ ys) ≡ true
+line_front : (xs ys : List TextLine) → not (is_nil xs) ≡ true → not (is_nil (xs ++ ys)) ≡ true
 line_front [] ys h = cc
 line_front (x ∷ xs) ys h = refl
 
-inner_followed : (fs : List Frame) (f : Frame) → has_line (lines_after (f ∷ [])) ≡ true → has_line (lines_after (fs ++ (f ∷ []))) ≡ true
+inner_followed : (fs : List Frame) (f : Frame) → not (is_nil (lines_after (f ∷ []))) ≡ true → not (is_nil (lines_after (fs ++ (f ∷ [])))) ≡ true
 inner_followed [] f h = h
 inner_followed (in_message k ∷ fs) f h = inner_followed fs f h
 inner_followed (in_multi k b pre before l after t ∷ fs) f h = line_front (lines_after (fs ++ (f ∷ []))) _ (inner_followed fs f h)
@@ -70,9 +69,9 @@ inner_frame eol fs s subtype b = in_multi (outer_head eol fs s subtype b) b [] n
 inner_content : (envelope : Option TextLine) (eol : Ending) (fs : List Frame) (h : Head) (ls : List TextLine) (subtype b : List ℕ)
     → content_text (placed envelope (fs ++ (inner_frame eol fs (leaf h ls) subtype b ∷ [])) (inner_part eol fs (leaf h ls))) ≡ content_text (placed envelope fs (leaf h ls))
 inner_content envelope eol fs h ls subtype b =
-    let new = if has_line (lines_after fs) then ls else ended_lines eol ls in
+    let new = if not (is_nil (lines_after fs)) then ls else ended_lines eol ls in
     ap (λ t. text_of (if t then unended new else new)) (inner_followed fs (inner_frame eol fs (leaf h ls) subtype b) refl)
-    ∙ content_kept eol (has_line (lines_after fs)) ls
+    ∙ content_kept eol (not (is_nil (lines_after fs))) ls
 
 -- an accepted edit is its plan
 record IsPlan (t u : Document) (e : PlainEdit) : Type 0 where

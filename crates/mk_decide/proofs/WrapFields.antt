@@ -12,7 +12,8 @@ use Rattle.mk_head.specs.Splits.{IsRun}
 use Rattle.mk_head.specs.Fields.{continuations, name_of, field_text, is_named}
 use Rattle.mk_head.specs.Unfolding.{value_in}
 use Rattle.mk_head.specs.Values.{lowered}
-use Rattle.mk_head.specs.Types.{field_value, header_type, header_encoding, type_by, encoding_by}
+use Rattle.mk_head.specs.Types.{field_value, header_type, header_encoding, type_by}
+use Rattle.std.specs.Option.{option_map_or}
 use Rattle.mk_head.proofs.FieldRuns.{more_start}
 use Rattle.mk_tree.specs.Cutting.{Unmarked}
 use Rattle.mk_tree.specs.Kinds.{kind_of, kind, kind_at}
@@ -20,6 +21,8 @@ use Rattle.mk_decide.specs.Wrapping.{describes_content, is_content_line, content
 use Rattle.mk_decide.proofs.Openings.{Each}
 use Rattle.mk_decide.proofs.Runs.{run_anywhere, start_belongs}
 use Rattle.mk_decide.proofs.MarkLines.{more_dashed, first_dashed}
+use Rattle.mk_head.specs.Encodings.{encoding_of}
+use Rattle.mk_head.specs.declared.encodings.Encoding.TheVariants.{Identity}
 
 -- whatever holds of each line of fields holds of each of both
 pub content_each : (inside : Bool) (ls : List TextLine) → Each ls → Each (content_fields inside ls)
@@ -232,7 +235,7 @@ kind_content : (fields : List TextLine) (d : Bool) → kind (content_fields fals
 unfolding kind
 kind_content fields d =
     ap (λ o. kind_of (type_by d o) (header_encoding (content_fields false fields))) (content_value (codes "Content-Type") false fields refl)
-    ∙ ap (λ o. kind_of (header_type d fields) (encoding_by o)) (content_value (codes "Content-Transfer-Encoding") false fields refl)
+    ∙ ap (λ o. kind_of (header_type d fields) (option_map_or encoding_of o Identity)) (content_value (codes "Content-Transfer-Encoding") false fields refl)
 
 pub content_kind : (n : ℕ) (fields : List TextLine) (d : Bool) → kind_at n (content_fields false fields) d ≡ kind_at n fields d
 content_kind zero fields d = refl

@@ -5,8 +5,7 @@ use Rattle.mk_line.specs.declared.cutting.Ending.{Ending}
 use Rattle.mk_line.specs.Lines.{TextLine, text_line, cut, text_of, is_nil, eol_of, is_open}
 use Rattle.mk_line.proofs.Cuts.{lines_following}
 use Rattle.mk_head.specs.Boundaries.{is_boundary}
-use Rattle.mk_head.specs.Split.{option_line}
-use Rattle.mk_head.specs.Splits.{has_line}
+use Rattle.std.specs.Option.{option_to_list}
 use Rattle.mk_head.specs.Values.{is_token}
 use Rattle.mk_tree.specs.Tree.{print, entity_head, field_lines}
 use Rattle.mk_tree.specs.Documents.{levels, tree, document_lines}
@@ -94,8 +93,8 @@ wraps_told text path p s eol subtype b c =
     let e = p.entity in
     let glue = glued_below false s.numbers (root_of (tree text)) in
     let glued = glued_told text path p s in
-    let same : has_line (lines_after s.around) ≡ p.followed = sym (ap (λ (x : Placed). x.followed) s.placed_is) in
-    let end = end_told eol s.around e p.followed c (lines_following (option_line (entity_head e).separator) (body_lines e) (after_are text path p s)) same in
+    let same : not (is_nil (lines_after s.around)) ≡ p.followed = sym (ap (λ (x : Placed). x.followed) s.placed_is) in
+    let end = end_told eol s.around e p.followed c (lines_following (option_to_list (entity_head e).separator) (body_lines e) (after_are text path p s)) same in
     let lower = below_here text path p s g in
     let content = content_kind (below n) (field_lines e) g in (
       (λ k.

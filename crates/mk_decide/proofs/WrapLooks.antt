@@ -2,9 +2,8 @@
 use Rattle.std.proofs.Common.{◌≡◌, ◌↔◌, ◌==◌, ◌&&◌, ◌-◌, ◌++◌, if◌then◌else◌, ℕ, zero, suc, Bool, true, false, not, List, [], ◌∷◌, refl, ap, sym, ◌∙◌, arith}
 use Rattle.mk_line.specs.declared.cutting.Ending.{Ending}
 use Rattle.mk_line.specs.declared.cutting.Ending.TheVariants.{Crlf, Lf, Missing}
-use Rattle.mk_line.specs.Lines.{TextLine, text_of, printed_line, ending_bytes, ends_in_return, is_lf, is_open, AreLines}
+use Rattle.mk_line.specs.Lines.{TextLine, text_of, printed_line, ending_bytes, ends_in_return, is_lf, is_open, AreLines, is_nil}
 use Rattle.mk_line.proofs.Cuts.{append_nil, last_return}
-use Rattle.mk_head.specs.Splits.{has_line}
 use Rattle.mk_tree.specs.Kinds.{kind_at}
 use Rattle.mk_tree.specs.Tree.{Entity, leaf, message, multi, Parts, no_parts, part, field_lines}
 use Rattle.mk_tree.specs.Documents.{levels}
@@ -126,7 +125,7 @@ open_told Lf ls c a =
     ((λ h. told.0 (sym same ∙ not_true (ends_in_cr (text_of ls)) h)), (λ h. ap not (same ∙ told.1 h)))
 open_told Missing ls c a = cc
 
-pub end_told : (eol : Ending) (fs : List Frame) (e : Entity) (followed : Bool) → is_open eol ≡ false → AreLines (body_lines e) → has_line (lines_after fs) ≡ followed → ((end_look eol followed e ≡ true) ↔ BodyMayEnd eol fs e)
+pub end_told : (eol : Ending) (fs : List Frame) (e : Entity) (followed : Bool) → is_open eol ≡ false → AreLines (body_lines e) → not (is_nil (lines_after fs)) ≡ followed → ((end_look eol followed e ≡ true) ↔ BodyMayEnd eol fs e)
 end_told eol fs (leaf h ls) true c a q = ((λ x o. let none : true ≡ false = sym q ∙ o in cc none), (λ x. refl))
 end_told eol fs (leaf h ls) false c a q = let told = open_told eol ls c a in ((λ x o. told.0 x), (λ x. told.1 (x q)))
 end_told eol fs (message h e) true c a q = ((λ x. tt), (λ x. refl))

@@ -5,8 +5,9 @@ use Rattle.mk_line.specs.declared.cutting.Ending.{Ending}
 use Rattle.mk_line.specs.declared.cutting.Ending.TheVariants.{Crlf, Lf, Missing}
 use Rattle.mk_line.specs.Lines.{TextLine, text_line, cut, text_of, is_nil, is_open, IsLine, AreLines, ends_open}
 use Rattle.mk_line.proofs.Cuts.{text_cut, lines_cut, lines_following}
-use Rattle.mk_head.specs.Split.{Head, head_lines, option_line}
-use Rattle.mk_head.specs.Splits.{has_line, Follows}
+use Rattle.mk_head.specs.Split.{Head, head_lines}
+use Rattle.std.specs.Option.{option_to_list}
+use Rattle.mk_head.specs.Splits.{Follows}
 use Rattle.mk_tree.specs.Tree.{Entity, leaf, message, multi, print, entity_head, field_lines}
 use Rattle.mk_tree.specs.Documents.{levels, tree, document_lines}
 use Rattle.mk_tree.specs.Sections.{Placed, body_text, body_lines}
@@ -16,7 +17,8 @@ use Rattle.mk_tree.proofs.Plugs.{lines_end}
 use Rattle.mk_decide.specs.Reasons.{is_open_early}
 use Rattle.mk_line.specs.Marks.{delimiter_line, close_line}
 use Rattle.mk_head.specs.Types.{type_line}
-use Rattle.mk_decide.specs.Wrapping.{is_content_line, content_fields, other_fields, names_field, version_lines, separator_or, ended_lines, inner_part, outer_fields, wrapped}
+use Rattle.mk_decide.specs.Wrapping.{is_content_line, content_fields, other_fields, names_field, version_lines, ended_lines, inner_part, outer_fields, wrapped}
+use Rattle.std.specs.Prelude.{unwrap_or}
 use Rattle.mk_decide.specs.WrapAnswers.{is_leaf, wrap_opens}
 use Rattle.mk_decide.proofs.Openings.{Each, each_line, each_front, last_open, or_none, or_assoc, early_none, open_text, some_text}
 use Rattle.mk_decide.proofs.FieldFits.{split_of, no_text, after_are}
@@ -82,11 +84,11 @@ empty_closed content e n h =
       | inr o ↦ o
     ]
 
-separator_none : (inside : Bool) (o : Option TextLine) (ls : List TextLine) → Follows inside o ls → Each (option_line o) → any_open (option_line o) ≡ false
+separator_none : (inside : Bool) (o : Option TextLine) (ls : List TextLine) → Follows inside o ls → Each (option_to_list o) → any_open (option_to_list o) ≡ false
 separator_none inside None ls f e = refl
 separator_none inside (Some l) ls f e = ap (λ t. t || false) (empty_closed l.content l.ending f e.0)
 
-made_none : (eol : Ending) (inside : Bool) (o : Option TextLine) (ls : List TextLine) → is_open eol ≡ false → Follows inside o ls → Each (option_line o) → is_open (separator_or eol o).ending ≡ false
+made_none : (eol : Ending) (inside : Bool) (o : Option TextLine) (ls : List TextLine) → is_open eol ≡ false → Follows inside o ls → Each (option_to_list o) → is_open (unwrap_or o (text_line [] eol)).ending ≡ false
 made_none eol inside None ls c f e = c
 made_none eol inside (Some l) ls c f e = empty_closed l.content l.ending f e.0
 
@@ -96,7 +98,7 @@ ended_body eol followed (leaf h ls) = if followed then ls else ended_lines eol l
 ended_body eol followed (message h e) = body_lines (message h e)
 ended_body eol followed (multi h b pre ps t) = body_lines (multi h b pre ps t)
 
-pub print_inner : (eol : Ending) (fs : List Frame) (s : Entity) → print (inner_part eol fs s) ≡ (content_fields false (field_lines s) ++ (separator_or eol (entity_head s).separator ∷ [])) ++ ended_body eol (has_line (lines_after fs)) s
+pub print_inner : (eol : Ending) (fs : List Frame) (s : Entity) → print (inner_part eol fs s) ≡ (content_fields false (field_lines s) ++ (unwrap_or (entity_head s).separator (text_line [] eol) ∷ [])) ++ ended_body eol (not (is_nil (lines_after fs))) s
 print_inner eol fs (leaf h ls) = refl
 print_inner eol fs (message h e) = refl
 print_inner eol fs (multi h b pre ps t) = refl
@@ -128,11 +130,11 @@ outer_open eol fs others subtype b c =
     any_join others (version ++ (type_line eol subtype b ∷ []))
     ∙ (ap (λ t. any_open others || t) (any_join version (type_line eol subtype b ∷ []) ∙ rw (version_closed eol fs others c, c) refl) ∙ or_none (any_open others))
 
-inner_open : (eol : Ending) (fs : List Frame) (s : Entity) → is_open (separator_or eol (entity_head s).separator).ending ≡ false → any_open (print (inner_part eol fs s)) ≡ (any_open (content_fields false (field_lines s)) || any_open (ended_body eol (has_line (lines_after fs)) s))
+inner_open : (eol : Ending) (fs : List Frame) (s : Entity) → is_open (unwrap_or (entity_head s).separator (text_line [] eol)).ending ≡ false → any_open (print (inner_part eol fs s)) ≡ (any_open (content_fields false (field_lines s)) || any_open (ended_body eol (not (is_nil (lines_after fs))) s))
 inner_open eol fs s c =
     let content = content_fields false (field_lines s) in
-    let separator = separator_or eol (entity_head s).separator in
-    let body = ended_body eol (has_line (lines_after fs)) s in
+    let separator = unwrap_or (entity_head s).separator (text_line [] eol) in
+    let body = ended_body eol (not (is_nil (lines_after fs))) s in
     ap any_open (print_inner eol fs s)
     ∙ (any_join (content ++ (separator ∷ [])) body
     ∙ ap (λ t. t || any_open body) (any_join content (separator ∷ []) ∙ (ap (λ t. any_open content || (t || false)) c ∙ or_none (any_open content))))
@@ -141,14 +143,14 @@ rest_closed : (eol : Ending) (b : List ℕ) (rest : List TextLine) → is_open e
 rest_closed eol b [] c h = refl
 rest_closed eol b (r ∷ rest) c h = rw c h
 
-pub new_open : (eol : Ending) (front rest : List TextLine) (fs : List Frame) (s : Entity) (subtype b : List ℕ) → is_open eol ≡ false → is_open (separator_or eol (entity_head s).separator).ending ≡ false → is_open_early rest ≡ false
-    → is_open_early (front ++ (print (wrapped eol fs s subtype b) ++ rest)) ≡ (any_open front || (any_open (field_lines s) || any_open (ended_body eol (has_line (lines_after fs)) s)))
+pub new_open : (eol : Ending) (front rest : List TextLine) (fs : List Frame) (s : Entity) (subtype b : List ℕ) → is_open eol ≡ false → is_open (unwrap_or (entity_head s).separator (text_line [] eol)).ending ≡ false → is_open_early rest ≡ false
+    → is_open_early (front ++ (print (wrapped eol fs s subtype b) ++ rest)) ≡ (any_open front || (any_open (field_lines s) || any_open (ended_body eol (not (is_nil (lines_after fs))) s)))
 new_open eol front rest fs s subtype b c q r =
     let others = other_fields false (field_lines s) in
     let content = content_fields false (field_lines s) in
     let outer = outer_fields eol fs (other_fields false (field_lines s)) subtype b in
     let inner = print (inner_part eol fs s) in
-    let body = ended_body eol (has_line (lines_after fs)) s in
+    let body = ended_body eol (not (is_nil (lines_after fs))) s in
     let empty = text_line [] eol in
     ap is_open_early (regroup front outer inner rest empty (delimiter_line eol b) (close_line eol b))
     ∙ (early_front (front ++ (outer ++ (empty ∷ delimiter_line eol b ∷ inner))) (close_line eol b) rest
@@ -183,16 +185,16 @@ record AreShut (front : List TextLine) (e : Entity) : Type 0 where
 
 shut_apart : (front : List TextLine) (e : Entity) → any_open (front ++ print e) ≡ false → AreShut front e
 shut_apart front e h =
-    let o = option_line (entity_head e).separator in
+    let o = option_to_list (entity_head e).separator in
     let a = or_parts (any_open front) (any_open (print e)) (sym (any_join front (print e)) ∙ h) in
     let b = or_parts (any_open (field_lines e)) (any_open (o ++ body_lines e)) (sym (any_join (field_lines e) (o ++ body_lines e)) ∙ (ap any_open (sym (entity_lines e)) ∙ a.1)) in
     let c = or_parts (any_open o) (any_open (body_lines e)) (sym (any_join o (body_lines e)) ∙ b.1) in
     record { before = a.0; fields = b.0; body = c.1 }
 
 -- those of all lines
-all_open : (front : List TextLine) (e : Entity) → any_open (option_line (entity_head e).separator) ≡ false → any_open (front ++ (print e ++ [])) ≡ (any_open front || (any_open (field_lines e) || any_open (body_lines e)))
+all_open : (front : List TextLine) (e : Entity) → any_open (option_to_list (entity_head e).separator) ≡ false → any_open (front ++ (print e ++ [])) ≡ (any_open front || (any_open (field_lines e) || any_open (body_lines e)))
 all_open front e s =
-    let o = option_line (entity_head e).separator in
+    let o = option_to_list (entity_head e).separator in
     any_join front (print e ++ [])
     ∙ ap (λ t. any_open front || t)
     (ap any_open (lines_end (print e) ∙ entity_lines e)
@@ -216,13 +218,13 @@ leaf_full : (text : List ℕ) (eol : Ending) (front : List TextLine) (h : Head) 
 leaf_full text eol front h l ls c a =
     let whole : AreLines ((front ++ head_lines h) ++ (l ∷ ls)) = subst AreLines (leaf_apart front h (l ∷ ls)) a in
     let before = or_parts (any_open front) (any_open (head_lines h)) (sym (any_join front (head_lines h)) ∙ closed_front (front ++ head_lines h) l ls whole) in
-    let fields = or_parts (any_open h.fields) (any_open (option_line h.separator)) (sym (any_join h.fields (option_line h.separator)) ∙ before.1) in
+    let fields = or_parts (any_open h.fields) (any_open (option_to_list h.separator)) (sym (any_join h.fields (option_to_list h.separator)) ∙ before.1) in
     let body : AreLines (l ∷ ls) = lines_following (front ++ head_lines h) (l ∷ ls) whole in
     let some : is_nil (text_of (l ∷ ls)) ≡ false = no_text (text_of (l ∷ ls)) (some_text l ls body.0) in
     ap (λ t. not (not t) && ends_open text) some
     ∙ sym (or_both (any_open front) (any_open h.fields || any_open (ended_lines eol (l ∷ ls))) before.0 (or_both (any_open h.fields) (any_open (ended_lines eol (l ∷ ls))) fields.0 (ended_closed eol (l ∷ ls) c (early_none (l ∷ ls) body))))
 
-last_by : (text : List ℕ) (eol : Ending) (front : List TextLine) (e : Entity) → is_open eol ≡ false → any_open (option_line (entity_head e).separator) ≡ false → cut text ≡ front ++ (print e ++ []) → OpensBy text eol front e false
+last_by : (text : List ℕ) (eol : Ending) (front : List TextLine) (e : Entity) → is_open eol ≡ false → any_open (option_to_list (entity_head e).separator) ≡ false → cut text ≡ front ++ (print e ++ []) → OpensBy text eol front e false
 last_by text eol front (message h e) c s q = sym (text_open text) ∙ (ap any_open q ∙ all_open front (message h e) s)
 last_by text eol front (multi h b pre ps t) c s q = sym (text_open text) ∙ (ap any_open q ∙ all_open front (multi h b pre ps t) s)
 last_by text eol front (leaf h []) c s q =
@@ -230,7 +232,7 @@ last_by text eol front (leaf h []) c s q =
     ∙ (ap any_open q ∙ (all_open front (leaf h []) s ∙ ap (λ t. any_open front || (any_open h.fields || t)) (sym (ended_closed eol [] c refl))))
 last_by text eol front (leaf h (l ∷ ls)) c s q = leaf_full text eol front h l ls c (subst AreLines q (lines_cut text))
 
-opens_by : (text : List ℕ) (eol : Ending) (front rest : List TextLine) (e : Entity) → is_open eol ≡ false → any_open (option_line (entity_head e).separator) ≡ false → cut text ≡ front ++ (print e ++ rest) → OpensBy text eol front e (has_line rest)
+opens_by : (text : List ℕ) (eol : Ending) (front rest : List TextLine) (e : Entity) → is_open eol ≡ false → any_open (option_to_list (entity_head e).separator) ≡ false → cut text ≡ front ++ (print e ++ rest) → OpensBy text eol front e (not (is_nil rest))
 opens_by text eol front [] e c s q = last_by text eol front e c s q
 opens_by text eol front (r ∷ rest) e c s q = followed_by text eol front rest r e (subst AreLines q (lines_cut text))
 
@@ -241,10 +243,10 @@ opens_told text path p s eol subtype b c =
     let rest = lines_after s.around in
     let o = (entity_head p.entity).separator in
     let next = (split_of (left_at levels s.around) (default_at false s.around) p.entity s.well).next in
-    let each = each_front (option_line o) (body_lines p.entity) (each_line (option_line o ++ body_lines p.entity) (after_are text path p s)) in
+    let each = each_front (option_to_list o) (body_lines p.entity) (each_line (option_to_list o ++ body_lines p.entity) (after_are text path p s)) in
     let whole : AreLines (front_lines text path p s ++ (print p.entity ++ lines_after s.around)) = subst AreLines (text_lines text path p s) (lines_cut text) in
-    let same : p.followed ≡ has_line (lines_after s.around) = ap (λ (x : Placed). x.followed) s.placed_is in
+    let same : p.followed ≡ not (is_nil (lines_after s.around)) = ap (λ (x : Placed). x.followed) s.placed_is in
     ap (λ t. not t && (not (is_leaf p.entity && not (is_nil (body_text p))) && ends_open text)) same
-    ∙ (opens_by text eol front rest p.entity c (separator_none (has_line (field_lines p.entity)) o (body_lines p.entity) next each) (text_lines text path p s)
-    ∙ (sym (new_open eol front rest s.around p.entity subtype b c (made_none eol (has_line (field_lines p.entity)) o (body_lines p.entity) c next each) (early_none rest (lines_following (print p.entity) rest (lines_following front (print p.entity ++ rest) whole))))
+    ∙ (opens_by text eol front rest p.entity c (separator_none (not (is_nil (field_lines p.entity))) o (body_lines p.entity) next each) (text_lines text path p s)
+    ∙ (sym (new_open eol front rest s.around p.entity subtype b c (made_none eol (not (is_nil (field_lines p.entity))) o (body_lines p.entity) c next each) (early_none rest (lines_following (print p.entity) rest (lines_following front (print p.entity ++ rest) whole))))
     ∙ ap is_open_early (sym (lines_there text path p s (wrapped eol s.around p.entity subtype b)))))

@@ -4,7 +4,8 @@ use Rattle.std.proofs.lemmas.Bool.{cases_Bool, eqb-true}
 use Rattle.std.proofs.Math.Seq.{take-append_seam, drop-append_seam}
 use Rattle.mk_line.specs.Lines.{text_of}
 use Rattle.mk_line.proofs.Cuts.{text_append}
-use Rattle.mk_head.specs.Split.{option_line, head_lines}
+use Rattle.mk_head.specs.Split.{head_lines}
+use Rattle.std.specs.Option.{option_to_list}
 use Rattle.mk_tree.specs.Tree.{Entity, leaf, message, multi, Parts, no_parts, part, print, entity_head, field_lines}
 use Rattle.mk_tree.specs.Sections.{Placed, parts_placed, has_tail, children_of, raw_of, head_text, body_text, body_lines}
 use Rattle.mk_tree.specs.Spans.{size, digest_below}
@@ -15,7 +16,7 @@ use Rattle.mk_decide.specs.WrapAnswers.{is_leaf, separator_text, fits_levels, fi
 pub raw_apart : (p : Placed) → raw_of p ≡ head_text p ++ (separator_text p ++ body_text p)
 raw_apart p =
     ap text_of (entity_lines p.entity)
-    ∙ (text_append (field_lines p.entity) (after_fields p.entity) ∙ ap (λ t. head_text p ++ t) (text_append (option_line (entity_head p.entity).separator) (body_lines p.entity)))
+    ∙ (text_append (field_lines p.entity) (after_fields p.entity) ∙ ap (λ t. head_text p ++ t) (text_append (option_to_list (entity_head p.entity).separator) (body_lines p.entity)))
 
 pub front_apart : (whole front rest : List ℕ) (n : ℕ) → whole ≡ front ++ rest → n ≡ length front → take n whole ≡ front
 front_apart whole front rest n e h = ap (take n) e ∙ (ap (λ k. take k (front ++ rest)) h ∙ take-append_seam front rest)

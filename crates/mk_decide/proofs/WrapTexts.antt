@@ -5,8 +5,7 @@ use Rattle.mk_line.specs.declared.cutting.Ending.{Ending}
 use Rattle.mk_line.specs.declared.cutting.Ending.TheVariants.{Crlf, Lf, Missing}
 use Rattle.mk_line.specs.Lines.{TextLine, text_line, cut, text_of, printed_line, ending_bytes, is_nil, is_open, AreLines}
 use Rattle.mk_line.proofs.Cuts.{cut_text, text_append, append_nil}
-use Rattle.mk_head.specs.Split.{option_line}
-use Rattle.mk_head.specs.Splits.{has_line}
+use Rattle.std.specs.Option.{option_to_list}
 use Rattle.mk_head.specs.Values.{is_token}
 use Rattle.mk_tree.specs.Tree.{Entity, leaf, message, multi, print, entity_head, field_lines}
 use Rattle.mk_tree.specs.Documents.{tree}
@@ -15,7 +14,8 @@ use Rattle.mk_tree.specs.Places.{Frame, lines_after}
 use Rattle.mk_tree.proofs.Plugs.{lines_end}
 use Rattle.mk_line.specs.Marks.{delimiter_line, close_line}
 use Rattle.mk_head.specs.Types.{type_line}
-use Rattle.mk_decide.specs.Wrapping.{is_content_line, content_fields, other_fields, names_field, version_lines, made_lines, separator_or, ended_lines, inner_part, wrapped}
+use Rattle.mk_decide.specs.Wrapping.{is_content_line, content_fields, other_fields, names_field, version_lines, made_lines, ended_lines, inner_part, wrapped}
+use Rattle.std.specs.Prelude.{unwrap_or}
 use Rattle.mk_decide.specs.WrapAnswers.{content_part, other_part, version_bytes, type_bytes, delimiter_bytes, close_bytes, made_bytes, separator_text, separator_part, is_leaf, end_part, part_bytes, wrap_bytes}
 use Rattle.mk_decide.proofs.Openings.{Each, each_line, each_front, each_join, some_text}
 use Rattle.mk_decide.proofs.FieldFits.{no_text, entity_are, after_are}
@@ -53,7 +53,7 @@ version_told eol (k ∷ ks) [] others h a = none_suc (length ks) h
 version_told eol (k ∷ ks) (f ∷ fs) others h a = refl
 
 -- the separator
-separator_told : (eol : Ending) (o : Option TextLine) → Each (option_line o) → separator_part eol (text_of (option_line o)) ≡ printed_line (separator_or eol o)
+separator_told : (eol : Ending) (o : Option TextLine) → Each (option_to_list o) → separator_part eol (text_of (option_to_list o)) ≡ printed_line (unwrap_or o (text_line [] eol))
 separator_told eol None e = refl
 separator_told eol (Some l) e = ap (λ t. if t then ending_bytes eol else printed_line l ++ []) (no_text (text_of (l ∷ [])) (some_text l [] e.0)) ∙ append_nil (printed_line l)
 
@@ -80,19 +80,19 @@ ended_told eol false (multi h b pre ps t) = append_nil (text_of (body_lines (mul
 part_apart : (content body : List TextLine) (l : TextLine) → text_of ((content ++ (l ∷ [])) ++ body) ≡ (text_of content ++ printed_line l) ++ text_of body
 part_apart content body l = text_append (content ++ (l ∷ [])) body ∙ ap (λ t. t ++ text_of body) (text_append content (l ∷ []) ∙ ap (λ t. text_of content ++ t) (append_nil (printed_line l)))
 
-part_told : (eol : Ending) (fs : List Frame) (p : Placed) (content : List ℕ) → p.followed ≡ has_line (lines_after fs) → Each (option_line (entity_head p.entity).separator) → content ≡ text_of (content_fields false (field_lines p.entity))
+part_told : (eol : Ending) (fs : List Frame) (p : Placed) (content : List ℕ) → p.followed ≡ not (is_nil (lines_after fs)) → Each (option_to_list (entity_head p.entity).separator) → content ≡ text_of (content_fields false (field_lines p.entity))
     → part_bytes eol p content ≡ text_of (print (inner_part eol fs p.entity))
 part_told eol fs p content f e c =
     let own = content_fields false (field_lines p.entity) in
     let separator = (entity_head p.entity).separator in
-    let t = has_line (lines_after fs) in
-    let body = ended_body eol (has_line (lines_after fs)) p.entity in
+    let t = not (is_nil (lines_after fs)) in
+    let body = ended_body eol (not (is_nil (lines_after fs))) p.entity in
     append_assoc (content ++ separator_part eol (separator_text p)) (body_text p) (end_part eol p)
     ∙ (ap (λ x. (content ++ separator_part eol (separator_text p)) ++ (body_text p ++ (if not x && is_leaf p.entity then ending_bytes eol else []))) f
     ∙ (ap (λ x. (content ++ separator_part eol (separator_text p)) ++ x) (ended_told eol t p.entity)
     ∙ (ap (λ x. (content ++ x) ++ text_of body) (separator_told eol separator e)
-    ∙ (ap (λ x. (x ++ printed_line (separator_or eol separator)) ++ text_of body) c
-    ∙ (sym (part_apart own body (separator_or eol separator)) ∙ ap text_of (sym (print_inner eol fs p.entity)))))))
+    ∙ (ap (λ x. (x ++ printed_line (unwrap_or separator (text_line [] eol))) ++ text_of body) c
+    ∙ (sym (part_apart own body (unwrap_or separator (text_line [] eol))) ∙ ap text_of (sym (print_inner eol fs p.entity)))))))
 
 -- all lines
 wrapped_apart : (others version inner : List TextLine) (t e d c : TextLine)
@@ -108,7 +108,7 @@ bytes_told text path p s eol subtype b =
     let version = version_lines eol fs (other_fields false (field_lines p.entity)) in
     let long = as_long s.numbers (tree text).root s.around p.entity s.found in
     let o = (entity_head p.entity).separator in
-    let each = each_front (option_line o) (body_lines p.entity) (each_line (option_line o ++ body_lines p.entity) (after_are text path p s)) in
+    let each = each_front (option_to_list o) (body_lines p.entity) (each_line (option_to_list o ++ body_lines p.entity) (after_are text path p s)) in
     let other : other_part (head_text p) ≡ text_of (other_fields false (field_lines p.entity)) = ap (λ ls. text_of (other_fields false ls)) (head_cut text path p s) in
     let own : content_part (head_text p) ≡ text_of (content_fields false (field_lines p.entity)) = ap (λ ls. text_of (content_fields false ls)) (head_cut text path p s) in
     let are = others_are false fields (entity_fields p.entity (entity_are text path p s)) in

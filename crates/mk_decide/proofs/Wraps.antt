@@ -8,7 +8,7 @@ use Rattle.mk_line.specs.Marks.{dashed, delimiter_line, close_line}
 use Rattle.mk_line.proofs.Cuts.{append_nil}
 use Rattle.mk_head.specs.Split.{head_lines}
 use Rattle.mk_head.specs.Splits.{IsRun}
-use Rattle.mk_head.specs.Unfolding.{or_nothing}
+use Rattle.std.specs.Prelude.{unwrap_or}
 use Rattle.mk_line.specs.Parting.{following}
 use Rattle.mk_head.specs.Values.{lowered, is_token_byte, is_token}
 use Rattle.mk_head.specs.Boundaries.{is_boundary_byte}
@@ -95,7 +95,7 @@ version_value eol [] others ls = version_value_by eol (names_field (codes "MIME-
 version_value eol (f ∷ fs) others ls = refl
 
 type_value : (eol : Ending) (subtype b : List ℕ) → field_value (codes "Content-Type") (type_line eol subtype b ∷ []) ≡ Some (made_value subtype b)
-type_value eol subtype b = ap (λ cs. Some (or_nothing (following 58 cs))) (append_nil (codes "Content-Type: multipart/" ++ (subtype ++ (codes "; boundary=\"" ++ (b ++ codes "\"")))))
+type_value eol subtype b = ap (λ cs. Some (unwrap_or (following 58 cs) [])) (append_nil (codes "Content-Type: multipart/" ++ (subtype ++ (codes "; boundary=\"" ++ (b ++ codes "\"")))))
 
 outer_value : (eol : Ending) (fs : List Frame) (fields : List TextLine) (subtype b : List ℕ) → field_value (codes "Content-Type") (outer_fields eol fs (other_fields false fields) subtype b) ≡ Some (made_value subtype b)
 outer_value eol fs fields subtype b =

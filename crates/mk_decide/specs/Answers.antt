@@ -1,5 +1,5 @@
 -- What a call answers, beside what is defined.
-use Rattle.std.specs.Prelude.{◌≡◌, Bool, true, false, Option, None, Some, Result, Ok, Err}
+use Rattle.std.specs.Prelude.{◌≡◌, Bool, true, false, Option, None, Some, Result, Ok, Err, is_none}
 use Rattle.mk_decide.specs.declared.errors.EditError.{EditError}
 use Rattle.mk_decide.specs.declared.errors.EditError.TheVariants as error
 use Rattle.mk_decide.specs.Edits.{Refusal, NoSuchSection, NotMultipart, NotLeaf, NotPart, NoSuchField, BadPlace, BadField, BadName, BadBoundary, BadSubtype, OpenLine, HoldsBoundary, Recut, NothingToUndo, NothingToRedo}
@@ -23,14 +23,9 @@ refusal_of error.NothingToUndo = Some NothingToUndo
 refusal_of error.NothingToRedo = Some NothingToRedo
 refusal_of error.Memory = None
 
--- no reason is named
-abbrev pub is_unnamed : Option Refusal → Bool
-is_unnamed None = true
-is_unnamed (Some e) = false
-
 -- running out of memory
 abbrev pub is_memory : EditError → Bool
-is_memory e = is_unnamed (refusal_of e)
+is_memory e = is_none (refusal_of e)
 
 -- an answer is the reason, where one is named
 abbrev pub IsRefusedBy : {X : Type 0} → Option Refusal → Result X Refusal → Type 0

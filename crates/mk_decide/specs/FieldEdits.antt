@@ -1,4 +1,5 @@
 -- A field among the lines of fields, by its name, and what edits make of it.
+use Rattle.mk_head.specs.Fields.{after_more}
 use Rattle.std.specs.Prelude.{◌&&◌, ◌++◌, if◌then◌else◌, ℕ, Bool, Option, None, Some, List, [], ◌∷◌, suc, zero}
 use Rattle.std.specs.Option.{option_map}
 use Rattle.mk_line.specs.Ascii.{is_name_byte}
@@ -9,11 +10,6 @@ use Rattle.mk_head.specs.Fields.{continuations, field_text, is_named}
 -- a field start of a name, without regard to ASCII case (RFC 5322, 2.2)
 abbrev pub starts_named : List ℕ → TextLine → Bool
 starts_named name l = is_start l && is_named name (field_text l [])
-
--- what follows the continuations at the start
-abbrev pub after_continuations : List TextLine → List TextLine
-after_continuations [] = []
-after_continuations (l ∷ ls) = if is_more l then after_continuations ls else l ∷ ls
 
 -- a field among others: the lines before it, its field start, the lines that continue it, the lines after it
 pub record Found : Type 0 where
@@ -30,7 +26,7 @@ found_after l o = option_map (λ (f : Found). record { before = l ∷ f.before; 
 abbrev pub find : (TextLine → Bool) → ℕ → List TextLine → Option Found
 find test k [] = None
 find test zero (l ∷ ls) =
-    if test l then Some (record { before = []; start = l; more = continuations ls; after = after_continuations ls })
+    if test l then Some (record { before = []; start = l; more = continuations ls; after = after_more ls })
     else found_after l (find test zero ls)
 find test (suc k) (l ∷ ls) = found_after l (find test (if test l then k else suc k) ls)
 

@@ -1,4 +1,5 @@
 -- The four edits of fields: what each puts among the lines of a head.
+use Rattle.mk_decide.specs.Plans.{with_field}
 use Rattle.std.specs.Prelude.{◌≡◌, ◌==◌, ◌+◌, ◌-◌, ◌++◌, if◌then◌else◌, ℕ, Bool, true, false, not, Option, None, Some, Result, Ok, Err, List, [], ◌∷◌, length, take, drop}
 use Rattle.mk_line.specs.Lines.{TextLine, cut, text_of, printed_line, ending_bytes}
 use Rattle.mk_head.specs.Fields.{FieldText, name_of, is_named, is_one_field}
@@ -50,26 +51,21 @@ abbrev pub put_unless : Bool → Refusal → LinePut → Result LinePut Refusal
 put_unless true e p = Err e
 put_unless false e p = Ok p
 
--- what is put for a field that is found
-abbrev pub put_found : Option Found → (Found → Result LinePut Refusal) → Result LinePut Refusal
-put_found None f = Err NoSuchField
-put_found (Some x) f = f x
-
 -- what each edit puts among fields, or the first reason against it
 abbrev pub adds : Bool → List ℕ → List TextLine → Result LinePut Refusal
 adds top text fields = put_unless (not (is_one_field (cut text))) BadField (add_put top (cut text) fields)
 
 -- nothing in the place of a field
 abbrev pub removes : Option Found → Result LinePut Refusal
-removes o = put_found o (λ f. Ok (set_put [] f))
+removes o = with_field o (λ f. Ok (set_put [] f))
 
 -- another name in the place of its own
 abbrev pub renames : List ℕ → Option Found → Result LinePut Refusal
-renames to o = put_found o (λ f. put_unless (not (is_name to)) BadName (name_put to f))
+renames to o = with_field o (λ f. put_unless (not (is_name to)) BadName (name_put to f))
 
 -- a field in the place of another
 abbrev pub sets : List ℕ → Option Found → Result LinePut Refusal
-sets text o = put_found o (λ f. put_unless (not (is_one_field (cut text))) BadField (set_put (cut text) f))
+sets text o = with_field o (λ f. put_unless (not (is_one_field (cut text))) BadField (set_put (cut text) f))
 
 -- what each edit puts
 abbrev pub puts : FieldEdit → List TextLine → Result LinePut Refusal

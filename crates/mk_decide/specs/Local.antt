@@ -1,9 +1,8 @@
 -- The conditions under which an edit of a stable document gives a stable one, each on the section alone (own).
-use Rattle.std.specs.Prelude.{◌≡◌, ℕ, Bool, true, false, Option, None, Some, List, [], ◌∷◌, zero, suc, codes}
+use Rattle.std.specs.Prelude.{◌≡◌, ℕ, Bool, true, false, Option, None, Some, List, [], ◌∷◌, zero, suc, codes, not}
 use Rattle.std.specs.Str.{bytes_eq}
 use Rattle.mk_line.specs.declared.cutting.Ending.{Ending}
-use Rattle.mk_line.specs.Lines.{TextLine, eol_of, is_open, EndsWell}
-use Rattle.mk_head.specs.Splits.{has_line}
+use Rattle.mk_line.specs.Lines.{TextLine, eol_of, is_open, EndsWell, is_nil}
 use Rattle.mk_head.specs.Values.{lowered}
 use Rattle.mk_tree.specs.Kinds.{Kind, Leaf, Message, Multi, kind_at, is_digest}
 use Rattle.mk_tree.specs.Tree.{Entity, leaf, message, multi, Parts, no_parts, part, entity_head, field_lines}
@@ -71,7 +70,7 @@ MayEnd eol (l ∷ m ∷ ls) = MayEnd eol (m ∷ ls)
 
 -- only the body of a leaf that no line follows gets an ending
 abbrev pub BodyMayEnd : Ending → List Frame → Entity → Type 0
-BodyMayEnd eol fs (leaf h ls) = has_line (lines_after fs) ≡ false → MayEnd eol ls
+BodyMayEnd eol fs (leaf h ls) = not (is_nil (lines_after fs)) ≡ false → MayEnd eol ls
 BodyMayEnd eol fs (message h e) = Unit {0}
 BodyMayEnd eol fs (multi h b pre ps t) = Unit {0}
 

@@ -3,7 +3,8 @@ use Rattle.std.specs.Prelude.{◌≡◌, ◌<◌, ◌+◌, ◌++◌, ◌∷◌, 
 use Rattle.mk_line.specs.Lines.{TextLine, cut, printed_line}
 use Rattle.mk_line.specs.Kinds.{is_from_line}
 use Rattle.mk_line.specs.Views.{BeginsLine}
-use Rattle.mk_head.specs.Split.{is_more, option_line}
+use Rattle.mk_head.specs.Split.{is_more}
+use Rattle.std.specs.Option.{option_to_list}
 use Rattle.mk_tree.specs.Spans.{size}
 
 -- a line of so many bytes stands at a place, and the next begins after it
@@ -20,7 +21,7 @@ pub record IsEnd (text : List ℕ) (place : ℕ) : Type 0 where
 
 -- a separator is there: it has a byte
 abbrev pub has_separator : Option TextLine → Bool
-has_separator o = nat_lt 0 (size (option_line o))
+has_separator o = nat_lt 0 (size (option_to_list o))
 
 -- whether new fields, or none, end before the first of these lines, which the old ones ended before; `first`: a
 -- document without an envelope begins with them

@@ -1,8 +1,8 @@
 -- What an edit puts where, unless a reason of those before OpenLine holds against it (own).
-use Rattle.std.specs.Prelude.{◌==◌, ◌++◌, if◌then◌else◌, ℕ, Bool, true, false, not, Option, None, Some, Result, Ok, Err, List, [], ◌∷◌, suc, zero}
+use Rattle.std.specs.Prelude.{◌==◌, ◌++◌, if◌then◌else◌, ℕ, Bool, true, false, not, Option, None, Some, Result, Ok, Err, List, [], ◌∷◌, suc, zero, unwrap_or}
 use Rattle.std.specs.Option.{option_map}
 use Rattle.mk_line.specs.declared.cutting.Ending.{Ending}
-use Rattle.mk_line.specs.Lines.{TextLine, cut, eol_of}
+use Rattle.mk_line.specs.Lines.{TextLine, cut, eol_of, text_line}
 use Rattle.mk_head.specs.Split.{Head}
 use Rattle.mk_head.specs.Fields.{is_one_field}
 use Rattle.mk_head.specs.Boundaries.{is_boundary}
@@ -17,7 +17,7 @@ use Rattle.mk_decide.specs.Edits.{PlainEdit, AddField, RemoveField, RenameField,
 use Rattle.mk_line.specs.Kinds.{is_name}
 use Rattle.mk_decide.specs.FieldEdits.{Found, field_at, renamed}
 use Rattle.mk_line.specs.Marks.{delimiter_line}
-use Rattle.mk_decide.specs.Wrapping.{other_fields, separator_or, made_lines, wrapped}
+use Rattle.mk_decide.specs.Wrapping.{other_fields, made_lines, wrapped}
 
 -- a new entity and what stands around it; `given`: its given and made lines, which no enclosing multipart may have as
 -- marks; `inside`: lines that a boundary at the place itself may not have as marks
@@ -58,7 +58,7 @@ unless true e r = Err e
 unless false e r = r
 
 -- what follows for the field that is found
-abbrev pub with_field : Option Found → (Found → Result Plan Refusal) → Result Plan Refusal
+abbrev pub with_field : {A : Type 0} → Option Found → (Found → Result A Refusal) → Result A Refusal
 with_field None f = Err NoSuchField
 with_field (Some x) f = f x
 
@@ -68,7 +68,7 @@ read_plan fs given = plain_plan fs (read (left_at levels fs) (default_at false f
 
 -- a leaf with another body, after its separator or a made one
 abbrev pub body_plan : Ending → List Frame → Head → List TextLine → Plan
-body_plan eol fs h given = plain_plan fs (leaf (record { fields = h.fields; separator = Some (separator_or eol h.separator) }) given) given
+body_plan eol fs h given = plain_plan fs (leaf (record { fields = h.fields; separator = Some (unwrap_or h.separator (text_line [] eol)) }) given) given
 
 -- another body, where the section is a leaf
 abbrev pub set_body : Ending → List Frame → Entity → List TextLine → Result Plan Refusal

@@ -5,7 +5,7 @@ use Rattle.mk_line.specs.declared.cutting.Ending.{Ending}
 use Rattle.mk_line.specs.Ascii.{carriage_return}
 use Rattle.mk_line.specs.Lines.{cut, text_of, is_nil, is_lf, ending_bytes, eol_of, ends_open, printed_line}
 use Rattle.mk_line.specs.Marks.{close_line, delimiter_line}
-use Rattle.mk_head.specs.Split.{option_line}
+use Rattle.std.specs.Option.{option_to_list}
 use Rattle.mk_head.specs.Boundaries.{is_boundary}
 use Rattle.mk_head.specs.Types.{type_line}
 use Rattle.mk_head.specs.Values.{lowered, is_token}
@@ -49,7 +49,7 @@ made_bytes eol first others subtype boundary = ((version_bytes eol first others 
 
 -- the separator, or a made one
 abbrev pub separator_text : Placed → List ℕ
-separator_text p = text_of (option_line (entity_head p.entity).separator)
+separator_text p = text_of (option_to_list (entity_head p.entity).separator)
 
 -- a separator, or a made one where there is none
 abbrev pub separator_part : Ending → List ℕ → List ℕ

@@ -1,11 +1,10 @@
 -- A section made the one part of a multipart: what stands around it, and what it becomes (own; RFC 2046, 5.1).
-use Rattle.std.specs.Prelude.{◌||◌, ◌++◌, if◌then◌else◌, ℕ, Bool, true, false, Option, None, Some, List, [], ◌∷◌, codes, nat_eq}
+use Rattle.std.specs.Prelude.{◌||◌, ◌++◌, if◌then◌else◌, ℕ, Bool, true, false, Option, None, Some, List, [], ◌∷◌, codes, nat_eq, unwrap_or, not}
 use Rattle.std.specs.List.{starts_with}
 use Rattle.mk_line.specs.declared.cutting.Ending.{Ending}
-use Rattle.mk_line.specs.Lines.{TextLine, text_line, is_open}
+use Rattle.mk_line.specs.Lines.{TextLine, text_line, is_open, is_nil}
 use Rattle.mk_line.specs.Marks.{close_line, delimiter_line}
 use Rattle.mk_head.specs.Split.{Head, is_start}
-use Rattle.mk_head.specs.Splits.{has_line}
 use Rattle.mk_head.specs.Fields.{name_of}
 use Rattle.mk_head.specs.Types.{type_line}
 use Rattle.mk_head.specs.Values.{lowered}
@@ -45,11 +44,6 @@ version_lines eol (f ∷ fs) others = []
 abbrev pub made_lines : Ending → List Frame → List TextLine → List ℕ → List ℕ → List TextLine
 made_lines eol fs others subtype boundary = version_lines eol fs others ++ (type_line eol subtype boundary ∷ delimiter_line eol boundary ∷ close_line eol boundary ∷ [])
 
--- a separator, made where there is none
-abbrev pub separator_or : Ending → Option TextLine → TextLine
-separator_or eol None = text_line [] eol
-separator_or eol (Some l) = l
-
 -- lines with an ending put after them: an open last line gets it, else it is an empty line more
 abbrev pub ended_lines : Ending → List TextLine → List TextLine
 ended_lines eol [] = text_line [] eol ∷ []
@@ -58,11 +52,11 @@ ended_lines eol (l ∷ m ∷ ls) = l ∷ ended_lines eol (m ∷ ls)
 
 -- the head of the part
 abbrev pub inner_head : Ending → Head → Head
-inner_head eol h = record { fields = content_fields false h.fields; separator = Some (separator_or eol h.separator) }
+inner_head eol h = record { fields = content_fields false h.fields; separator = Some (unwrap_or h.separator (text_line [] eol)) }
 
 -- the part: a leaf that no line follows gets an ending, which belongs to the close line after it
 abbrev pub inner_part : Ending → List Frame → Entity → Entity
-inner_part eol fs (leaf h ls) = leaf (inner_head eol h) (if has_line (lines_after fs) then ls else ended_lines eol ls)
+inner_part eol fs (leaf h ls) = leaf (inner_head eol h) (if not (is_nil (lines_after fs)) then ls else ended_lines eol ls)
 inner_part eol fs (message h e) = message (inner_head eol h) e
 inner_part eol fs (multi h b pre ps t) = multi (inner_head eol h) b pre ps t
 

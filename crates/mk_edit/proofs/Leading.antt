@@ -9,7 +9,8 @@ use Rattle.mk_decide.specs.EditSplices.{splices_of}
 use Rattle.mk_splice.specs.Splices.{Splice, LeadsTo}
 use Rattle.mk_edit.specs.Groups.{Together, together}
 use Rattle.mk_edit.specs.History.{History}
-use Rattle.mk_edit.specs.Histories.{AreLinked, IsHistory, text_now, with_step, edited_by, grouped_by, left_by, after, after_all}
+use Rattle.mk_edit.specs.Histories.{AreLinked, IsHistory, text_now, with_step, edited_by, grouped_by, after, after_all}
+use Rattle.std.specs.Result.{result_unwrap_or}
 use Rattle.mk_edit.specs.Laws.{HistoriesStay, TextsStart}
 use Rattle.mk_decide.proofs.EditsLead.{splices_lead_lem}
 use Rattle.mk_edit.proofs.GroupFacts.{LeadsFrom, together_leads}
@@ -34,19 +35,19 @@ stays_step h y s b p = record {
   within = omega (arith, length-append (take h.place h.steps) (s ∷ []), length-take-le h.place h.steps b.within);
 }
 
-stays_edit : (h : History) (e : PlainEdit) (r : Result Document Refusal) → edited e (tree (text_now h)) ≡ r → IsHistory h → IsHistory (left_by h (edited_by h (splices_of e (tree (text_now h))) r))
+stays_edit : (h : History) (e : PlainEdit) (r : Result Document Refusal) → edited e (tree (text_now h)) ≡ r → IsHistory h → IsHistory (result_unwrap_or (edited_by h (splices_of e (tree (text_now h))) r) h)
 stays_edit h e (Ok t) o b = stays_step h (printed t) (splices_of e (tree (text_now h))) b (splices_lead_lem e (text_now h) t o)
 stays_edit h e (Err f) o b = b
 
-stays_group : (h : History) (r : Together) → LeadsFrom (text_now h) r → IsHistory h → IsHistory (left_by h (grouped_by h r))
+stays_group : (h : History) (r : Together) → LeadsFrom (text_now h) r → IsHistory h → IsHistory (result_unwrap_or (grouped_by h r) h)
 stays_group h (Ok p) l b = stays_step h (printed p.0) p.1 b l.0
 stays_group h (Err q) l b = b
 
-stays_undo : (h : History) (t : Bool) → IsHistory h → IsHistory (left_by h (if t then Ok (record h { place = h.place - 1 }) else Err NothingToUndo))
+stays_undo : (h : History) (t : Bool) → IsHistory h → IsHistory (result_unwrap_or (if t then Ok (record h { place = h.place - 1 }) else Err NothingToUndo) h)
 stays_undo h true b = record { first = b.first; others = b.others; texts = b.texts; linked = b.linked; within = omega (arith, b.within) }
 stays_undo h false b = b
 
-stays_redo : (h : History) (t : Bool) → nat_lt h.place (length h.steps) ≡ t → IsHistory h → IsHistory (left_by h (if t then Ok (record h { place = h.place + 1 }) else Err NothingToRedo))
+stays_redo : (h : History) (t : Bool) → nat_lt h.place (length h.steps) ≡ t → IsHistory h → IsHistory (result_unwrap_or (if t then Ok (record h { place = h.place + 1 }) else Err NothingToRedo) h)
 stays_redo h true e b = record { first = b.first; others = b.others; texts = b.texts; linked = b.linked; within = omega (arith, ltb-true h.place (length h.steps) e) }
 stays_redo h false e b = b
 

@@ -5,7 +5,8 @@ use Rattle.mk_edit.specs.declared.replies.Reply.{Reply}
 use Rattle.mk_edit.specs.Answers.{reply_of}
 use Rattle.mk_decide.specs.Edits.{Order, Refusal}
 use Rattle.mk_edit.specs.History.{History}
-use Rattle.mk_edit.specs.Histories.{step, after, after_all, refusal, replies}
+use Rattle.mk_edit.specs.Histories.{step, after, after_all, replies}
+use Rattle.std.specs.Result.{result_err}
 
 -- one order more
 after_more : (xs : List Order) (o : Order) (h : History) → after_all (xs ++ o ∷ []) h ≡ after o (after_all xs h)
@@ -21,7 +22,7 @@ abbrev pub told : List (Option Refusal) → List (Option (Option Refusal))
 told rs = map (λ r. Some r) rs
 
 pub told_next : {X : Type 0} (f : X → Order) (cs : List X) (i : ℕ) (d : X) (all more : List Reply) (rs : List (Option (Option Refusal))) (r : Reply) (h g : History) → i < length cs
-    → reply_of r ≡ Some (refusal (step (f (get_or cs i d)) h)) → g ≡ after (f (get_or cs i d)) h → more ≡ all ++ r ∷ [] → map reply_of all ++ told (replies (map f (drop i cs)) h) ≡ rs
+    → reply_of r ≡ Some (result_err (step (f (get_or cs i d)) h)) → g ≡ after (f (get_or cs i d)) h → more ≡ all ++ r ∷ [] → map reply_of all ++ told (replies (map f (drop i cs)) h) ≡ rs
     → map reply_of more ++ told (replies (map f (drop (i + 1) cs)) g) ≡ rs
 told_next f cs i d all more rs r h g l e q m t =
     let rest = map f (drop (i + 1) cs) in
@@ -29,7 +30,7 @@ told_next f cs i d all more rs r h g l e q m t =
     ∙ (ap (λ xs. xs ++ told (replies rest g)) (map-append reply_of all (r ∷ []))
     ∙ (append_assoc (map reply_of all) (reply_of r ∷ []) (told (replies rest g))
     ∙ (ap (λ x. map reply_of all ++ x ∷ told (replies rest g)) e
-    ∙ (ap (λ k. map reply_of all ++ Some (refusal (step (f (get_or cs i d)) h)) ∷ told (replies rest k)) q
+    ∙ (ap (λ k. map reply_of all ++ Some (result_err (step (f (get_or cs i d)) h)) ∷ told (replies rest k)) q
     ∙ (ap (λ os. map reply_of all ++ told (replies os h)) (sym (rest_orders f cs i d l)) ∙ t)))))
 
 pub rest_next : {X : Type 0} (f : X → Order) (cs : List X) (i : ℕ) (d : X) (h g k : History) → i < length cs → g ≡ after (f (get_or cs i d)) h → after_all (map f (drop i cs)) h ≡ k → after_all (map f (drop (i + 1) cs)) g ≡ k

@@ -4,7 +4,7 @@ use Rattle.std.proofs.lemmas.Bool.{cases_Bool}
 use Rattle.std.specs.Option.{option_map}
 use Rattle.mk_line.specs.Lines.{TextLine, cut}
 use Rattle.mk_line.proofs.Cuts.{text_cut, cut_rest}
-use Rattle.mk_head.specs.Fields.{continuations}
+use Rattle.mk_head.specs.Fields.{continuations, after_more}
 use Rattle.mk_head.specs.Splits.{IsRun}
 use Rattle.mk_tree.specs.Spans.{size}
 use Rattle.mk_tree.proofs.Descent.{size_append}
@@ -15,7 +15,7 @@ use Rattle.mk_edit.specs.declared.silent_edits.SilentEdit.{SilentEdit}
 use Rattle.mk_decide.specs.Answers.{IsRefusedBy}
 use Rattle.mk_decide.specs.Edits.{Refusal, BadName}
 use Rattle.mk_line.specs.Kinds.{is_name}
-use Rattle.mk_decide.specs.FieldEdits.{starts_named, after_continuations, Found, found_after, find, field_at, renamed}
+use Rattle.mk_decide.specs.FieldEdits.{starts_named, Found, found_after, find, field_at, renamed}
 use Rattle.mk_decide.specs.FieldPuts.{LinePut, IsPut, name_put, put_unless, puts, removes, renames}
 use Rattle.mk_edit.specs.RootFields.{IsBehind}
 use Rattle.mk_edit.specs.SilentEdits.{by_option, numbered}
@@ -137,7 +137,7 @@ counted_after test l n k (Some f) true e m h = rw e (ap suc h ∙ sym m)
 counted_after test l n k (Some f) false e m h = rw e (h ∙ sym m)
 
 counted_here : (test : TextLine → Bool) (l : TextLine) (ls : List TextLine) (t : Bool) → test l ≡ t → IfSome (find test zero ls) (λ f. length (filter test f.before) ≡ zero)
-    → IfSome (if t then Some (record { before = []; start = l; more = continuations ls; after = after_continuations ls }) else found_after l (find test zero ls)) (λ f. length (filter test f.before) ≡ zero)
+    → IfSome (if t then Some (record { before = []; start = l; more = continuations ls; after = after_more ls }) else found_after l (find test zero ls)) (λ f. length (filter test f.before) ≡ zero)
 counted_here test l ls true e h = refl
 counted_here test l ls false e h = counted_after test l zero zero (find test zero ls) false e refl h
 

@@ -6,7 +6,7 @@ use Rattle.std.proofs.lemmas.Bool.{ltb-true}
 use Rattle.std.proofs.lemmas.List.{length-take-le}
 use Rattle.mk_line.specs.Lines.{TextLine, cut, text_of}
 use Rattle.mk_line.proofs.Cuts.{cut_text, text_cut, text_append}
-use Rattle.mk_head.specs.Split.{option_line}
+use Rattle.std.specs.Option.{option_to_list}
 use Rattle.mk_head.specs.Splits.{IsRun}
 use Rattle.mk_tree.specs.Kinds.{Kind, Leaf, Message, Multi, kind, kind_at, is_digest}
 use Rattle.mk_tree.specs.Tree.{Entity, leaf, message, multi, entity_head, field_lines, with_fields}
@@ -238,7 +238,7 @@ root_ends text start taken h =
     let s = root_site text in
     let front = front_lines text (1 ∷ []) p s in
     let rest = rest_lines text (1 ∷ []) p s in
-    let own = option_line (entity_head p.entity).separator in
+    let own = option_to_list (entity_head p.entity).separator in
     let begins : start ≡ size front = h.begins ∙ ap (λ (x : Placed). x.start) s.placed_is in
     let all : length text ≡ size (front ++ (field_lines p.entity ++ rest)) = sym (ap length (text_cut text)) ∙ ap size (site_lines text (1 ∷ []) p s) in
     let some : 0 < size own = ltb-true 0 (size own) h.separated in

@@ -5,8 +5,9 @@ use Rattle.std.proofs.lemmas.Slice.Eq.{bytes_eq-Decides}
 use Rattle.std.specs.Str.{bytes_eq, str_to_ascii_lowercase}
 use Rattle.mk_line.specs.Lines.{TextLine}
 use Rattle.mk_head.specs.Split.{is_start, is_more}
-use Rattle.mk_head.specs.Fields.{continuations, field_text, is_named, name_of}
-use Rattle.mk_head.specs.Types.{field_value, type_by, encoding_by}
+use Rattle.mk_head.specs.Fields.{continuations, field_text, is_named, name_of, after_more}
+use Rattle.mk_head.specs.Types.{field_value, type_by}
+use Rattle.std.specs.Option.{option_map_or}
 use Rattle.mk_head.specs.Unfolding.{value_in}
 use Rattle.mk_head.proofs.FieldRuns.{more_start}
 use Rattle.mk_tree.specs.Kinds.{kind, kind_of}
@@ -14,7 +15,7 @@ use Rattle.mk_decide.specs.declared.field_edits.FieldEdit.{FieldEdit}
 use Rattle.mk_decide.specs.declared.field_edits.FieldEdit.TheVariants.{Add, Remove, Rename, Set}
 use Rattle.mk_decide.specs.Edits.{Refusal, BadName}
 use Rattle.mk_line.specs.Kinds.{is_name}
-use Rattle.mk_decide.specs.FieldEdits.{starts_named, after_continuations, Found, found_after, find, field_at, renamed}
+use Rattle.mk_decide.specs.FieldEdits.{starts_named, Found, found_after, find, field_at, renamed}
 use Rattle.mk_decide.specs.FieldPuts.{LinePut, name_put, put_unless, puts, removes, renames}
 use Rattle.mk_edit.specs.declared.silent_edits.SilentEdit.{SilentEdit}
 use Rattle.mk_edit.specs.SilentEdits.{are_same, is_silent, by_option, numbered, IsSilent}
@@ -23,6 +24,8 @@ use Rattle.mk_decide.proofs.PutPlans.{lines_put}
 use Rattle.mk_decide.proofs.Renaming.{both, renamed_start}
 use Rattle.mk_decide.proofs.Runs.{more_after}
 use Rattle.mk_decide.proofs.WrapFields.{start_more}
+use Rattle.mk_head.specs.Encodings.{encoding_of}
+use Rattle.mk_head.specs.declared.encodings.Encoding.TheVariants.{Identity}
 
 -- lines of which the first continues no field stand after others
 continued : (xs ys zs : List TextLine) → continuations ys ≡ [] → continuations zs ≡ [] → continuations (xs ++ ys) ≡ continuations (xs ++ zs)
@@ -37,7 +40,7 @@ value_after_others name (x ∷ xs) ys zs h k e =
     ∙ ap (λ v. if named then Some (value_in (x ∷ continuations (xs ++ zs))) else v) (value_after_others name xs ys zs h k e)
 
 -- continuations hold no field
-value_left : (name : List ℕ) (ls : List TextLine) → field_value name (after_continuations ls) ≡ field_value name ls
+value_left : (name : List ℕ) (ls : List TextLine) → field_value name (after_more ls) ≡ field_value name ls
 value_left name [] = refl
 value_left name (l ∷ ls) =
     elim (cases_Bool (is_more l)) [
@@ -45,7 +48,7 @@ value_left name (l ∷ ls) =
       | inr m ↦ rw m refl
     ]
 
-none_left : (ls : List TextLine) → continuations (after_continuations ls) ≡ []
+none_left : (ls : List TextLine) → continuations (after_more ls) ≡ []
 none_left [] = refl
 none_left (l ∷ ls) =
     elim (cases_Bool (is_more l)) [
@@ -61,7 +64,7 @@ pub record IsNamedIn (name : List ℕ) (ls : List TextLine) (f : Found) : Type 0
   pub rest : List TextLine
   pub whole : f.before ++ (f.start ∷ rest) ≡ ls
   pub apart : f.more ++ f.after ≡ rest
-  pub after : f.after ≡ after_continuations rest
+  pub after : f.after ≡ after_more rest
   pub named : starts_named name f.start ≡ true
 
 abbrev NamedIn : List ℕ → List TextLine → Option Found → Type 0
@@ -73,7 +76,7 @@ later name l ls None h = tt
 later name l ls (Some f) h = record { rest = h.rest; whole = ap (λ xs. l ∷ xs) h.whole; apart = h.apart; after = h.after; named = h.named }
 
 here : (name : List ℕ) (t : Bool) (l : TextLine) (ls : List TextLine) (o : Option Found) → (t ≡ true → starts_named name l ≡ true) → NamedIn name ls o
-    → NamedIn name (l ∷ ls) (if t then Some (record { before = []; start = l; more = continuations ls; after = after_continuations ls }) else found_after l o)
+    → NamedIn name (l ∷ ls) (if t then Some (record { before = []; start = l; more = continuations ls; after = after_more ls }) else found_after l o)
 here name true l ls o s h = record { rest = ls; whole = refl; apart = more_after ls; after = refl; named = s refl }
 here name false l ls o s h = later name l ls o h
 
@@ -125,8 +128,8 @@ value_renamed name to other ls f h n k e =
 kind_same : (xs ys : List TextLine) (digest : Bool) → field_value (codes "Content-Type") xs ≡ field_value (codes "Content-Type") ys → field_value (codes "Content-Transfer-Encoding") xs ≡ field_value (codes "Content-Transfer-Encoding") ys → kind xs digest ≡ kind ys digest
 unfolding kind
 kind_same xs ys digest t e =
-    ap (λ v. kind_of (type_by digest v) (encoding_by (field_value (codes "Content-Transfer-Encoding") xs))) t
-    ∙ ap (λ v. kind_of (type_by digest (field_value (codes "Content-Type") ys)) (encoding_by v)) e
+    ap (λ v. kind_of (type_by digest v) (option_map_or encoding_of (field_value (codes "Content-Transfer-Encoding") xs) Identity)) t
+    ∙ ap (λ v. kind_of (type_by digest (field_value (codes "Content-Type") ys)) (option_map_or encoding_of v Identity)) e
 
 not_true : (a : Bool) → not a ≡ true → a ≡ false
 not_true true h = cc

@@ -9,7 +9,8 @@ use Rattle.mk_decide.specs.EditSplices.{splices_of}
 use Rattle.mk_edit.specs.Groups.{Together, together}
 use Rattle.mk_splice.specs.Splices.{Splice}
 use Rattle.mk_edit.specs.History.{History}
-use Rattle.mk_edit.specs.Histories.{AreLinked, IsHistory, first_text, text_now, with_step, edited_by, grouped_by, step, left_by, after, after_all, next_by, repeated}
+use Rattle.mk_edit.specs.Histories.{AreLinked, IsHistory, first_text, text_now, with_step, edited_by, grouped_by, step, after, after_all, next_by, repeated}
+use Rattle.std.specs.Result.{result_unwrap_or}
 use Rattle.mk_edit.specs.Laws.{Restores, UndoingRestores}
 
 -- a history at another place
@@ -54,19 +55,19 @@ begun_step text h y s b = record {
   within = omega (arith, length-append (take h.place h.steps) (s ∷ []), length-take-le h.place h.steps b.within);
 }
 
-begun_edit : (text : List ℕ) (h : History) (s : List Splice) (r : Result Document Refusal) → Begun text h → Begun text (left_by h (edited_by h s r))
+begun_edit : (text : List ℕ) (h : History) (s : List Splice) (r : Result Document Refusal) → Begun text h → Begun text (result_unwrap_or (edited_by h s r) h)
 begun_edit text h s (Ok t) b = begun_step text h (printed t) s b
 begun_edit text h s (Err e) b = b
 
-begun_group : (text : List ℕ) (h : History) (r : Together) → Begun text h → Begun text (left_by h (grouped_by h r))
+begun_group : (text : List ℕ) (h : History) (r : Together) → Begun text h → Begun text (result_unwrap_or (grouped_by h r) h)
 begun_group text h (Ok p) b = begun_step text h (printed p.0) p.1 b
 begun_group text h (Err q) b = b
 
-begun_undo : (text : List ℕ) (h : History) (t : Bool) → Begun text h → Begun text (left_by h (if t then Ok (record h { place = h.place - 1 }) else Err NothingToUndo))
+begun_undo : (text : List ℕ) (h : History) (t : Bool) → Begun text h → Begun text (result_unwrap_or (if t then Ok (record h { place = h.place - 1 }) else Err NothingToUndo) h)
 begun_undo text h true b = record { others = b.others; texts = b.texts; size = b.size; within = omega (arith, b.within) }
 begun_undo text h false b = b
 
-begun_redo : (text : List ℕ) (h : History) (t : Bool) → nat_lt h.place (length h.steps) ≡ t → Begun text h → Begun text (left_by h (if t then Ok (record h { place = h.place + 1 }) else Err NothingToRedo))
+begun_redo : (text : List ℕ) (h : History) (t : Bool) → nat_lt h.place (length h.steps) ≡ t → Begun text h → Begun text (result_unwrap_or (if t then Ok (record h { place = h.place + 1 }) else Err NothingToRedo) h)
 begun_redo text h true e b = record { others = b.others; texts = b.texts; size = b.size; within = omega (arith, ltb-true h.place (length h.steps) e) }
 begun_redo text h false e b = b
 

@@ -9,7 +9,7 @@ use Rattle.mk_edit.specs.declared.replies.Reply.TheVariants.{Obeyed, Refused, Me
 use Rattle.mk_decide.specs.Edits.{Refusal, Member}
 use Rattle.mk_decide.specs.Answers.{refusal_of, IsRefusedBy}
 use Rattle.mk_edit.specs.History.{History}
-use Rattle.mk_edit.specs.Histories.{left_by, refusal}
+use Rattle.std.specs.Result.{result_err, result_unwrap_or}
 
 -- a reply as plain data: nothing where an order was obeyed, or the reason against it; running out of memory is no reply
 abbrev pub reply_of : Reply → Option (Option Refusal)
@@ -34,5 +34,5 @@ DoesGroup (Err e) defined old new = (new ≡ old) × IsGroupRefusedBy e defined
 
 -- a reply tells what is defined, and that is what is left; where there is none, all is as before
 abbrev pub Replies : {X : Type 0} → Result Reply X → Result History Refusal → History → History → Type 0
-Replies (Ok r) defined old new = (reply_of r ≡ Some (refusal defined)) × (new ≡ left_by old defined)
+Replies (Ok r) defined old new = (reply_of r ≡ Some (result_err defined)) × (new ≡ result_unwrap_or defined old)
 Replies (Err x) defined old new = new ≡ old

@@ -30,7 +30,8 @@ use Rattle.mk_decide.proofs.Late.{fair}
 use Rattle.mk_decide.proofs.PlacesAgain.{PathAgain, below_place, path_again, section_there}
 use Rattle.mk_decide.proofs.SectionSites.{site}
 use Rattle.mk_view.specs.Extracts.{IsExtract}
-use Rattle.mk_expand.specs.Appends.{appended, divided_at, last_divided, most_parts}
+use Rattle.mk_expand.specs.Appends.{appended, divided_at, last_divided}
+use Rattle.mk_view.specs.Listed.{greatest_number}
 use Rattle.mk_expand.specs.Contents.{divided}
 use Rattle.mk_expand.specs.ExpandLaws.{AppendsKeepContents, IsMultipart, all_edited}
 use Rattle.mk_expand.proofs.EncodingsKept.{in_turn, last_edit}
@@ -267,7 +268,7 @@ after_parts_of eol path text mail other bytes u fs h b pre ps tail q place diges
 ]
 
 multi_told : (eol : Ending) (path text mail other bytes : List ℕ) (u : Document) (fs : List Frame) (s : Entity) (q : Placed) → eol ≢ Missing → place_of path (tree mail).root ≡ Some (fs, s) → IsMultipart s
-    → length (children (placed (tree mail).envelope fs s)) ≤ most_parts → all_edited (appended eol path text (placed (tree mail).envelope fs s)) (tree mail) ≡ Ok u
+    → length (children (placed (tree mail).envelope fs s)) ≤ greatest_number → all_edited (appended eol path text (placed (tree mail).envelope fs s)) (tree mail) ≡ Ok u
     → section_at other (tree mail) ≡ Some q → IsLeaf q.entity → IsExtract (Some q) bytes → IsExtract (section_at other u) bytes
 multi_told eol path text mail other bytes u fs (leaf h ls) q n there m few done at leaf_at extract = absurd m
 multi_told eol path text mail other bytes u fs (message h x) q n there m few done at leaf_at extract = absurd m
@@ -276,21 +277,21 @@ multi_told eol path text mail other bytes u fs (multi h b pre ps tail) q n there
     let p = placed t.envelope fs (multi h b pre ps tail) in
     let parts = children p in
     let size_is : length parts ≡ count ps = placed_count _ _ _ ps in
-    let fits : nat_le (length parts) most_parts ≡ true = le-leb (length parts) most_parts few in
+    let fits : nat_le (length parts) greatest_number ≡ true = le-leb (length parts) greatest_number few in
     let within : all_edited (last_divided eol path (length parts) parts ++ InsertPart path (length parts) text ∷ []) t ≡ Ok u =
-    ap (λ x. all_edited (if x then last_divided eol path (length parts) parts ++ InsertPart path (length parts) text ∷ [] else InsertPart path most_parts text ∷ []) t) (sym fits) ∙ done in
+    ap (λ x. all_edited (if x then last_divided eol path (length parts) parts ++ InsertPart path (length parts) text ∷ [] else InsertPart path greatest_number text ∷ []) t) (sym fits) ∙ done in
     let counted_so : all_edited (last_divided eol path (count ps) parts ++ InsertPart path (count ps) text ∷ []) t ≡ Ok u = subst (λ k. all_edited (last_divided eol path k parts ++ InsertPart path k text ∷ []) t ≡ Ok u) size_is within in
     after_parts_of eol path text mail other bytes u fs h b pre ps tail q (p.start + size (head_lines h) + size pre) (digest_below p.digest h) n there
     (subst (λ f. all_edited (last_divided eol path (count ps) (parts_placed (p.start + size (head_lines h) + size pre) (has_tail tail || f) (digest_below p.digest h) ps) ++ InsertPart path (count ps) text ∷ []) t ≡ Ok u) (flag_line fs) counted_so) at leaf_at extract
 
 there_told : (eol : Ending) (path text mail other bytes : List ℕ) (u : Document) (p q : Placed) (o : Option (List Frame × Entity)) → eol ≢ Missing → place_of path (tree mail).root ≡ o → option_map (λ r. placed (tree mail).envelope r.0 r.1) o ≡ Some p
-    → IsMultipart p.entity → length (children p) ≤ most_parts → all_edited (appended eol path text p) (tree mail) ≡ Ok u
+    → IsMultipart p.entity → length (children p) ≤ greatest_number → all_edited (appended eol path text p) (tree mail) ≡ Ok u
     → section_at other (tree mail) ≡ Some q → IsLeaf q.entity → IsExtract (Some q) bytes → IsExtract (section_at other u) bytes
 there_told eol path text mail other bytes u p q None n there is m few done at leaf_at extract = none_some p is
 there_told eol path text mail other bytes u p q (Some r) n there is m few done at leaf_at extract =
     let t = tree mail in
     let same : placed t.envelope r.0 r.1 ≡ p = some_same (placed t.envelope r.0 r.1) p is in
-    multi_told eol path text mail other bytes u r.0 r.1 q n there (subst (λ (x : Placed). IsMultipart x.entity) (sym same) m) (subst (λ x. length (children x) ≤ most_parts) (sym same) few)
+    multi_told eol path text mail other bytes u r.0 r.1 q n there (subst (λ (x : Placed). IsMultipart x.entity) (sym same) m) (subst (λ x. length (children x) ≤ greatest_number) (sym same) few)
     (ap (λ x. all_edited (appended eol path text x) t) same ∙ done) at leaf_at extract
 
 pub appends_kept : AppendsKeepContents

@@ -18,11 +18,3 @@ attach_told eol path a b place text part edits same allowed is grown made =
     ap (λ x. attach_file eol path x place) (sym same)
     ∙ (ap (attach_by eol path b place) allowed
     ∙ (ap (λ t. Ok (append eol path (made_part eol t place) place)) (sym is) ∙ (ap (λ t. Ok (append eol path t place)) (sym grown) ∙ ap (λ es. Ok es) (sym made))))
-
--- the word says what is attached
-pub attaches_told : (pieces : Pieces) (eol : Ending) (t : Document) (w : ScriptWord) (path media name : List ℕ) (piece : ℕ) (m n text : List ℕ)
-    → w ≡ Attaches path media name piece → m ≡ media → n ≡ name → text ≡ attached_bytes pieces eol m piece
-    → meaning_of pieces eol t w ≡ attach_file eol path (attached_file (record { media = m; path = n }) text) (section_at path t)
-attaches_told pieces eol t w path media name piece m n text said is_media is_name is_text =
-    ap (meaning_of pieces eol t) said
-    ∙ (λ i. attach_file eol path (attached_file (record { media = sym is_media i; path = sym is_name i }) (sym (is_text ∙ ap (λ x. attached_bytes pieces eol x piece) is_media) i)) (section_at path t))

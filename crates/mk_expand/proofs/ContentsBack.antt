@@ -5,12 +5,12 @@ use Rattle.std.specs.Option.{option_map}
 use Rattle.base64.specs.GeneralPurpose.{IsBytes}
 use Rattle.mk_line.specs.declared.cutting.Ending.{Ending}
 use Rattle.mk_line.specs.declared.cutting.Ending.TheVariants.{Crlf, Lf, Missing}
-use Rattle.mk_line.specs.Lines.{TextLine, cut, ending_bytes, ends_in_return, eol_of, text_of}
+use Rattle.mk_line.specs.Lines.{TextLine, cut, ending_bytes, ends_in_return, eol_of, text_of, is_nil}
 use Rattle.mk_line.proofs.Cuts.{text_cut}
 use Rattle.mk_head.specs.declared.encodings.Encoding.{Encoding}
 use Rattle.mk_head.specs.declared.encodings.Encoding.TheVariants.{Identity, Qp, Base64, Other}
 use Rattle.mk_head.specs.Split.{Head}
-use Rattle.mk_head.specs.Splits.{has_line}
+use Rattle.std.specs.Prelude.{not}
 use Rattle.mk_code.specs.Contents.{IsContent}
 use Rattle.mk_code.proofs.Base64Laws.{base64_back}
 use Rattle.mk_code.proofs.QpBack.{qp_back}
@@ -79,10 +79,10 @@ set_leaf path t u fs h ls given o e =
 
 -- what is extracted of it
 pub back_by : (eol : Ending) (path bytes : List ℕ) (t u : Document) (fs : List Frame) (h : Head) (ls : List TextLine) (e : PlainEdit) (o : Option (List ℕ)) → eol ≢ Missing → IsBytes bytes → place_of path t.root ≡ Some (fs, leaf h ls)
-    → encoded_in (encoding_in (placed t.envelope fs (leaf h ls))) eol bytes ≡ o → body_set eol path (has_line (lines_after fs)) o ≡ Ok (e ∷ []) → edited e t ≡ Ok u → IsExtract (section_at path u) bytes
+    → encoded_in (encoding_in (placed t.envelope fs (leaf h ls))) eol bytes ≡ o → body_set eol path (not (is_nil (lines_after fs))) o ≡ Ok (e ∷ []) → edited e t ≡ Ok u → IsExtract (section_at path u) bytes
 back_by eol path bytes t u fs h ls e None n small there enc m done = absurd (let bad : ◌≡◌ {A = Meaning} (Err UnknownEncoding) (Ok (e ∷ [])) = m in cc)
 back_by eol path bytes t u fs h ls e (Some text) n small there enc m done =
-    let followed = has_line (lines_after fs) in
+    let followed = not (is_nil (lines_after fs)) in
     let body = body_with eol followed text in
     let same : SetBody path body ≡ e = one_same (SetBody path body) e m in
     let plan = plan_by t u (SetBody path body) (plan_of (SetBody path body) t) refl (fair (SetBody path body) t) (ap (λ x. edited x t) same ∙ done) in

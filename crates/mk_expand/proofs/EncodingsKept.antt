@@ -1,17 +1,15 @@
 -- A leaf that `encode` puts in another transfer encoding keeps its content.
 use Rattle.std.proofs.Common.{◌≡◌, ◌≢◌, ◌++◌, if◌then◌else◌, ℕ, Bool, true, false, not, Option, None, Some, Result, Ok, Err, List, [], ◌∷◌, codes, filter, map, refl, ap, sym, ◌∙◌, subst, append-nil, inl, inr}
 use Rattle.std.proofs.lemmas.Bool.{cases_Bool}
-use Rattle.std.specs.Option.{option_map}
+use Rattle.std.specs.Option.{option_map, option_map_or}
 use Rattle.base64.specs.GeneralPurpose.{IsBytes}
 use Rattle.mk_line.specs.declared.cutting.Ending.{Ending}
 use Rattle.mk_line.specs.declared.cutting.Ending.TheVariants.{Crlf, Lf, Missing}
-use Rattle.mk_line.specs.Lines.{TextLine, cut, text_line}
+use Rattle.mk_line.specs.Lines.{TextLine, cut, text_line, is_nil}
 use Rattle.mk_head.specs.declared.encodings.Encoding.{Encoding}
 use Rattle.mk_head.specs.declared.encodings.Encoding.TheVariants.{Identity, Qp, Base64}
 use Rattle.mk_head.specs.Split.{Head}
-use Rattle.mk_head.specs.Splits.{has_line}
 use Rattle.mk_head.specs.Fields.{FieldText, fields_of, is_named, is_one_field}
-use Rattle.mk_head.specs.Types.{encoding_by}
 use Rattle.mk_head.specs.Unfolding.{value_in}
 use Rattle.mk_tree.specs.Tree.{Entity, leaf, message, multi}
 use Rattle.mk_tree.specs.Documents.{Document}
@@ -32,12 +30,14 @@ use Rattle.mk_script.specs.declared.script.ChosenEncoding.{ChosenEncoding}
 use Rattle.mk_script.specs.declared.script.ChosenEncoding.TheVariants.{Qp as ToQp, QuotedPrintable, Base64 as ToBase64, EightBit, Identity as ToIdentity}
 use Rattle.mk_expand.specs.Contents.{body_with, encoded_in}
 use Rattle.mk_expand.specs.Encodings.{encoded_as, encoding_field, encoding_set, encoding_value, may_be_encoded, recoded, recoded_to}
-use Rattle.mk_expand.specs.ExpandLaws.{EncodingsKeepContents, all_edited, and_edited}
+use Rattle.mk_expand.specs.ExpandLaws.{EncodingsKeepContents, all_edited}
+use Rattle.mk_line.specs.Results.{made_of}
 use Rattle.mk_expand.specs.FieldWords.{name_in, put, put_over, those}
 use Rattle.mk_expand.specs.Meanings.{Meaning, BinaryContent}
 use Rattle.mk_expand.proofs.Base64Read.{content_is_read}
 use Rattle.mk_expand.proofs.ContentsBack.{back_by}
 use Rattle.mk_expand.proofs.FirstFields.{IsFirst, first_after, first_is_read, first_put, first_stays}
+use Rattle.mk_head.specs.Encodings.{encoding_of}
 
 -- the name of the field, and its line
 abbrev field_name : List ℕ
@@ -59,7 +59,7 @@ record IsSaid (eol : Ending) (to : ChosenEncoding) : Type 0 where
   name : name_in (encoding_field eol to) ≡ field_name
   one : is_one_field (cut (encoding_field eol to)) ≡ true
   starts : starts_named field_name (said_line eol to) ≡ true
-  says : encoding_by (Some (value_in (said_line eol to ∷ []))) ≡ chosen_encoding to
+  says : option_map_or encoding_of (Some (value_in (said_line eol to ∷ []))) Identity ≡ chosen_encoding to
 
 is_said : (eol : Ending) (to : ChosenEncoding) → eol ≢ Missing → IsSaid eol to
 is_said Crlf ToQp n = record { line = refl; name = refl; one = refl; starts = refl; says = refl }
@@ -132,11 +132,11 @@ after_drop path name fs ls fields t u at done =
 err_document : {A : Type 0} (e : Refusal) (u : Document) → ◌≡◌ {A = Result Document Refusal} (Err e) (Ok u) → A
 err_document e u h = cc
 
-pub in_turn : (others : Document → Result Document Refusal) (r : Result Document Refusal) (u : Document) → and_edited others r ≡ Ok u → (t : Document) × (r ≡ Ok t) × (others t ≡ Ok u)
+pub in_turn : (others : Document → Result Document Refusal) (r : Result Document Refusal) (u : Document) → made_of others r ≡ Ok u → (t : Document) × (r ≡ Ok t) × (others t ≡ Ok u)
 in_turn others (Ok t) u h = (t, refl, h)
 in_turn others (Err e) u h = err_document e u h
 
-document_same : (t u : Document) → ◌≡◌ {A = Result Document Refusal} (Ok t) (Ok u) → t ≡ u
+pub document_same : (t u : Document) → ◌≡◌ {A = Result Document Refusal} (Ok t) (Ok u) → t ≡ u
 document_same t u h = cc
 
 pub last_edit : (e : PlainEdit) (t u : Document) → all_edited (e ∷ []) t ≡ Ok u → edited e t ≡ Ok u
@@ -178,12 +178,12 @@ put_on path text body first fs ls fields (x ∷ others) t u line named at some d
 
 -- the body is read as what was encoded in it
 kept_by : (eol : Ending) (path bytes : List ℕ) (to : ChosenEncoding) (fs : List Frame) (ls : List TextLine) (u : Document) → eol ≢ Missing → IsBytes bytes → IsSaid eol to
-    → IsReady path (body_with eol (has_line (lines_after fs)) (encoded_as to eol bytes)) (said_line eol to) fs ls u → IsExtract (section_at path u) bytes
+    → IsReady path (body_with eol (not (is_nil (lines_after fs))) (encoded_as to eol bytes)) (said_line eol to) fs ls u → IsExtract (section_at path u) bytes
 kept_by eol path bytes to fs ls u n small said ready =
     let h : Head = record { fields = ready.fields; separator = ready.at.separator } in
     let text = encoded_as to eol bytes in
-    let read : encoding_in (placed ready.document.envelope fs (leaf h ls)) ≡ chosen_encoding to = ap encoding_by (first_is_read field_name (said_line eol to) ready.fields said.starts ready.is_first) ∙ said.says in
-    back_by eol path bytes ready.document u fs h ls (SetBody path (body_with eol (has_line (lines_after fs)) text)) (Some text) n small ready.at.there (ap (λ x. encoded_in x eol bytes) read ∙ encoded_so to eol bytes) refl ready.done
+    let read : encoding_in (placed ready.document.envelope fs (leaf h ls)) ≡ chosen_encoding to = ap (λ o. option_map_or encoding_of o Identity) (first_is_read field_name (said_line eol to) ready.fields said.starts ready.is_first) ∙ said.says in
+    back_by eol path bytes ready.document u fs h ls (SetBody path (body_with eol (not (is_nil (lines_after fs))) text)) (Some text) n small ready.at.there (ap (λ x. encoded_in x eol bytes) read ∙ encoded_so to eol bytes) refl ready.done
 
 edits_same : (d e : List PlainEdit) → ◌≡◌ {A = Meaning} (Ok d) (Ok e) → d ≡ e
 edits_same d e h = cc
@@ -208,7 +208,7 @@ kept_leaf eol path bytes to t u fs (leaf h ls) es n small there l content set do
     let p = placed t.envelope fs (leaf h ls) in
     let said = is_said eol to n in
     let text = encoding_field eol to in
-    let body = body_with eol (has_line (lines_after fs)) (encoded_as to eol bytes) in
+    let body = body_with eol (not (is_nil (lines_after fs))) (encoded_as to eol bytes) in
     let read = content_is_read (encoding_in p) (content_text p) bytes content in
     let same : put path text (Some p) ++ SetBody path body ∷ [] ≡ es = recoded_same eol path bytes to p es (ap (recoded eol path to p) (sym read) ∙ set) in
     let over : put_over path field_name text (those field_name p) ++ SetBody path body ∷ [] ≡ es = ap (λ xs. xs ++ SetBody path body ∷ []) (sym (put_is eol path to p said)) ∙ same in

@@ -3,10 +3,10 @@ use Rattle.std.proofs.Common.{◌≡◌, ◌⊎◌, ◌++◌, if◌then◌else�
 use Rattle.std.proofs.lemmas.Bool.{cases_Bool}
 use Rattle.mk_line.specs.Lines.{TextLine}
 use Rattle.mk_head.specs.Split.{is_more, is_start}
-use Rattle.mk_head.specs.Fields.{FieldText, continuations, field_text, fields_of, is_named}
+use Rattle.mk_head.specs.Fields.{FieldText, continuations, field_text, fields_of, is_named, after_more}
 use Rattle.mk_head.specs.Types.{field_value}
 use Rattle.mk_head.specs.Unfolding.{value_in}
-use Rattle.mk_decide.specs.FieldEdits.{Found, after_continuations, find, found_after, starts_named}
+use Rattle.mk_decide.specs.FieldEdits.{Found, find, found_after, starts_named}
 
 -- a line is the first field of a name, and ends there
 abbrev pub IsFirst : List ℕ → TextLine → List TextLine → Type 0
@@ -21,13 +21,13 @@ first_is_read name first (l ∷ ls) named (inl h) =
     rw starts (ap (λ more. Some (value_in (l ∷ more))) h.1 ∙ ap (λ x. Some (value_in (x ∷ []))) h.0)
 first_is_read name first (l ∷ ls) named (inr h) = rw h.0 (first_is_read name first ls named h.1)
 
-nil_cons : {A : Type 0} (f : FieldText) (fs : List FieldText) → ◌≡◌ {A = List FieldText} (f ∷ fs) [] → A
+pub nil_cons : {A : Type 0} (f : FieldText) (fs : List FieldText) → ◌≡◌ {A = List FieldText} (f ∷ fs) [] → A
 nil_cons f fs e = cc
 
-none_found : {A : Type 0} (f : Found) → ◌≡◌ {A = Option Found} None (Some f) → A
+pub none_found : {A : Type 0} (f : Found) → ◌≡◌ {A = Option Found} None (Some f) → A
 none_found f e = cc
 
-same_found : (f g : Found) → ◌≡◌ {A = Option Found} (Some f) (Some g) → f ≡ g
+pub same_found : (f g : Found) → ◌≡◌ {A = Option Found} (Some f) (Some g) → f ≡ g
 same_found f g e = cc
 
 -- a line after fields of which none has the name
@@ -42,7 +42,7 @@ first_after name first (l ∷ ls) none = elim (cases_Bool (is_start l)) [
 ]
 
 -- no continuation stands after the continuations
-ended : (ls : List TextLine) → continuations (after_continuations ls) ≡ []
+pub ended : (ls : List TextLine) → continuations (after_more ls) ≡ []
 ended [] = refl
 ended (l ∷ ls) = elim (cases_Bool (is_more l)) [
   | inl more ↦ rw more (ended ls)
@@ -61,7 +61,7 @@ pub first_put : (name : List ℕ) (first : TextLine) (ls : List TextLine) (f : F
 first_put name first [] f e = none_found f e
 first_put name first (l ∷ ls) f e = elim (cases_Bool (starts_named name l)) [
   | inl named ↦
-      let now : Found = record { before = []; start = l; more = continuations ls; after = after_continuations ls } in
+      let now : Found = record { before = []; start = l; more = continuations ls; after = after_more ls } in
       subst (λ (x : Found). IsFirst name first (x.before ++ (first ∷ x.after))) (same_found now f (rw named at e)) (inl (refl, ended ls))
   | inr other ↦ put_by name first l (find (starts_named name) 0 ls) f other (λ g. first_put name first ls g) (rw other at e)
 ]
@@ -84,7 +84,7 @@ still_ended : (test : TextLine → Bool) (ls : List TextLine) (f : Found) → co
 still_ended test [] f none e = none_found f e
 still_ended test (l ∷ ls) f none e = elim (cases_Bool (test l)) [
   | inl named ↦
-      let now : Found = record { before = []; start = l; more = continuations ls; after = after_continuations ls } in
+      let now : Found = record { before = []; start = l; more = continuations ls; after = after_more ls } in
       subst (λ (x : Found). continuations (x.before ++ x.after) ≡ []) (same_found now f (rw named at e)) (ended ls)
   | inr other ↦ gone_by l ls (find test 0 ls) f (no_more l (continuations ls) (is_more l) refl none) (rw other at e)
 ]

@@ -12,7 +12,8 @@ use Rattle.mk_line.specs.Marks.{mark}
 use Rattle.mk_head.specs.Split.{belongs, body_of, fields_from, is_empty, is_more, is_start, rest_from}
 use Rattle.mk_head.specs.Fields.{continuations, field_text, is_named}
 use Rattle.mk_head.specs.Types.{field_value}
-use Rattle.mk_head.specs.Unfolding.{contents, or_nothing}
+use Rattle.mk_head.specs.Unfolding.{contents}
+use Rattle.std.specs.Prelude.{unwrap_or}
 use Rattle.mk_build.proofs.EndedTexts.{Grows}
 use Rattle.mk_tree.specs.Cutting.{Cut, cut_before, cut_by}
 use Rattle.mk_tree.specs.Sections.{has_tail, unended}
@@ -63,7 +64,7 @@ contents_bare (l ∷ ls) = ap (λ c. l.content ++ c) (contents_bare ls)
 value_bare : (name : List ℕ) (ls : List TextLine) → field_value name (map bare ls) ≡ field_value name ls
 value_bare name [] = refl
 value_bare name (l ∷ ls) = elim (cases_Bool (is_start l && is_named name (field_text l []))) [
-  | inl h ↦ rw (h) (ap (λ c. Some (or_nothing (following colon (l.content ++ c)))) (ap contents (continuations_bare ls) ∙ contents_bare (continuations ls)))
+  | inl h ↦ rw (h) (ap (λ c. Some (unwrap_or (following colon (l.content ++ c)) [])) (ap contents (continuations_bare ls) ∙ contents_bare (continuations ls)))
   | inr h ↦ rw (h) (value_bare name ls)
 ]
 

@@ -2,12 +2,15 @@
 use Rattle.std.proofs.Common.{◌≡◌, ◌||◌, ℕ, zero, suc, Bool, true, false, List, [], ◌∷◌, map, codes, refl, ap, sym, ◌∙◌, subst, inl, inr}
 use Rattle.mk_line.specs.Lines.{TextLine}
 use Rattle.mk_head.specs.Split.{Head, after_head, fields_from, head_of}
-use Rattle.mk_head.specs.Types.{encoding_by, field_value, header_encoding, type_by}
+use Rattle.mk_head.specs.Types.{field_value, header_encoding, type_by}
+use Rattle.std.specs.Option.{option_map_or}
 use Rattle.mk_tree.specs.Cutting.{Cut, cut_by}
 use Rattle.mk_tree.specs.Kinds.{Kind, Leaf, Message, Multi, kind, kind_at, kind_of}
 use Rattle.mk_tree.specs.Sections.{has_part, has_tail}
 use Rattle.mk_tree.specs.Tree.{Entity, leaf, message, multi, Parts, no_parts, part, entity_by, parts_by, read}
 use Rattle.mk_expand.proofs.GrownLines.{CutGrows, GrowsOr, PartsGrow, bare, content_by, cut_grows, grown_content, heads_grow_or, same_value}
+use Rattle.mk_head.specs.Encodings.{encoding_of}
+use Rattle.mk_head.specs.declared.encodings.Encoding.TheVariants.{Identity}
 
 abbrev mutual
   -- each leaf of an entity is one of another, at the same numbers, with the same content; after either a line may follow
@@ -40,7 +43,7 @@ mutual
 
 -- fields that differ in endings alone say the same of a body
 same_encoding : (fields others : List TextLine) → map bare fields ≡ map bare others → header_encoding fields ≡ header_encoding others
-same_encoding fields others e = ap encoding_by (same_value (codes "Content-Transfer-Encoding") fields others e)
+same_encoding fields others e = ap (λ o. option_map_or encoding_of o Identity) (same_value (codes "Content-Transfer-Encoding") fields others e)
 
 same_kind : (n : ℕ) (d : Bool) (fields others : List TextLine) → map bare fields ≡ map bare others → kind_at n fields d ≡ kind_at n others d
 unfolding kind

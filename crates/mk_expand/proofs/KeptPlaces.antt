@@ -1,8 +1,8 @@
 -- Sections of two documents of which each leaf of the one keeps its content in the other.
 use Rattle.std.proofs.Common.{◌≡◌, ◌==◌, ◌||◌, ◌++◌, ℕ, zero, suc, Bool, true, false, Option, None, Some, List, [], ◌∷◌, refl, ap, sym, ◌∙◌, subst, append_assoc, append-nil, inl, inr, option_and_then}
 use Rattle.std.proofs.lemmas.Bool.{cases_Bool}
-use Rattle.mk_line.specs.Lines.{TextLine}
-use Rattle.mk_head.specs.Splits.{has_line}
+use Rattle.mk_line.specs.Lines.{TextLine, is_nil}
+use Rattle.std.specs.Prelude.{not}
 use Rattle.mk_head.specs.Fields.{counted}
 use Rattle.mk_tree.specs.declared.shapes.Kind.TheVariants.{Leaf}
 use Rattle.mk_tree.specs.Cutting.{tail_lines}
@@ -22,20 +22,20 @@ flag f [] = f
 flag f (in_message h ∷ fs) = flag f fs
 flag f (in_multi h b pre before l after t ∷ fs) = flag (has_part after || (has_tail t || f)) fs
 
-after_line : (after : Parts) (t : Option (TextLine × List TextLine)) (rest : List TextLine) (f : Bool) → has_line rest ≡ f → has_line ((print_parts after ++ tail_lines t) ++ rest) ≡ (has_part after || (has_tail t || f))
+after_line : (after : Parts) (t : Option (TextLine × List TextLine)) (rest : List TextLine) (f : Bool) → not (is_nil rest) ≡ f → not (is_nil ((print_parts after ++ tail_lines t) ++ rest)) ≡ (has_part after || (has_tail t || f))
 after_line no_parts None rest f e = e
 after_line no_parts (Some t) rest f e = refl
 after_line (part l x ps) t rest f e = refl
 
-flag_by : (f : Bool) (rest : List TextLine) (fs : List Frame) → has_line rest ≡ f → has_line (lines_after fs ++ rest) ≡ flag f fs
+flag_by : (f : Bool) (rest : List TextLine) (fs : List Frame) → not (is_nil rest) ≡ f → not (is_nil (lines_after fs ++ rest)) ≡ flag f fs
 flag_by f rest [] e = e
 flag_by f rest (in_message h ∷ fs) e = flag_by f rest fs e
 flag_by f rest (in_multi h b pre before l after t ∷ fs) e =
-    ap has_line (append_assoc (lines_after fs) (print_parts after ++ tail_lines t) rest)
+    ap (λ ls. not (is_nil ls)) (append_assoc (lines_after fs) (print_parts after ++ tail_lines t) rest)
     ∙ flag_by (has_part after || (has_tail t || f)) ((print_parts after ++ tail_lines t) ++ rest) fs (after_line after t rest f e)
 
-pub flag_line : (fs : List Frame) → has_line (lines_after fs) ≡ flag false fs
-flag_line fs = ap has_line (sym (append-nil (lines_after fs))) ∙ flag_by false [] fs refl
+pub flag_line : (fs : List Frame) → not (is_nil (lines_after fs)) ≡ flag false fs
+flag_line fs = ap (λ ls. not (is_nil ls)) (sym (append-nil (lines_after fs))) ∙ flag_by false [] fs refl
 
 -- parts, one of which keeps its contents
 pub some_part : (before : Parts) (l : TextLine) (e : Entity) (after : Parts) → has_part (append_parts before (part l e after)) ≡ true

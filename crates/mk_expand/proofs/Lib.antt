@@ -4,6 +4,7 @@ pub mod PathsPlaced
 pub mod ContentsBack
 pub mod Base64Read
 pub mod FirstFields
+pub mod FieldsLeft
 pub mod EncodingsKept
 pub mod Recodings
 pub mod GrownLines
@@ -12,3 +13,5 @@ pub mod GrownTexts
 pub mod KeptPlaces
 pub mod AppendsKept
 pub mod TextsPut
+pub mod RemovalOrder
+pub mod RemovalsMade

@@ -1,4 +1,6 @@
 -- A part after the last one of a multipart (own).
+use Rattle.mk_view.specs.Listed.{greatest_number}
+use Rattle.std.specs.Option.{option_map_or}
 use Rattle.std.specs.Prelude.{◌++◌, if◌then◌else◌, ℕ, nat_le, Bool, true, Option, None, Some, List, [], ◌∷◌, length}
 use Rattle.mk_line.specs.declared.cutting.Ending.{Ending}
 use Rattle.mk_line.specs.Lines.{ending_bytes}
@@ -16,27 +18,18 @@ divided_at eol path (Some p) = if p.followed then [] else SetSection path (divid
 abbrev pub last_divided : Ending → List ℕ → ℕ → List Placed → List PlainEdit
 last_divided eol path number parts = divided_at eol (path ++ number ∷ []) (counted number parts)
 
--- the greatest number of parts that an edit can name
-abbrev pub most_parts : ℕ
-most_parts = 4294967295
-
 -- a part after so many others
 abbrev pub after_parts : Ending → List ℕ → List ℕ → ℕ → List Placed → List PlainEdit
 after_parts eol path text count parts =
-    if nat_le count most_parts then last_divided eol path count parts ++ InsertPart path count text ∷ [] else InsertPart path most_parts text ∷ []
+    if nat_le count greatest_number then last_divided eol path count parts ++ InsertPart path count text ∷ [] else InsertPart path greatest_number text ∷ []
 
 -- a part after the others of a section, as far as numbers go
 abbrev pub appended : Ending → List ℕ → List ℕ → Placed → List PlainEdit
 appended eol path text p = after_parts eol path text (length (children p)) (children p)
 
--- whether a line follows a section, where there is one
-abbrev pub followed_at : Option Placed → Bool
-followed_at None = true
-followed_at (Some p) = p.followed
-
 -- whether a line follows the last part of a section, as far as numbers go; without parts one does
 abbrev pub follows_last : Placed → Bool
-follows_last p = if nat_le (length (children p)) most_parts then followed_at (counted (length (children p)) (children p)) else true
+follows_last p = if nat_le (length (children p)) greatest_number then option_map_or (λ p. p.followed) (counted (length (children p)) (children p)) true else true
 
 -- a made part as it goes after the others: with an ending where a line follows, since that ending isn't content (RFC 2046, 5.1.1)
 abbrev pub made_part : Ending → List ℕ → Option Placed → List ℕ

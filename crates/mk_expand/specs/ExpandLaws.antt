@@ -1,8 +1,11 @@
--- The laws of `content`, `encode` and `append`.
-use Rattle.std.specs.Prelude.{◌≡◌, ◌≢◌, ◌≤◌, length, ℕ, Some, Result, Ok, Err, List, [], ◌∷◌}
+-- The laws of `content`, `encode`, `append`, `drop` and `put`.
+use Rattle.mk_line.specs.Results.{made_of}
+use Rattle.std.specs.Prelude.{◌≡◌, ◌≢◌, ◌≤◌, length, true, ℕ, Some, Result, Ok, Err, List, [], ◌∷◌}
 use Rattle.base64.specs.GeneralPurpose.{IsBytes}
 use Rattle.mk_line.specs.declared.cutting.Ending.{Ending}
 use Rattle.mk_line.specs.declared.cutting.Ending.TheVariants.{Missing}
+use Rattle.mk_line.specs.Lines.{cut}
+use Rattle.mk_head.specs.Fields.{fields_of, is_one_field}
 use Rattle.mk_tree.specs.Documents.{Document, tree}
 use Rattle.mk_tree.specs.Tree.{Entity, leaf, message, multi}
 use Rattle.mk_tree.specs.Sections.{Placed, children, section_at}
@@ -11,8 +14,10 @@ use Rattle.mk_decide.specs.EditLaws.{IsLeaf}
 use Rattle.mk_decide.specs.Outcomes.{edited}
 use Rattle.mk_view.specs.Extracts.{IsExtract}
 use Rattle.mk_script.specs.declared.script.ChosenEncoding.{ChosenEncoding}
-use Rattle.mk_expand.specs.Appends.{appended, most_parts}
+use Rattle.mk_expand.specs.Appends.{appended}
+use Rattle.mk_view.specs.Listed.{greatest_number}
 use Rattle.mk_expand.specs.Encodings.{encoding_set}
+use Rattle.mk_expand.specs.FieldWords.{dropped, name_in, put, those}
 use Rattle.mk_expand.specs.Words.{content_set}
 
 -- where `content` stands for an edit of a leaf, and this is accepted, the bytes are what is extracted of the leaf
@@ -20,15 +25,10 @@ abbrev pub ContentsAreGivenBack : Type 0
 ContentsAreGivenBack = (eol : Ending) (path bytes : List ℕ) (t u : Document) (p : Placed) (e : PlainEdit) → eol ≢ Missing → IsBytes bytes → section_at path t ≡ Some p → IsLeaf p.entity
     → content_set eol path bytes (Some p) ≡ Ok (e ∷ []) → edited e t ≡ Ok u → IsExtract (section_at path u) bytes
 
--- further edits are made in the document that an edit gave
-abbrev pub and_edited : (Document → Result Document Refusal) → Result Document Refusal → Result Document Refusal
-and_edited others (Ok t) = others t
-and_edited others (Err e) = Err e
-
 -- edits, each made in the document that the earlier ones gave
 abbrev pub all_edited : List PlainEdit → Document → Result Document Refusal
 all_edited [] t = Ok t
-all_edited (e ∷ es) t = and_edited (all_edited es) (edited e t)
+all_edited (e ∷ es) t = made_of (all_edited es) (edited e t)
 
 -- where `encode` stands for edits of a leaf, and these are accepted, what is extracted of the leaf stays
 abbrev pub EncodingsKeepContents : Type 0
@@ -43,5 +43,14 @@ IsMultipart (multi h b pre ps t) = Unit {0}
 
 -- where `append` of a multipart is accepted, what is extracted of each leaf that was there stays
 abbrev pub AppendsKeepContents : Type 0
-AppendsKeepContents = (eol : Ending) (path text mail other bytes : List ℕ) (u : Document) (p q : Placed) → eol ≢ Missing → section_at path (tree mail) ≡ Some p → IsMultipart p.entity → length (children p) ≤ most_parts
+AppendsKeepContents = (eol : Ending) (path text mail other bytes : List ℕ) (u : Document) (p q : Placed) → eol ≢ Missing → section_at path (tree mail) ≡ Some p → IsMultipart p.entity → length (children p) ≤ greatest_number
     → all_edited (appended eol path text p) (tree mail) ≡ Ok u → section_at other (tree mail) ≡ Some q → IsLeaf q.entity → IsExtract (Some q) bytes → IsExtract (section_at other u) bytes
+
+-- where `drop` of the fields of a name is accepted, none of it is left
+abbrev pub DropsLeaveNone : Type 0
+DropsLeaveNone = (path name : List ℕ) (t u : Document) (p : Placed) → section_at path t ≡ Some p → all_edited (dropped path name (Some p)) t ≡ Ok u → (q : Placed) × (section_at path u ≡ Some q) × (those name q ≡ [])
+
+-- where `put` of one field is accepted, it is the only one of its name
+abbrev pub PutsLeaveOne : Type 0
+PutsLeaveOne = (path text : List ℕ) (t u : Document) (p : Placed) → section_at path t ≡ Some p → is_one_field (cut text) ≡ true → all_edited (put path text (Some p)) t ≡ Ok u
+    → (q : Placed) × (section_at path u ≡ Some q) × (those (name_in text) q ≡ fields_of (cut text))

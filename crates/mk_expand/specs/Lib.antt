@@ -9,3 +9,4 @@ pub mod Pieces
 pub mod Words
 pub mod Views
 pub mod ExpandLaws
+pub mod Removals

@@ -5,14 +5,14 @@ use Rattle.mk_decide.specs.Edits.{PlainEdit}
 use Rattle.mk_decide.specs.Views.{edit_of}
 use Rattle.mk_expand.specs.declared.errors.WordError.{WordError}
 use Rattle.mk_expand.specs.declared.errors.WordError.TheVariants as error
-use Rattle.mk_script.specs.ScriptViews.{texts_of}
+use Rattle.mk_script.specs.ScriptViews.{items_of}
 use Rattle.mk_expand.specs.declared.pieces.Pieces.{Pieces as PiecesIn}
 use Rattle.mk_expand.specs.Pieces.{Pieces}
 use Rattle.mk_expand.specs.Meanings.{WordFault, BadBase64, UnknownEncoding, BadType, BadName, BadCharset, BinaryContent}
 
 -- the pieces of a script
 abbrev pub pieces_of : PiecesIn → Pieces
-pieces_of p = record { texts = texts_of p.texts.now; turned = p.turned }
+pieces_of p = record { texts = items_of p.texts.now; turned = p.turned }
 
 -- edits as they are
 abbrev pub plain_edits : List Edit → List PlainEdit

@@ -6,7 +6,7 @@
 //! let path = Vec::from_slice(alloc, &[1])?;
 //! let name = Vec::from_slice(alloc, b"A:")?;
 //! let word = Word::DropAll { path, name };
-//! let edits = edits_for(alloc, word, &doc, Pieces::as_given(&[]), Ending::Lf)?;
+//! let edits = edits_for(alloc, &word, &doc, Pieces::as_given(&[]), Ending::Lf)?;
 //! assert_eq!(rt; edits.len(), 2);
 //! ```
 //!

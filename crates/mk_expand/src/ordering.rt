@@ -1,7 +1,7 @@
 //! Parts in the order in which they are removed.
 
 ghost use Rattle.std.specs.Prelude.{◌≡◌, map, IfOk};
-ghost use Rattle.mk_script.specs.ScriptViews.{paths_in};
+ghost use Rattle.mk_script.specs.ScriptViews.{items_of};
 ghost use Rattle.mk_decide.specs.Edits.{RemovePart};
 ghost use Rattle.mk_expand.specs.Paths.{latest_first as later_first, placed_among};
 ghost use Rattle.mk_expand.specs.Views.{plain_edits};
@@ -11,8 +11,8 @@ use std::alloc::{AllocError, Global};
 use std::cmp::Ordering;
 
 /// Removes the parts at these paths, which are those before any of them goes: the later ones go first.
-pub(crate) fn removals(alloc: Global, paths: Vec<Vec<u32>>) -> Result<Vec<Edit>, AllocError>
-    ensures { IfOk result (λ edits. plain_edits edits.items ≡ map (λ path. RemovePart path) (later_first (paths_in paths.items))) }
+pub(crate) fn removals(alloc: Global, paths: &[Vec<u32>]) -> Result<Vec<Edit>, AllocError>
+    ensures { IfOk result (λ edits. plain_edits edits.items ≡ map (λ path. RemovePart path) (later_first (items_of paths.now))) }
 {
     let mut edits = Vec::new(alloc);
     for path in latest_first(alloc, paths)? {
@@ -22,19 +22,19 @@ pub(crate) fn removals(alloc: Global, paths: Vec<Vec<u32>>) -> Result<Vec<Edit>,
 }
 
 // Paths, each once, the later first.
-fn latest_first(alloc: Global, paths: Vec<Vec<u32>>) -> Result<Vec<Vec<u32>>, AllocError>
-    ensures { IfOk result (λ list. paths_in list.items ≡ later_first (paths_in paths.items)) }
+fn latest_first(alloc: Global, paths: &[Vec<u32>]) -> Result<Vec<Vec<u32>>, AllocError>
+    ensures { IfOk result (λ list. items_of list.items ≡ later_first (items_of paths.now)) }
 {
     let mut list = Vec::new(alloc);
     for path in paths {
-        list = place(alloc, list, path)?;
+        list = place(alloc, list, Vec::from_slice(alloc, path)?)?;
     }
     Ok(list)
 }
 
 // Puts a path among others, the later ones first; one that is there already is dropped.
 fn place(alloc: Global, list: Vec<Vec<u32>>, path: Vec<u32>) -> Result<Vec<Vec<u32>>, AllocError>
-    ensures { IfOk result (λ placed. paths_in placed.items ≡ placed_among path.items (paths_in list.items)) }
+    ensures { IfOk result (λ placed. items_of placed.items ≡ placed_among path.items (items_of list.items)) }
 {
     let mut placed = Vec::new(alloc);
     let mut waiting = Some(path);

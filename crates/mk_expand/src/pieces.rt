@@ -17,11 +17,11 @@ impl<'a> Pieces<'a> {
     ghost use Rattle.std.specs.Prelude.{◌≡◌, ◌≢◌, IfOk};
     ghost use Rattle.mk_expand.specs.Pieces.{as_given, piece_lines, piece_text};
     ghost use Rattle.mk_expand.specs.Views.{pieces_of};
-    ghost use Rattle.mk_script.specs.ScriptViews.{texts_of};
+    ghost use Rattle.mk_script.specs.ScriptViews.{items_of};
 
     /// Pieces that go in as they are.
     pub fn as_given(texts: &'a [Vec<u8>]) -> Pieces<'a>
-        ensures { pieces_of result ≡ as_given (texts_of texts.now) }
+        ensures { pieces_of result ≡ as_given (items_of texts.now) }
     {
         Pieces {
             texts,

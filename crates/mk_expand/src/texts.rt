@@ -15,7 +15,7 @@ use crate::appending::{append, part_to_append};
 use crate::contents::{encode, with_body};
 use crate::errors::WordError;
 use crate::field_words::put;
-use mk_build::{AttachError, attach_as};
+use mk_build::{AttachError, AttachOptions, attach_with};
 use mk_decide::Edit;
 use mk_head::{ContentType, is_token};
 use mk_line::Ending;
@@ -222,7 +222,11 @@ pub(crate) fn attach_text(
     }
     let charset = charset_of(&text)?;
     let part = spec.inline(alloc, text)?;
-    match attach_as(alloc, &part, charset, eol) {
+    let options = AttachOptions {
+        charset,
+        utf8_names: false,
+    };
+    match attach_with(alloc, &part, options, eol) {
         Ok(text) => {
             let text = part_to_append(doc, &path, text, eol)?;
             Ok(append(alloc, doc, path, text, eol)?)

@@ -13,17 +13,16 @@ ghost use Rattle.mk_expand.specs.Words.{attach_file, attached_bytes as bytes_att
 use crate::appending::{append, part_to_append};
 use crate::each_word::{
     add_field, append_piece, append_text, attach_piece, attach_text_piece, drop_fields,
-    insert_part, put_field, put_piece, set_body, set_content_to, set_field, set_section,
-    set_text_to,
+    insert_part, put_field, put_piece, remove_field, rename_field, set_body, set_content_to,
+    set_encoding_to, set_field, set_section, set_text_to, wrap,
 };
-use crate::encodings::set_encoding;
 use crate::errors::WordError;
 use crate::ordering::removals;
 use crate::pieces::Pieces;
 use mk_build::{AttachError, attach};
 use mk_decide::Edit;
 use mk_line::{Ending, ends_open};
-use mk_script::{Target, Word};
+use mk_script::Word;
 use mk_show::Spec;
 use mk_tree::Doc;
 use std::alloc::{AllocError, Global};
@@ -59,65 +58,55 @@ pub fn is_plain(word: &Word) -> bool
 /// with `eol`. A path that leads nowhere isn't a fault: the edit that is refused for it stands for the word.
 pub fn edits_for(
     alloc: Global,
-    word: Word,
+    word: &Word,
     doc: &Doc,
     pieces: Pieces<'_>,
     eol: Ending,
 ) -> Result<Vec<Edit>, WordError>
     requires { eol ≢ Ending.Missing }
-    ensures edits { IfOk result (λ edits. meaning_of (pieces_of pieces.entry) eol (tree doc.now) (said_by word) ≡ Ok (plain_edits edits.items)) }
-    ensures fault { IfErr result (λ error. IsFault error (meaning_of (pieces_of pieces.entry) eol (tree doc.now) (said_by word))) }
+    ensures edits { IfOk result (λ edits. meaning_of (pieces_of pieces.entry) eol (tree doc.now) (said_by word.now) ≡ Ok (plain_edits edits.items)) }
+    ensures fault { IfErr result (λ error. IsFault error (meaning_of (pieces_of pieces.entry) eol (tree doc.now) (said_by word.now))) }
 {
     match word {
-        Word::Add { path, top, field } => add_field(alloc, path, top, field, eol),
-        Word::Delete(target) => {
-            let Target { path, name, k } = target;
-            alone(alloc, Edit::RemoveField { path, name, k })
-        }
-        Word::Rename { target, to } => {
-            let Target { path, name, k } = target;
-            alone(alloc, Edit::RenameField { path, name, k, to })
-        }
+        Word::Add { path, top, field } => add_field(alloc, path, *top, field, eol),
+        Word::Delete(target) => remove_field(alloc, target),
+        Word::Rename { target, to } => rename_field(alloc, target, to),
         Word::Set { target, field } => set_field(alloc, target, field, eol),
-        Word::Body { path, piece } => set_body(alloc, path, pieces, piece, eol),
-        Word::Replace { path, piece } => set_section(alloc, path, pieces, piece, eol),
-        Word::Insert { path, place, piece } => insert_part(alloc, path, place, pieces, piece, eol),
+        Word::Body { path, piece } => set_body(alloc, path, pieces, *piece, eol),
+        Word::Replace { path, piece } => set_section(alloc, path, pieces, *piece, eol),
+        Word::Insert { path, place, piece } => {
+            insert_part(alloc, path, *place, pieces, *piece, eol)
+        }
         Word::Remove { paths } => removals(alloc, paths).map_err(WordError::from),
         Word::Wrap {
             path,
             subtype,
             boundary,
-        } => alone(
-            alloc,
-            Edit::Wrap {
-                path,
-                subtype,
-                boundary,
-            },
-        ),
-        Word::Content { path, piece } => set_content_to(alloc, doc, path, pieces, piece, eol),
+        } => wrap(alloc, path, subtype, boundary),
+        Word::Content { path, piece } => set_content_to(alloc, doc, path, pieces, *piece, eol),
         Word::Text {
             charset,
             path,
             piece,
-        } => set_text_to(alloc, doc, path, &charset, pieces, piece, eol),
-        Word::Encode { path, to } => set_encoding(alloc, doc, path, to, eol),
-        Word::Put { path, field } => put_field(alloc, doc, &path, field, eol),
-        Word::PutPiece { path, piece } => put_piece(alloc, doc, &path, pieces, piece, eol),
-        Word::DropAll { path, name } => drop_fields(alloc, doc, &path, &name),
-        Word::Append { path, piece } => append_piece(alloc, doc, path, pieces, piece, eol),
-        Word::AppendText { path, piece } => append_text(alloc, doc, path, pieces, piece, eol),
+        } => set_text_to(alloc, doc, path, charset, pieces, *piece, eol),
+        Word::Encode { path, to } => set_encoding_to(alloc, doc, path, *to, eol),
+        Word::Put { path, field } => put_field(alloc, doc, path, field, eol),
+        Word::PutPiece { path, piece } => put_piece(alloc, doc, path, pieces, *piece, eol),
+        Word::DropAll { path, name } => drop_fields(alloc, doc, path, name),
+        Word::Append { path, piece } => append_piece(alloc, doc, path, pieces, *piece, eol),
+        Word::AppendText { path, piece } => append_text(alloc, doc, path, pieces, *piece, eol),
         Word::Attach {
             path,
             media,
             name,
             piece,
-        } => attach_piece(alloc, doc, path, &media, &name, pieces, piece, eol),
+        } => attach_piece(alloc, doc, path, media, name, pieces, *piece, eol),
         Word::AttachText { path, media, piece } => {
-            attach_text_piece(alloc, doc, path, &media, pieces, piece, eol)
+            attach_text_piece(alloc, doc, path, media, pieces, *piece, eol)
         }
     }
 }
+
 /// One edit, and nothing else.
 pub(crate) fn alone(alloc: Global, edit: Edit) -> Result<Vec<Edit>, WordError>
     ensures edits { IfOk result (λ edits. plain_edits edits.items ≡ edit_of edit ∷ []) }
@@ -172,10 +161,10 @@ pub(crate) fn attach_to(
 }
 
 /// A field with a line ending.
-pub(crate) fn ended(field: Vec<u8>, eol: Ending) -> Result<Vec<u8>, AllocError>
-    ensures { IfOk result (λ text. text.items ≡ field_text eol field.items) }
+pub(crate) fn ended(alloc: Global, field: &[u8], eol: Ending) -> Result<Vec<u8>, AllocError>
+    ensures { IfOk result (λ text. text.items ≡ field_text eol field.now) }
 {
-    let mut text = field;
+    let mut text = Vec::from_slice(alloc, field)?;
     text.extend_from_slice(eol.bytes())?;
     Ok(text)
 }
@@ -184,8 +173,9 @@ pub(crate) fn ended(field: Vec<u8>, eol: Ending) -> Result<Vec<u8>, AllocError>
 pub(crate) fn closed(field: Vec<u8>, eol: Ending) -> Result<Vec<u8>, AllocError>
     ensures { IfOk result (λ text. text.items ≡ closed_field eol field.items) }
 {
-    if ends_open(&field) {
-        return ended(field, eol);
+    let mut text = field;
+    if ends_open(&text) {
+        text.extend_from_slice(eol.bytes())?;
     }
-    Ok(field)
+    Ok(text)
 }

@@ -13,7 +13,7 @@ use Rattle.mk_mail.specs.Letters.{are_allowed, fields_at, is_root}
 use Rattle.mk_tree.specs.Documents.{tree}
 use Rattle.mk_tree.specs.Sections.{root_of, section_fields}
 use Rattle.mk_mail.specs.Rounds.{PlainRound, letters_for}
-use Rattle.mk_mailbox.specs.Mailboxes.{FitsReads, IsKnownWhole, IsNextPiece, IsOver, chunk_bytes}
+use Rattle.mk_mailbox.specs.Mailboxes.{FitsReads, IsKnownWhole, IsNextPiece, IsOver, read_limit}
 use Rattle.mk_mailbox.specs.Pieces.{mailbox_pieces}
 use Rattle.mk_transfer.specs.declared.status.Status.{Status}
 use Rattle.mk_transfer.specs.declared.status.Status.TheVariants.{Well, Refused, Usage, Fault, Memory as NoRoom}
@@ -174,8 +174,8 @@ all_out f turn refused text read done old now held out out_after err err_after a
 -- ---- reads
 
 -- each message has a byte, and each read gives no more than a chunk
-pub counted_on : (turn before reads now : ℕ) (m read : List ℕ) (old new : Kept) → (turn + length old.kept + chunk_bytes * before ≤ chunk_bytes * reads) ⊎ IsFull reads → FitsReads read reads now → IsNextPiece m old read new
-    → ((turn + 1) + length new.kept + chunk_bytes * before ≤ chunk_bytes * now) ⊎ IsFull now
+pub counted_on : (turn before reads now : ℕ) (m read : List ℕ) (old new : Kept) → (turn + length old.kept + read_limit * before ≤ read_limit * reads) ⊎ IsFull reads → FitsReads read reads now → IsNextPiece m old read new
+    → ((turn + 1) + length new.kept + read_limit * before ≤ read_limit * now) ⊎ IsFull now
 counted_on turn before reads now m read old new c f p =
     let sizes : length (old.kept ++ read) ≡ length (m ++ new.kept) = ap length p.whole in
     elim f [
@@ -186,7 +186,7 @@ counted_on turn before reads now m read old new c f p =
       ]
     ]
 
-pub long_on : (turn kept before reads now : ℕ) → (turn + kept + chunk_bytes * before ≤ chunk_bytes * reads) ⊎ IsFull reads → IsLong reads now → IsLong before now
+pub long_on : (turn kept before reads now : ℕ) → (turn + kept + read_limit * before ≤ read_limit * reads) ⊎ IsFull reads → IsLong reads now → IsLong before now
 long_on turn kept before reads now c h =
     elim h [
       | inr full ↦ inr full
@@ -257,15 +257,15 @@ EndsFiltered-well said before after f =
     record { status_is = no_line (is_nil said.errors) f.says.refused_is; written = record { output = f.says.output; errors = f.says.errors }; read = f.ended }
 
 -- a run that ended by itself
-pub Filters-ended : (why : Reason) (IsKnown : Cause → Type 0) (each : Bool) (status : Status) (run : Run) (before after : Held) → EndsFiltered status run before after → Filters why IsKnown each status run before after
+pub Filters-ended : (why : Reason) (IsKnown : Cause → Option (List ℕ) → Type 0) (each : Bool) (status : Status) (run : Run) (before after : Held) → EndsFiltered status run before after → Filters why IsKnown each status run before after
 Filters-ended why IsKnown each Well run before after e = e
 Filters-ended why IsKnown each Refused run before after e = e
 Filters-ended why IsKnown each Usage run before after e = e
 Filters-ended why IsKnown each Fault run before after e = absurd e
 Filters-ended why IsKnown each NoRoom run before after e = absurd e
 
-pub Filters-given_up : (why : Reason) (IsKnown : Cause → Type 0) (each : Bool) (cause : Cause) (said : Said) (before : Held) (input output between errors : Option (List ℕ))
-    → IsBroken IsKnown each cause said before (held input output between)
+pub Filters-given_up : (why : Reason) (IsKnown : Cause → Option (List ℕ) → Type 0) (each : Bool) (cause : Cause) (said : Said) (before : Held) (input output between errors : Option (List ℕ))
+    → IsBroken (λ cause. IsKnown cause between) each cause said before (held input output between)
     → why cause between errors → Filters why IsKnown each (status_of cause) (shown said.output said.errors) before (held input output errors)
 Filters-given_up why IsKnown each Read said before input output between errors b line =
     record { output = b.says.output; cause = Read; status_is = refl; between = between; errors = b.says.errors; line = line; silent = b.silent; known = b.known }
@@ -279,13 +279,14 @@ Filters-given_up why IsKnown each Memory said before input output between errors
 -- reading failed between two messages once all that was gathered had gone out, and of what is kept none is known to be whole
 pub known_between : (f : PlainFilter) (turn : ℕ) (refused : Bool) (text read : List ℕ) (done : List (List ℕ)) (old new : Kept) (held : List ℕ) (out out_mid out_after err err_after : Option (List ℕ))
     → AreOut f turn refused text done old held out out_mid err err_after → Gathers [] held [] out_mid out_after → (old.ended ≡ true → read ≡ []) → new.kept ≡ old.kept ++ read → (IsKnownWhole old.from_lines new.kept → ⊥)
-    → GivesKnown f (text ++ read) out out_after
+    → GivesKnown f (text ++ read) out out_after err err_after
 known_between f turn refused text read done old new held out out_mid out_after err err_after a g r k u = record {
   given = done;
   rest = new.kept;
   parts = read_all f turn refused text read done old held out out_mid err err_after a r ∙ ap (λ x. done ++ mailbox_pieces f.from_lines x) (sym k);
   unknown = λ known. u (subst (λ way. IsKnownWhole way new.kept) (sym a.same) known);
   output = flushed_all (said_from true f 1 done).output [] out out_after out_after (moved_out f turn refused text done old held [] out out_mid out_after err err_after a g).says.output (Appends-nil out_after);
+  errors = a.says.errors;
 }
 
 -- so many reads were made that reading is given up
@@ -297,16 +298,16 @@ too_many t before now e h = inl (enough (nat_le 2147483647 (now - before)) refl 
 
 -- sending a message stopped
 pub sending_blamed : (stop : Stop) (cause : Cause) (before after : Counts) → cause ≡ cause_of_writing stop → (stop ≡ Stopped → WriteFailed before after)
-    → (stop ≡ Wanting → (after.output ≡ before.output) × (after.errors ≡ before.errors)) → after.input ≡ before.input → IsBlamed cause before after
-sending_blamed Stopped cause before after e fault memory input = subst (λ c. IsBlamed c before after) (sym e) (record { failed = fault refl; input = input })
-sending_blamed Wanting cause before after e fault memory input =
+    → (stop ≡ Wanting → (after.output ≡ before.output) × (after.errors ≡ before.errors)) → after.input ≡ before.input → before.errors ≤ after.errors → IsBlamed cause before after
+sending_blamed Stopped cause before after e fault memory input errors = subst (λ c. IsBlamed c before after) (sym e) (record { failed = fault refl; input = input; errors = errors })
+sending_blamed Wanting cause before after e fault memory input errors =
     let same = memory refl in subst (λ c. IsBlamed c before after) (sym e) (record { input = input; output = same.0; errors = same.1 })
 
 pub not_both_stops : {A : Type 0} (stop : Stop) → stop ≡ Stopped → stop ≡ Wanting → A
 not_both_stops stop a b = cc
 
 -- so many messages were read that reading is given up
-pub turns_out : (turn kept before reads : ℕ) → 18446744073709551615 ≤ turn → (turn + kept + chunk_bytes * before ≤ chunk_bytes * reads) ⊎ IsFull reads → IsLong before reads
+pub turns_out : (turn kept before reads : ℕ) → 18446744073709551615 ≤ turn → (turn + kept + read_limit * before ≤ read_limit * reads) ⊎ IsFull reads → IsLong before reads
 turns_out turn kept before reads end c = elim c [ inr full ↦ inr full | inl less ↦ inl (omega (arith, end, less)) ]
 
 -- the letters for a text may be asked for
@@ -316,3 +317,10 @@ allowed_for r text h = let both = and_parts (are_allowed r.lf) (are_allowed r.cr
     either : (is_lf : Bool) → are_allowed r.lf ≡ true → are_allowed r.crlf ≡ true → are_allowed (if is_lf then r.lf else r.crlf) ≡ true
     either true a b = a
     either false a b = b
+
+-- a mailbox of which no part changed is as it was
+pub kept_same : (a b : Kept) → a.kept ≡ b.kept → a.ended ≡ b.ended → a.from_lines ≡ b.from_lines → a ≡ b
+kept_same a b k e f =
+    ap (λ x. record { kept = x; ended = a.ended; from_lines = a.from_lines }) k
+    ∙ ap (λ x. record { kept = b.kept; ended = x; from_lines = a.from_lines }) e
+    ∙ ap (λ x. record { kept = b.kept; ended = b.ended; from_lines = x }) f

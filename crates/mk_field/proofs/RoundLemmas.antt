@@ -20,7 +20,8 @@ use Rattle.mk_mail.specs.Apart.{always_fits, has_section, mail_made, placed_made
 use Rattle.mk_field.specs.Filtering.{PlainFilter, filter_made}
 use Rattle.mk_mail.specs.Filtered.{outcome_at}
 use Rattle.mk_mail.specs.Letters.{PlainLetters, edits_at}
-use Rattle.mk_mail.specs.Rounds.{Made, PlainRound, letters_for, made_of, made_text, round_made_at, rounds_made_at}
+use Rattle.mk_mail.specs.Rounds.{Made, PlainRound, letters_for, made_text, round_made_at, rounds_made_at}
+use Rattle.mk_line.specs.Results.{made_of}
 use Rattle.mk_field.specs.FilterClauses.{IsEdited, IsFitted, IsReason, IsRoundMade, fitted}
 use Rattle.mk_field.specs.FilterViews.{is_round, round_of}
 use Rattle.mk_field.specs.declared.filters.Round.{Round}

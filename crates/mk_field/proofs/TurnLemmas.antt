@@ -9,6 +9,7 @@ use Rattle.mk_transfer.specs.declared.status.Cause.TheVariants.{Read, Write, Mem
 use Rattle.mk_transfer.specs.declared.transfer.Stop.{Stop}
 use Rattle.mk_transfer.specs.RunClauses.{Counts, Held, IsBlamed, SameFailures, WriteFailed, cause_of_writing, held}
 use Rattle.mk_transfer.proofs.Fronts.{AppendsFront-whole, Rose-on}
+use Rattle.mk_transfer.proofs.Blames.{blamed_least}
 use Rattle.mk_transfer.proofs.GivenUp.{not_reading}
 use Rattle.mk_field.specs.Filtering.{PlainFilter, said_from}
 use Rattle.mk_field.specs.FilterClauses.{LeavesSaid, known_by}
@@ -26,13 +27,14 @@ blamed_on Read start before after s l h = record {
 blamed_on Write start before after s l h = record {
   failed = elim h.failed [ inl rose ↦ inl (subst (λ n. Rose n after.output) s.output rose) | inr rose ↦ inr (subst (λ n. Rose n after.errors) s.errors rose) ];
   input = h.input ∙ s.input;
+  errors = omega (arith, h.errors, s.errors);
 }
 blamed_on Memory start before after s l h = record { input = h.input ∙ s.input; output = h.output ∙ s.output; errors = h.errors ∙ s.errors }
 
 -- ---- the last of the output goes out
 
-known_flushed : (f : PlainFilter) (spent : Type 0) (text left : List ℕ) (out out_mid out_after : Option (List ℕ)) (cause : Cause) → known_gathered f spent text left out out_mid cause → Appends out_mid out_after left → known_by f true spent text out out_after cause
-known_flushed f spent text left out out_mid out_after cause k a = λ r _. elim (k r) [
+known_flushed : (f : PlainFilter) (spent : Type 0) (text left : List ℕ) (out out_mid out_after err err_after : Option (List ℕ)) (cause : Cause) → known_gathered f spent text left out out_mid err err_after cause → Appends out_mid out_after left → known_by f true spent text out out_after err err_after cause
+known_flushed f spent text left out out_mid out_after err err_after cause k a = λ r _. elim (k r) [
   | inr long ↦ inr long
   | inl both ↦ inl (record {
     given = both.1.given;
@@ -41,6 +43,7 @@ known_flushed f spent text left out out_mid out_after cause k a = λ r _. elim (
     unknown = both.1.unknown;
     output = subst (Appends out out_after) (ap (λ x. (said_from true f 1 both.1.given).output ++ x) both.0 ∙ append-nil (said_from true f 1 both.1.given).output)
         (Appends-trans out out_mid out_after (said_from true f 1 both.1.given).output left both.1.output a);
+    errors = both.1.errors;
   })
 ]
 
@@ -67,7 +70,7 @@ flushed_leaves spent f (Err cause) left before input out out_after err l a = (
       errors = l.2.says.errors;
     };
     silent = no_silence;
-    known = known_flushed f spent l.0 left before.output out out_after cause l.2.known a;
+    known = known_flushed f spent l.0 left before.output out out_after before.errors err cause l.2.known a;
   },
 )
 
@@ -113,3 +116,8 @@ stopped_failed (Err Memory) before mid after b s rose more same = inl (subst (λ
 pub some_gathered : {A : Type 0} (gathered : List ℕ) → (gathered ≡ []) ⊎ A → 0 < length gathered → A
 some_gathered [] either more = absurd (omega (arith, more))
 some_gathered (x ∷ xs) either more = elim either [ inl none ↦ cc | inr a ↦ a ]
+
+-- the errors of a turn, after it
+pub turn_counted : (r : Result Bool Cause) (before mid : Counts) → IfErr r (λ cause. IsBlamed cause before mid) → OnOk r (SameFailures before mid) → before.errors ≤ mid.errors
+turn_counted (Ok refused) before mid b s = omega (arith, s.errors)
+turn_counted (Err cause) before mid b s = blamed_least cause before mid b

@@ -18,7 +18,8 @@ use Rattle.mk_code.proofs.Spaced.{space_decoded, text_whole}
 use Rattle.mk_code.proofs.WordsKept.{words_kept}
 use Rattle.mk_script.specs.Paths.{parted}
 use Rattle.mk_script.proofs.PieceLemmas.{HoldsNo, parted-append}
-use Rattle.mk_field.specs.Filtering.{after_colon, part_after}
+use Rattle.mk_field.specs.Filtering.{after_colon}
+use Rattle.std.specs.Option.{option_map_or}
 use Rattle.mk_mail.specs.Prepended.{is_one_line, is_plain}
 use Rattle.mk_wording.specs.Wording.{field_kind, field_or, is_structured, worded_by, worded_field, worded_field_of, worded_value}
 use Rattle.mk_wording.proofs.FieldLemmas.{text_written}
@@ -76,7 +77,7 @@ field_parted : (name value : List ℕ) → list_all is_name_byte name ≡ true �
 field_parted name value h = parted-append 58 name (32 ∷ value) (no_colon name h)
 
 value_after : (name value : List ℕ) → list_all is_name_byte name ≡ true → after_colon (field name value) ≡ 32 ∷ value
-value_after name value h = ap part_after (field_parted name value h)
+value_after name value h = ap (λ o. option_map_or (λ p. p.1) o []) (field_parted name value h)
 
 -- the field that is made of a name and a text
 field_worded : (eol : Ending) (name text : List ℕ) → list_all is_name_byte name ≡ true → stripped text ≡ text

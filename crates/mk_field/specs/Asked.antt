@@ -1,10 +1,11 @@
 -- Letters as words of the command line (own, after formail).
+use Rattle.mk_line.specs.Ascii.{asterisk}
 use Rattle.std.specs.Prelude.{◌==◌, ◌-◌, ◌&&◌, if◌then◌else◌, ℕ, Bool, true, false, Option, None, Some, List, [], drop, is_some, length, map, slice_index, take, unwrap_or}
 use Rattle.std.specs.List.{list_all, prefix_len}
-use Rattle.std.specs.Option.{option_and_then, option_map}
+use Rattle.std.specs.Option.{option_and_then, option_map, option_map_or}
 use Rattle.mk_line.specs.Ascii.{colon, is_blank}
 use Rattle.mk_line.specs.Lines.{is_nil}
-use Rattle.mk_mail.specs.Letters.{PlainLetters, PlainPattern, passes}
+use Rattle.mk_mail.specs.Letters.{PlainLetters, PlainPattern}
 use Rattle.mk_mail.specs.Prepended.{PlainPrepend}
 use Rattle.mk_script.specs.Paths.{parted}
 use Rattle.mk_field.specs.declared.letters.LetterWords.{LetterWords}
@@ -67,10 +68,6 @@ is_name_word word = is_some (name_in word)
 abbrev pub is_pair_word : List ℕ → Bool
 is_pair_word word = is_some (parted colon word)
 
--- an asterisk
-abbrev pub asterisk : ℕ
-asterisk = 42
-
 -- the last byte of a name is an asterisk
 abbrev pub ends_in_asterisk : List ℕ → Bool
 ends_in_asterisk name = slice_index name (length name - 1) == asterisk
@@ -91,7 +88,7 @@ prepend_in p = record { name = p.0; text = drop (prefix_len is_blank p.1) p.1 }
 -- the words that take names have their colons
 abbrev pub have_colons : PlainWords → Bool
 have_colons w =
-    list_all is_name_word w.drops && passes is_name_word w.first && (passes is_name_word w.last && (passes is_name_word w.take && (passes is_name_word w.whole && (passes is_pair_word w.rename && passes is_pair_word w.prepend))))
+    list_all is_name_word w.drops && option_map_or is_name_word w.first true && (option_map_or is_name_word w.last true && (option_map_or is_name_word w.take true && (option_map_or is_name_word w.whole true && (option_map_or is_pair_word w.rename true && option_map_or is_pair_word w.prepend true))))
 
 -- what words ask for, each by the letter that takes it
 abbrev pub letters_asked : PlainWords → PlainLetters

@@ -14,7 +14,8 @@ use Rattle.mk_mailbox.specs.Pieces.{mailbox_pieces}
 use Rattle.mk_mailbox.specs.Places.{fits_place}
 use Rattle.mk_mail.specs.Filtered.{outcome_at}
 use Rattle.mk_mail.specs.Letters.{PlainLetters}
-use Rattle.mk_mail.specs.Rounds.{Made, left_of, made_text}
+use Rattle.mk_mail.specs.Rounds.{Made, made_text}
+use Rattle.std.specs.Result.{result_unwrap_or}
 use Rattle.mk_transfer.specs.declared.status.Status.{Status}
 use Rattle.mk_transfer.specs.declared.status.Status.TheVariants.{Well, Refused, Usage, Fault, Memory}
 use Rattle.mk_transfer.specs.declared.status.Cause.{Cause}
@@ -23,22 +24,23 @@ use Rattle.mk_field.specs.Filtering.{PlainFilter, field_run, messages_of, said_f
 use Rattle.mk_transfer.specs.RunClauses.{Held, IsDone, Reason, status_of}
 use Rattle.mk_transfer.specs.Said.{Run, Said}
 
--- all messages that are known to be whole went out: of the rest of what was read none is
-pub record GivesKnown (f : PlainFilter) (text : List ℕ) (out out_after : Option (List ℕ)) : Type 0 where
+-- all messages that are known to be whole went out, and the lines of those that were refused: of the rest of what was read none is
+pub record GivesKnown (f : PlainFilter) (text : List ℕ) (out out_after err err_after : Option (List ℕ)) : Type 0 where
   pub given : List (List ℕ)
   pub rest : List ℕ
   pub parts : mailbox_pieces f.from_lines text ≡ given ++ mailbox_pieces f.from_lines rest
   pub unknown : IsKnownWhole f.from_lines rest → ⊥
   pub output : Appends out out_after (said_from true f 1 given).output
+  pub errors : Appends err err_after (said_from true f 1 given).errors
 
--- where messages go out one by one and reading fails, all that are known to be whole went out, unless so much was read that reading
--- was given up
-abbrev pub known_by : PlainFilter → Bool → Type 0 → List ℕ → Option (List ℕ) → Option (List ℕ) → Cause → Type 0
-known_by f each spent text out out_after cause = cause ≡ Read → each ≡ true → GivesKnown f text out out_after ⊎ spent
+-- where messages go out one by one and reading fails, all that are known to be whole went out with their lines, unless so much was read
+-- that reading was given up
+abbrev pub known_by : PlainFilter → Bool → Type 0 → List ℕ → Option (List ℕ) → Option (List ℕ) → Option (List ℕ) → Option (List ℕ) → Cause → Type 0
+known_by f each spent text out out_after err err_after cause = cause ≡ Read → each ≡ true → GivesKnown f text out out_after err err_after ⊎ spent
 
 -- the run was given up: a front of the output and of the errors went out, and then the line that says why; where reading failed
 -- nothing went to the output, unless the messages go out one by one
-pub record IsCutShort (why : Reason) (IsKnown : Cause → Type 0) (each : Bool) (status : Status) (run : Run) (before after : Held) : Type 0 where
+pub record IsCutShort (why : Reason) (IsKnown : Cause → Option (List ℕ) → Type 0) (each : Bool) (status : Status) (run : Run) (before after : Held) : Type 0 where
   pub output : AppendsFront before.output after.output run.output
   pub cause : Cause
   pub status_is : status_of cause ≡ status
@@ -46,7 +48,7 @@ pub record IsCutShort (why : Reason) (IsKnown : Cause → Type 0) (each : Bool) 
   pub errors : AppendsFront before.errors between run.errors
   pub line : why cause between after.errors
   pub silent : each ≡ false → cause ≡ Read → Keeps before.output after.output
-  pub known : IsKnown cause
+  pub known : IsKnown cause between
 
 -- what a run leaves that ended by itself
 abbrev pub EndsFiltered : Status → Run → Held → Held → Type 0
@@ -57,7 +59,7 @@ EndsFiltered Fault run before after = ⊥
 EndsFiltered Memory run before after = ⊥
 
 -- what a run leaves, by its status
-abbrev pub Filters : Reason → (Cause → Type 0) → Bool → Status → Run → Held → Held → Type 0
+abbrev pub Filters : Reason → (Cause → Option (List ℕ) → Type 0) → Bool → Status → Run → Held → Held → Type 0
 Filters why IsKnown each Well run before after = IsDone Well run before after
 Filters why IsKnown each Refused run before after = IsDone Refused run before after
 Filters why IsKnown each Usage run before after = ⊥
@@ -68,7 +70,7 @@ Filters why IsKnown each Memory run before after = IsCutShort why IsKnown each M
 abbrev pub LeavesFiltered : Reason → Type 0 → PlainFilter → Bool → Status → Held → Held → Type 0
 LeavesFiltered why spent f each status before after =
     (text : List ℕ) × Consumes before.input after.input text
-    × Filters why (known_by f each spent text before.output after.output) each status (field_run f each text) before after
+    × Filters why (λ cause between. known_by f each spent text before.output after.output before.errors between cause) each status (field_run f each text) before after
 
 -- what is said went out whole, and whether something is reported
 pub record SaysAll (said : Said) (refused : Bool) (out out_after err err_after : Option (List ℕ)) : Type 0 where
@@ -110,7 +112,7 @@ IsFitted place (Some e) old new = (refusal_of e ≡ Some Recut) × (fits place (
 
 -- this text was left of a message, and this reason given where an edit was refused
 pub record IsEdited (m : Made) (text : List ℕ) (refusal : Option EditError) (left : List ℕ) : Type 0 where
-  pub left_is : left ≡ left_of text m
+  pub left_is : left ≡ result_unwrap_or m text
   pub reason : IsReason refusal m
 
 -- all messages were filtered up to the end of the input
@@ -133,7 +135,7 @@ FiltersSoFar IsKnown each (Err cause) said before after = IsBroken IsKnown each 
 abbrev pub LeavesSaid : Type 0 → PlainFilter → Bool → Result Bool Cause → Held → Held → Type 0
 LeavesSaid spent f each result before after =
     (text : List ℕ) × Consumes before.input after.input text
-    × FiltersSoFar (known_by f each spent text before.output after.output) each result (said_from each f 1 (messages_of f.from_lines each text)) before after
+    × FiltersSoFar (known_by f each spent text before.output after.output before.errors after.errors) each result (said_from each f 1 (messages_of f.from_lines each text)) before after
 
 -- what a run that filters leaves, where it may be given up
 abbrev pub LeavesFilteredSoFar : Type 0 → PlainFilter → Bool → Result Status Cause → Held → Held → Type 0

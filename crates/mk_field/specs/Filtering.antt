@@ -1,4 +1,5 @@
 -- Messages whose fields are filtered by letters, or given (own, after formail).
+use Rattle.std.specs.Option.{option_map_or}
 use Rattle.std.specs.Prelude.{◌||◌, ◌∷◌, if◌then◌else◌, [], ℕ, suc, Bool, true, false, Option, None, Some, Ok, Err, List, filter, is_some}
 use Rattle.std.specs.List.{flat_map}
 use Rattle.mk_line.specs.Ascii.{colon}
@@ -6,7 +7,8 @@ use Rattle.mk_head.specs.Fields.{FieldText, is_named}
 use Rattle.mk_decide.specs.Edits.{NoSuchSection}
 use Rattle.mk_mail.specs.Apart.{has_section, mail_made, section_made}
 use Rattle.mk_mail.specs.Letters.{PlainLetters, fields_at, root_path}
-use Rattle.mk_mail.specs.Rounds.{Made, PlainRound, left_of, letters_for, round_of_letters}
+use Rattle.mk_mail.specs.Rounds.{Made, PlainRound, letters_for, round_of_letters}
+use Rattle.std.specs.Result.{result_unwrap_or}
 use Rattle.mk_mailbox.specs.declared.from_lines.FromLines.{FromLines}
 use Rattle.mk_mailbox.specs.declared.from_lines.FromLines.TheVariants.{Any}
 use Rattle.mk_mailbox.specs.Pieces.{is_left_alone, mailbox_pieces}
@@ -37,14 +39,9 @@ of_letters l = of_rounds (round_of_letters l ∷ [])
 abbrev pub fields_named : List ℕ → List ℕ → List ℕ → List FieldText
 fields_named path name text = filter (is_named name) (fields_at path text)
 
--- what follows a separator, where there is one
-abbrev pub part_after : Option (List ℕ × List ℕ) → List ℕ
-part_after None = []
-part_after (Some p) = p.1
-
 -- what follows the colon of a field, all its lines and endings as they stand
 abbrev pub after_colon : List ℕ → List ℕ
-after_colon raw = part_after (parted colon raw)
+after_colon raw = option_map_or (λ p. p.1) (parted colon raw) []
 
 -- the values of the fields of a name, one after another (`-x`)
 abbrev pub values_named : List ℕ → ValueForm → List ℕ → List ℕ → List ℕ
@@ -89,7 +86,7 @@ filter_made each f text = if each then mail_made f.from_lines f.path f.rounds te
 
 -- what is said of a message of which this was made: what is left of it, and the reason where an edit is refused
 abbrev pub said_of_made : List ℕ → ℕ → List ℕ → Made → Said
-said_of_made path number text m = record { output = left_of text m; errors = report_of path number m }
+said_of_made path number text m = record { output = result_unwrap_or m text; errors = report_of path number m }
 
 -- what is said of a message of which this is given, at a path
 abbrev pub given_said : List ℕ → ℕ → List ℕ → List ℕ → Said

@@ -1,10 +1,12 @@
 //! Messages of which the fields are filtered by letters, or given, over any devices.
 
-ghost use Rattle.std.specs.Prelude.{◌≡◌, ◌⊎◌, ◌-◌, ◌++◌, [], ℕ, List, true, false, nat_le, IfOk, IfErr, MatchResult, OnErr, OnOk};
+ghost use Rattle.std.specs.Prelude.{◌≡◌, ◌≤◌, ◌⊎◌, ◌-◌, ◌++◌, [], ℕ, List, true, false, nat_le, IfOk, IfErr, MatchResult, OnErr, OnOk};
 ghost use Rattle.std.specs.Io.KnownBytes.{Consumes, IsAtEnd};
 ghost use Rattle.std.specs.Option.{option_map};
+ghost use Rattle.mk_line.specs.Meters.{ticked};
 ghost use Rattle.mk_mailbox.specs.Devices.{IsLong, Rose};
-ghost use Rattle.mk_mailbox.specs.Mailboxes.{Answers, FitsReads, IsKnownWhole};
+ghost use Rattle.mk_mailbox.specs.Mailboxes.{FitsReads, IsKnownWhole};
+ghost use Rattle.mk_mailbox.specs.inner.Answers.{Answers};
 ghost use Rattle.mk_mail.specs.LetterViews.{letters_of};
 ghost use Rattle.mk_mail.specs.Letters.{are_allowed};
 ghost use Rattle.mk_field.specs.FilterClauses.{LeavesFiltered, LeavesFilteredSoFar, LeavesSaid, SaysAll, SaysSome};
@@ -49,8 +51,8 @@ pub fn run_field<S: Source, O: Sink, E: Sink>(
     ensures clean { ends_itself result ≡ true → SameFailures
         (counts (S.failures input.old) (S.read_count input.old) (O.failures out.old) (E.failures err.old))
         (counts (S.failures input.new) (S.read_count input.new) (O.failures out.new) (E.failures err.new)) }
-    ensures finished { ends_itself result ≡ true → O.finished out.new ≡ true }
-    ensures unfinished { ends_itself result ≡ false → O.finished out.new ≡ O.finished out.old }
+    ensures finished { ends_itself result ≡ true → O.finishes out.new ≡ ticked (O.finishes out.old) }
+    ensures unfinished { ends_itself result ≡ false → O.finishes out.new ≡ O.finishes out.old }
 {
     let rounds = [Round::new(letters)];
     match try_field(alloc, input, out, err, &FieldFilter::new(&rounds), each) {
@@ -79,8 +81,8 @@ pub fn try_field<S: Source, O: Sink, E: Sink>(
     ensures clean { OnOk result (SameFailures
         (counts (S.failures input.old) (S.read_count input.old) (O.failures out.old) (E.failures err.old))
         (counts (S.failures input.new) (S.read_count input.new) (O.failures out.new) (E.failures err.new))) }
-    ensures finished { OnOk result (O.finished out.new ≡ true) }
-    ensures unfinished { OnErr result (O.finished out.new ≡ O.finished out.old) }
+    ensures finished { OnOk result (O.finishes out.new ≡ ticked (O.finishes out.old)) }
+    ensures unfinished { OnErr result (O.finishes out.new ≡ O.finishes out.old) }
 {
     let refused = match filter_input(alloc, input, out, err, filter, each) {
         Ok(refused) => refused,
@@ -115,7 +117,7 @@ fn filter_input<S: Source, O: Sink, E: Sink>(
     ensures clean { OnOk result (SameFailures
         (counts (S.failures input.old) (S.read_count input.old) (O.failures out.old) (E.failures err.old))
         (counts (S.failures input.new) (S.read_count input.new) (O.failures out.new) (E.failures err.new))) }
-    ensures unfinished { O.finished out.new ≡ O.finished out.old }
+    ensures unfinished { O.finishes out.new ≡ O.finishes out.old }
 {
     if each {
         filter_each(alloc, input, out, err, filter)
@@ -142,7 +144,7 @@ fn filter_whole<S: Source, O: Sink, E: Sink>(
     ensures clean { OnOk result (SameFailures
         (counts (S.failures input.old) (S.read_count input.old) (O.failures out.old) (E.failures err.old))
         (counts (S.failures input.new) (S.read_count input.new) (O.failures out.new) (E.failures err.new))) }
-    ensures unfinished { O.finished out.new ≡ O.finished out.old }
+    ensures unfinished { O.finishes out.new ≡ O.finishes out.old }
 {
     let message = match read_all(alloc, input) {
         Ok(message) => message,
@@ -173,7 +175,8 @@ fn say_whole<O: Sink, E: Sink>(
         → (O.failures out.new ≡ O.failures out.old) × (E.failures err.new ≡ E.failures err.old)) }
     ensures output_well { OnOk result (O.failures out.new ≡ O.failures out.old) }
     ensures errors_well { OnOk result (E.failures err.new ≡ E.failures err.old) }
-    ensures unfinished { O.finished out.new ≡ O.finished out.old }
+    ensures counted { E.failures err.old ≤ E.failures err.new }
+    ensures unfinished { O.finishes out.new ≡ O.finishes out.old }
 {
     match filter_message(alloc, filter, false, message) {
         Ok(told) => say_alone(alloc, filter.path, ONLY, &told, out, err),
@@ -200,7 +203,7 @@ fn filter_each<S: Source, O: Sink, E: Sink>(
     ensures clean { OnOk result (SameFailures
         (counts (S.failures input.old) (S.read_count input.old) (O.failures out.old) (E.failures err.old))
         (counts (S.failures input.new) (S.read_count input.new) (O.failures out.new) (E.failures err.new))) }
-    ensures unfinished { O.finished out.new ≡ O.finished out.old }
+    ensures unfinished { O.finishes out.new ≡ O.finishes out.old }
 {
     let mut gathered = Vec::new(alloc);
     let result = filter_in_turn(alloc, input, out, err, filter, &mut gathered);
@@ -231,7 +234,7 @@ fn filter_in_turn<S: Source, O: Sink, E: Sink>(
         (counts (S.failures input.old) (S.read_count input.old) (O.failures out.old) (E.failures err.old))
         (counts (S.failures input.new) (S.read_count input.new) (O.failures out.new) (E.failures err.new))) }
     ensures steady { gathered.new.items ≡ [] ⊎ (S.failures input.new ≡ S.failures input.old) }
-    ensures unfinished { O.finished out.new ≡ O.finished out.old }
+    ensures unfinished { O.finishes out.new ≡ O.finishes out.old }
 {
     let before = input.reads();
     let mut mailbox = Mailbox::cut_at(alloc, filter.from_lines);
@@ -279,7 +282,7 @@ fn next_message<S: Source, O: Sink>(
     ensures steady { gathered.new.items ≡ [] ⊎ (S.failures input.new ≡ S.failures input.old) }
     ensures well { OnOk result (S.failures input.new ≡ S.failures input.old) }
     ensures output_well { OnOk result (O.failures out.new ≡ O.failures out.old) }
-    ensures unfinished { O.finished out.new ≡ O.finished out.old }
+    ensures unfinished { O.finishes out.new ≡ O.finishes out.old }
 {
     match mailbox.next_known() {
         Ok(Some(message)) => return Ok(Some(message)),
@@ -317,7 +320,8 @@ fn say_message<O: Sink, E: Sink>(
         → (O.failures out.new ≡ O.failures out.old) × (E.failures err.new ≡ E.failures err.old)) }
     ensures output_well { OnOk result (O.failures out.new ≡ O.failures out.old) }
     ensures errors_well { OnOk result (E.failures err.new ≡ E.failures err.old) }
-    ensures unfinished { O.finished out.new ≡ O.finished out.old }
+    ensures counted { E.failures err.old ≤ E.failures err.new }
+    ensures unfinished { O.finishes out.new ≡ O.finishes out.old }
 {
     match filter_message(alloc, filter, true, message) {
         Ok(told) => say(alloc, filter.path, number, &told, gathered, out, err),

@@ -1,11 +1,10 @@
 //! Letters as words of the command line.
 
-ghost use Rattle.std.specs.Prelude.{◌≡◌, ◌≢◌, IfOk, map};
+ghost use Rattle.std.specs.Prelude.{◌≡◌, ◌≢◌, IfOk, map, true};
 ghost use Rattle.std.specs.List.{list_all};
-ghost use Rattle.std.specs.Option.{option_and_then, option_map};
+ghost use Rattle.std.specs.Option.{option_and_then, option_map, option_map_or};
 ghost use Rattle.mk_line.specs.Ascii.{colon};
 ghost use Rattle.mk_mail.specs.LetterViews.{bytes_in, pattern_of, prepend_of};
-ghost use Rattle.mk_mail.specs.Letters.{passes};
 ghost use Rattle.mk_field.specs.Asked.{is_name_word, is_pair_word, name_in as name_in_word, pattern_asked, pattern_in, prepend_in};
 ghost use Rattle.mk_field.specs.FieldForms.{in_form as made_in_form};
 ghost use Rattle.mk_script.specs.Paths.{parted as parted_at};
@@ -148,7 +147,7 @@ fn is_named(word: &str) -> bool
 
 // Whether a word is a name and a colon, if there is a word.
 fn may_name(word: Option<&str>) -> bool
-    ensures { result ≡ passes is_name_word (option_map (λ s. s.now) word.entry) }
+    ensures { result ≡ option_map_or is_name_word (option_map (λ s. s.now) word.entry) true }
 {
     match word {
         Some(word) => is_named(word),
@@ -158,7 +157,7 @@ fn may_name(word: Option<&str>) -> bool
 
 // Whether a word has a colon, if there is a word.
 fn may_part(word: Option<&str>) -> bool
-    ensures { result ≡ passes is_pair_word (option_map (λ s. s.now) word.entry) }
+    ensures { result ≡ option_map_or is_pair_word (option_map (λ s. s.now) word.entry) true }
 {
     match word {
         Some(word) => parted(word.as_bytes(), COLON).is_some(),

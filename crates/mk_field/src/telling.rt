@@ -1,6 +1,6 @@
 //! What a filter says of a message, and how it goes out: by itself, or gathered with what is said of other messages.
 
-ghost use Rattle.std.specs.Prelude.{◌≡◌, ◌<◌, ◌⊎◌, ◌++◌, [], ℕ, List, false, if◌then◌else◌, length, not, IfOk, IfErr, IfSome, OnOk, OnErr};
+ghost use Rattle.std.specs.Prelude.{◌≡◌, ◌<◌, ◌≤◌, ◌⊎◌, ◌++◌, [], ℕ, List, false, if◌then◌else◌, length, not, IfOk, IfErr, IfSome, OnOk, OnErr};
 ghost use Rattle.mk_decide.specs.Answers.{is_memory};
 ghost use Rattle.mk_line.specs.Lines.{is_nil};
 ghost use Rattle.mk_mailbox.specs.Devices.{Rose};
@@ -55,7 +55,7 @@ pub(crate) fn flush<O: Sink>(out: &mut O, gathered: &mut Vec<u8>) -> Result<(), 
     ensures only { IfErr result (λ stop. stop ≡ Stop.Fault) }
     ensures none { gathered.new.items ≡ [] }
     ensures needed { OnErr result (0 < length gathered.old.items) }
-    ensures unfinished { O.finished out.new ≡ O.finished out.old }
+    ensures unfinished { O.finishes out.new ≡ O.finishes out.old }
 {
     if gathered.is_empty() {
         return Ok(());
@@ -82,7 +82,7 @@ fn put<O: Sink>(out: &mut O, gathered: &mut Vec<u8>, text: &[u8]) -> Result<(), 
     ensures only { IfErr result (λ stop. stop ≡ Stop.Fault) }
     ensures fault { OnErr result (Rose (O.failures out.old) (O.failures out.new)) }
     ensures well { OnOk result (O.failures out.new ≡ O.failures out.old) }
-    ensures unfinished { O.finished out.new ≡ O.finished out.old }
+    ensures unfinished { O.finishes out.new ≡ O.finishes out.old }
 {
     if gather(gathered, text) {
         return Ok(());
@@ -138,7 +138,8 @@ pub(crate) fn say<O: Sink, E: Sink>(
         → (O.failures out.new ≡ O.failures out.old) × (E.failures err.new ≡ E.failures err.old)) }
     ensures output_well { OnOk result (O.failures out.new ≡ O.failures out.old) }
     ensures errors_well { OnOk result (E.failures err.new ≡ E.failures err.old) }
-    ensures unfinished { O.finished out.new ≡ O.finished out.old }
+    ensures counted { E.failures err.old ≤ E.failures err.new }
+    ensures unfinished { O.finishes out.new ≡ O.finishes out.old }
 {
     put(out, gathered, told.text.bytes())?;
     if told.refusal.is_none() {
@@ -168,7 +169,8 @@ pub(crate) fn say_alone<O: Sink, E: Sink>(
         → (O.failures out.new ≡ O.failures out.old) × (E.failures err.new ≡ E.failures err.old)) }
     ensures output_well { OnOk result (O.failures out.new ≡ O.failures out.old) }
     ensures errors_well { OnOk result (E.failures err.new ≡ E.failures err.old) }
-    ensures unfinished { O.finished out.new ≡ O.finished out.old }
+    ensures counted { E.failures err.old ≤ E.failures err.new }
+    ensures unfinished { O.finishes out.new ≡ O.finishes out.old }
 {
     send(out, told.text.bytes())?;
     report(alloc, path, number, told.refusal, err)

@@ -3,8 +3,10 @@ use Rattle.std.proofs.Common.{◌≡◌, ◌&&◌, ◌||◌, ◌++◌, ℕ, Bool
 use Rattle.std.proofs.lemmas.Bool.{cases_Bool}
 use Rattle.mk_line.specs.Lines.{TextLine, is_nil}
 use Rattle.mk_line.specs.Kinds.{is_field_start, is_continuation}
-use Rattle.mk_head.specs.Split.{is_empty, belongs, fields_from, rest_from, separator_of, body_of, option_line, head_lines}
-use Rattle.mk_head.specs.Splits.{IsRun, has_line, Follows}
+use Rattle.mk_head.specs.Split.{is_empty, belongs, fields_from, rest_from, separator_of, body_of, head_lines}
+use Rattle.std.specs.Option.{option_to_list}
+use Rattle.mk_head.specs.Splits.{IsRun, Follows}
+use Rattle.std.specs.Prelude.{not}
 use Rattle.mk_head.specs.Laws.{SplitsAreRead, ReadsAreSplit}
 
 or_false : (a : Bool) → (a || false) ≡ a
@@ -25,29 +27,29 @@ empty_line : (inside : Bool) (l : TextLine) → is_empty l ≡ true → belongs 
 empty_line inside l h = empty_content inside l.content h
 
 -- what follows the fields of a head
-after_head : (inside : Bool) (o : Option TextLine) (ls : List TextLine) → Follows inside o ls → (fields_from inside (option_line o ++ ls) ≡ []) × (rest_from inside (option_line o ++ ls) ≡ option_line o ++ ls)
+after_head : (inside : Bool) (o : Option TextLine) (ls : List TextLine) → Follows inside o ls → (fields_from inside (option_to_list o ++ ls) ≡ []) × (rest_from inside (option_to_list o ++ ls) ≡ option_to_list o ++ ls)
 after_head inside (Some l) ls h = (rw (empty_line inside l h) refl, rw (empty_line inside l h) refl)
 after_head inside None [] h = (refl, refl)
 after_head inside None (l ∷ ls) h = (rw h.0 refl, rw h.0 refl)
 
-run_read : (inside : Bool) (fs rest : List TextLine) → IsRun inside fs → fields_from (inside || has_line fs) rest ≡ [] → rest_from (inside || has_line fs) rest ≡ rest → (fields_from inside (fs ++ rest) ≡ fs) × (rest_from inside (fs ++ rest) ≡ rest)
+run_read : (inside : Bool) (fs rest : List TextLine) → IsRun inside fs → fields_from (inside || not (is_nil fs)) rest ≡ [] → rest_from (inside || not (is_nil fs)) rest ≡ rest → (fields_from inside (fs ++ rest) ≡ fs) × (rest_from inside (fs ++ rest) ≡ rest)
 run_read inside [] rest h f r = (ap (λ i. fields_from i rest) (sym (or_false inside)) ∙ f, ap (λ i. rest_from i rest) (sym (or_false inside)) ∙ r)
 run_read inside (l ∷ fs) rest h f r =
     let q = run_read true fs rest h.1 (ap (λ i. fields_from i rest) (sym (or_true inside)) ∙ f) (ap (λ i. rest_from i rest) (sym (or_true inside)) ∙ r) in
     (rw h.0 (ap (λ xs. l ∷ xs) q.0), rw h.0 q.1)
 
 -- the separator and the body of what follows
-parts_read : (inside : Bool) (o : Option TextLine) (ls : List TextLine) → Follows inside o ls → (separator_of (option_line o ++ ls) ≡ o) × (body_of (option_line o ++ ls) ≡ ls)
+parts_read : (inside : Bool) (o : Option TextLine) (ls : List TextLine) → Follows inside o ls → (separator_of (option_to_list o ++ ls) ≡ o) × (body_of (option_to_list o ++ ls) ≡ ls)
 parts_read inside (Some l) ls h = (rw h refl, rw h refl)
 parts_read inside None [] h = (refl, refl)
 parts_read inside None (l ∷ ls) h = (rw h.1 refl, rw h.1 refl)
 
 pub splits_read : SplitsAreRead
 splits_read h ls s =
-    let a = after_head (has_line h.fields) h.separator ls s.next in
-    let q = run_read false h.fields (option_line h.separator ++ ls) s.run a.0 a.1 in
-    let p = parts_read (has_line h.fields) h.separator ls s.next in
-    let whole : head_lines h ++ ls ≡ h.fields ++ (option_line h.separator ++ ls) = append_assoc h.fields (option_line h.separator) ls in (
+    let a = after_head (not (is_nil h.fields)) h.separator ls s.next in
+    let q = run_read false h.fields (option_to_list h.separator ++ ls) s.run a.0 a.1 in
+    let p = parts_read (not (is_nil h.fields)) h.separator ls s.next in
+    let whole : head_lines h ++ ls ≡ h.fields ++ (option_to_list h.separator ++ ls) = append_assoc h.fields (option_to_list h.separator) ls in (
       (λ i. record { fields = (ap (fields_from false) whole ∙ q.0) i; separator = (ap separator_of (ap (rest_from false) whole ∙ q.1) ∙ p.0) i }),
       ap body_of (ap (rest_from false) whole ∙ q.1) ∙ p.1,
     )
@@ -61,7 +63,7 @@ run_of inside (l ∷ ls) =
       | inr h ↦ rw h tt
     ]
 
-rest_stops : (inside : Bool) (ls : List TextLine) → fields_from (inside || has_line (fields_from inside ls)) (rest_from inside ls) ≡ []
+rest_stops : (inside : Bool) (ls : List TextLine) → fields_from (inside || not (is_nil (fields_from inside ls))) (rest_from inside ls) ≡ []
 rest_stops inside [] = refl
 rest_stops inside (l ∷ ls) =
     elim (cases_Bool (belongs inside l)) [
@@ -89,4 +91,4 @@ follows_of inside (l ∷ ls) h =
     ]
 
 pub reads_split : ReadsAreSplit
-reads_split ls = record { run = run_of false ls; next = follows_of (has_line (fields_from false ls)) (rest_from false ls) (rest_stops false ls) }
+reads_split ls = record { run = run_of false ls; next = follows_of (not (is_nil (fields_from false ls))) (rest_from false ls) (rest_stops false ls) }

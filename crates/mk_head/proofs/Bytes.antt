@@ -7,7 +7,7 @@ use Rattle.mk_line.specs.Ascii.{is_blank, semicolon, quote, backslash, equals_si
 use Rattle.mk_line.specs.Marks.{trimmed, trimmed_before}
 use Rattle.mk_line.specs.Parting.{before, following}
 use Rattle.mk_head.specs.Values.{Scan, Plain, scan, is_kept, is_plain, uncommented, pieces, push_first, unled, stripped, unquoted, parameter_value, parameter_before, parameters, typed_as, type_of_pieces, content_type_of, param_of, is_token}
-use Rattle.mk_head.specs.Types.{trimmed_boundary}
+use Rattle.std.specs.Prelude.{unwrap_or}
 use Rattle.mk_head.specs.Laws.{ParametersAreBytes, BoundariesAreTrimmed}
 
 -- all bytes pass a test
@@ -155,7 +155,7 @@ pub trimmed_twice : (xs : List ℕ) → trimmed (trimmed xs) ≡ trimmed xs
 trimmed_twice [] = refl
 trimmed_twice (x ∷ xs) = before_twice x (trimmed xs) (trimmed_twice xs)
 
-boundary_twice : (o : Option (List ℕ)) → trimmed (trimmed_boundary o) ≡ trimmed_boundary o
+boundary_twice : (o : Option (List ℕ)) → trimmed (trimmed (unwrap_or o [])) ≡ trimmed (unwrap_or o [])
 boundary_twice None = refl
 boundary_twice (Some b) = trimmed_twice b
 

@@ -17,7 +17,8 @@ use Rattle.mk_line.specs.Marks.{trimmed}
 use Rattle.mk_line.specs.Parting.{before, following, following as stands_after}
 use Rattle.mk_head.specs.Values.{Scan, Plain, scan, is_plain, is_token, lowered, media_type, pieces, push_first, unled, stripped, parameters, parameter_before, typed_as, type_of_pieces}
 use Rattle.mk_head.specs.Depths.{first_piece, other_pieces, pieces_after}
-use Rattle.mk_head.specs.Unfolding.{contents, or_nothing, value_in}
+use Rattle.mk_head.specs.Unfolding.{contents, value_in}
+use Rattle.std.specs.Prelude.{unwrap_or}
 use Rattle.mk_head.specs.Boundaries.{ends_in_space}
 
 -- the pieces are the first and the others
@@ -93,10 +94,10 @@ after_contents (b ∷ text) =
     ]
 
 pub value_some : (raw rest : List ℕ) → following 58 raw ≡ Some rest → contents (cut rest) ≡ value_in (cut raw)
-value_some raw rest e = sym (ap or_nothing (after_contents raw ∙ ap (option_map (λ r. contents (cut r))) e))
+value_some raw rest e = sym (ap (λ o. unwrap_or o []) (after_contents raw ∙ ap (option_map (λ r. contents (cut r))) e))
 
 pub unfolded_none : (raw : List ℕ) → following 58 raw ≡ None → [] ≡ value_in (cut raw)
-unfolded_none raw e = sym (ap or_nothing (after_contents raw ∙ ap (option_map (λ r. contents (cut r))) e))
+unfolded_none raw e = sym (ap (λ o. unwrap_or o []) (after_contents raw ∙ ap (option_map (λ r. contents (cut r))) e))
 
 pub unfolded_some : {V : Type 0} (raw rest : List ℕ) (r : Result (Vec ℕ) V) → following 58 raw ≡ Some rest → IfOk r (λ v. v.items ≡ contents (cut rest)) → IfOk r (λ v. v.items ≡ value_in (cut raw))
 unfolded_some raw rest r e h = IfOk-weaker r (λ v. v.items ≡ contents (cut rest)) (λ v. v.items ≡ value_in (cut raw)) (λ v p. p ∙ value_some raw rest e) h
@@ -156,12 +157,8 @@ names_first value first main sub end p f n =
     (ap (λ t. t.main) parts ∙ (said.0 ∙ ap (λ t. t.main) same), ap (λ t. t.sub) parts ∙ (said.1 ∙ ap (λ t. t.sub) same))
 
 -- a type and a subtype after others, with a slash between them
-pub type_appended : (value first main sub old typed slashed new : List ℕ) (end : ℕ) → first ≡ take end value → first_piece Plain value ≡ take end value → media_type (lowered main) (lowered sub) [] ≡ typed_as (before slash (stripped first)) (stands_after slash (stripped first)) []
-    → typed ≡ old ++ lowered main → slashed ≡ typed ++ slash ∷ [] → new ≡ slashed ++ lowered sub → new ≡ old ++ ((type_of_pieces (pieces Plain value)).main ++ slash ∷ (type_of_pieces (pieces Plain value)).sub)
-type_appended value first main sub old typed slashed new end p f n a b c =
+pub type_appended : (value first main sub old new : List ℕ) (end : ℕ) → first ≡ take end value → first_piece Plain value ≡ take end value → media_type (lowered main) (lowered sub) [] ≡ typed_as (before slash (stripped first)) (stands_after slash (stripped first)) []
+    → new ≡ old ++ (lowered main ++ slash ∷ lowered sub) → new ≡ old ++ ((type_of_pieces (pieces Plain value)).main ++ slash ∷ (type_of_pieces (pieces Plain value)).sub)
+type_appended value first main sub old new end p f n a =
     let are = names_first value first main sub end p f n in
-    c
-    ∙ (ap (λ xs. xs ++ lowered sub) (b ∙ ap (λ xs. xs ++ slash ∷ []) a)
-    ∙ (append_assoc (old ++ lowered main) (slash ∷ []) (lowered sub)
-    ∙ (append_assoc old (lowered main) (slash ∷ lowered sub)
-    ∙ (ap (λ xs. old ++ (xs ++ slash ∷ lowered sub)) (sym are.0) ∙ ap (λ xs. old ++ ((type_of_pieces (pieces Plain value)).main ++ slash ∷ xs)) (sym are.1)))))
+    a ∙ (ap (λ xs. old ++ (xs ++ slash ∷ lowered sub)) (sym are.0) ∙ ap (λ xs. old ++ ((type_of_pieces (pieces Plain value)).main ++ slash ∷ xs)) (sym are.1))

@@ -1,4 +1,5 @@
 -- The fields of a header (RFC 5322, 2.2 and 2.2.3).
+use Rattle.std.specs.Option.{option_map}
 use Rattle.std.specs.Prelude.{◌≡◌, ◌&&◌, if◌then◌else◌, ℕ, Bool, true, false, Option, None, Some, List, [], ◌∷◌, suc, zero, length, take, filter}
 use Rattle.std.specs.List.{list_all, prefix_len}
 use Rattle.std.specs.Str.{bytes_eq, str_to_ascii_lowercase}
@@ -60,14 +61,9 @@ pub record HeaderView : Type 0 where
   pub separator : Option ℕ
   pub body : ℕ
 
--- where the separator begins, in bytes: after the fields
-abbrev pub place_after : List TextLine → Option TextLine → Option ℕ
-place_after fields None = None
-place_after fields (Some l) = Some (length (text_of fields))
-
 -- a head as its fields and places
 abbrev pub header_view : Head → HeaderView
-header_view h = record { fields = fields_of h.fields; separator = place_after h.fields h.separator; body = length (text_of (head_lines h)) }
+header_view h = record { fields = fields_of h.fields; separator = option_map (λ l. length (text_of h.fields)) h.separator; body = length (text_of (head_lines h)) }
 
 -- a text begins with a field, a field start and the continuations directly after it, and these bytes stand after the field
 pub record BeginsField (text rest : List ℕ) : Type 0 where

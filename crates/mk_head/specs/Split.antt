@@ -1,4 +1,5 @@
 -- A header and what follows it (RFC 5322, 2.1; that the empty line between them may be missing is our own).
+use Rattle.std.specs.Option.{option_to_list}
 use Rattle.std.specs.Prelude.{◌&&◌, ◌||◌, ◌++◌, if◌then◌else◌, Bool, true, false, Option, None, Some, List, [], ◌∷◌}
 use Rattle.mk_line.specs.Lines.{TextLine, is_nil}
 use Rattle.mk_line.specs.Kinds.{is_field_start, is_continuation}
@@ -52,11 +53,6 @@ head_of ls = record { fields = fields_from false ls; separator = separator_of (r
 abbrev pub after_head : List TextLine → List TextLine
 after_head ls = body_of (rest_from false ls)
 
--- a line, where there is one
-abbrev pub option_line : Option TextLine → List TextLine
-option_line None = []
-option_line (Some l) = l ∷ []
-
 -- the lines of a head
 abbrev pub head_lines : Head → List TextLine
-head_lines h = h.fields ++ option_line h.separator
+head_lines h = h.fields ++ option_to_list h.separator

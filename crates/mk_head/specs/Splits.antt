@@ -1,5 +1,6 @@
 -- A head and the lines after it, apart.
-use Rattle.std.specs.Prelude.{◌≡◌, Bool, true, false, Option, None, Some, List, [], ◌∷◌}
+use Rattle.mk_line.specs.Lines.{is_nil}
+use Rattle.std.specs.Prelude.{◌≡◌, Bool, true, false, Option, None, Some, List, [], ◌∷◌, not}
 use Rattle.mk_line.specs.Lines.{TextLine}
 use Rattle.mk_head.specs.Split.{Head, belongs, is_empty}
 
@@ -7,11 +8,6 @@ use Rattle.mk_head.specs.Split.{Head, belongs, is_empty}
 abbrev pub IsRun : Bool → List TextLine → Type 0
 IsRun inside [] = Unit {0}
 IsRun inside (l ∷ ls) = (belongs inside l ≡ true) × IsRun true ls
-
--- some line is there
-abbrev pub has_line : List TextLine → Bool
-has_line [] = false
-has_line (l ∷ ls) = true
 
 -- the first line neither belongs to a field nor is empty
 abbrev pub Stops : Bool → List TextLine → Type 0
@@ -26,4 +22,4 @@ Follows inside None ls = Stops inside ls
 -- the head and the lines after it are apart
 pub record IsSplit (h : Head) (ls : List TextLine) : Type 0 where
   pub run : IsRun false h.fields
-  pub next : Follows (has_line h.fields) h.separator ls
+  pub next : Follows (not (is_nil h.fields)) h.separator ls

@@ -1,5 +1,6 @@
 -- What fields say of a body: its content type and its encoding (RFC 2045, 5.1, 5.2 and 6; RFC 2046, 5.1.5 for digests).
-use Rattle.std.specs.Prelude.{◌&&◌, ◌++◌, if◌then◌else◌, ℕ, Bool, true, false, Option, None, Some, List, [], ◌∷◌, codes}
+use Rattle.std.specs.Option.{option_map_or}
+use Rattle.std.specs.Prelude.{◌&&◌, ◌++◌, if◌then◌else◌, ℕ, Bool, true, false, Option, None, Some, List, [], ◌∷◌, codes, unwrap_or}
 use Rattle.mk_line.specs.declared.cutting.Ending.{Ending}
 use Rattle.mk_line.specs.Lines.{TextLine, text_line}
 use Rattle.mk_line.specs.Marks.{trimmed}
@@ -30,23 +31,13 @@ type_by digest (Some value) = content_type_of value
 abbrev pub header_type : Bool → List TextLine → MediaType
 header_type digest fields = type_by digest (field_value (codes "Content-Type") fields)
 
--- the encoding that a value says, and 7bit where there is none (RFC 2045, 6.1)
-abbrev pub encoding_by : Option (List ℕ) → Encoding
-encoding_by None = Identity
-encoding_by (Some value) = encoding_of value
-
 -- the transfer encoding of a header
 abbrev pub header_encoding : List TextLine → Encoding
-header_encoding fields = encoding_by (field_value (codes "Content-Transfer-Encoding") fields)
-
--- a boundary without the blanks at its end; nothing where there is none
-abbrev pub trimmed_boundary : Option (List ℕ) → List ℕ
-trimmed_boundary None = []
-trimmed_boundary (Some boundary) = trimmed boundary
+header_encoding fields = option_map_or encoding_of (field_value (codes "Content-Transfer-Encoding") fields) Identity
 
 -- the boundary of a content type: the parameter without the blanks at its end; an empty one is none (own)
 abbrev pub boundary_of : MediaType → List ℕ
-boundary_of t = trimmed_boundary (param_of (codes "boundary") t.params)
+boundary_of t = trimmed (unwrap_or (param_of (codes "boundary") t.params) [])
 
 -- the field that says a multipart and its boundary (RFC 2046, 5.1.1)
 abbrev pub type_line : Ending → List ℕ → List ℕ → TextLine

@@ -1,5 +1,5 @@
 -- The value of a field (RFC 5322, 2.2.3).
-use Rattle.std.specs.Prelude.{◌++◌, ℕ, Option, None, Some, List, [], ◌∷◌}
+use Rattle.std.specs.Prelude.{◌++◌, ℕ, Option, None, Some, List, [], ◌∷◌, unwrap_or}
 use Rattle.mk_line.specs.Ascii.{colon}
 use Rattle.mk_line.specs.Lines.{TextLine}
 use Rattle.mk_line.specs.Parting.{following}
@@ -9,11 +9,6 @@ abbrev pub contents : List TextLine → List ℕ
 contents [] = []
 contents (l ∷ ls) = l.content ++ contents ls
 
--- bytes, or none where they are missing
-abbrev pub or_nothing : Option (List ℕ) → List ℕ
-or_nothing None = []
-or_nothing (Some bytes) = bytes
-
 -- what follows the first colon
 abbrev pub value_in : List TextLine → List ℕ
-value_in ls = or_nothing (following colon (contents ls))
+value_in ls = unwrap_or (following colon (contents ls)) []

@@ -1,7 +1,8 @@
 //! Boundaries that may be made, and the field that says one (RFC 2046, 5.1.1).
-ghost use Rattle.std.specs.Prelude.{◌≡◌, ◌++◌, OnOk};
+ghost use Rattle.std.specs.Prelude.{◌≡◌, ◌++◌, OnOk, OnErr};
 ghost use Rattle.std.specs.List.{list_all};
 ghost use Rattle.mk_line.specs.Lines.{printed_line};
+ghost use Rattle.mk_line.specs.inner.Kept.{IsKept};
 ghost use Rattle.mk_head.specs.Boundaries.{is_boundary as boundary, is_boundary_byte as boundary_byte, ends_in_space as spaced};
 ghost use Rattle.mk_head.specs.Types.{type_line};
 
@@ -21,15 +22,34 @@ pub fn is_boundary(text: &[u8]) -> bool
     !text.is_empty() && text.len() <= LONGEST && are_boundary_bytes(text) && !ends_in_space(text)
 }
 
-/// Appends the Content-Type field of a multipart of a subtype and a boundary, as they are given. After an error only some
-/// of its bytes may be there.
+/// Appends the Content-Type field of a multipart of a subtype and a boundary, as they are given. After an error the text is
+/// as before.
 pub fn push_multipart_type(
     text: &mut Vec<u8>,
     subtype: &[u8],
     boundary: &[u8],
     eol: Ending,
 ) -> Result<(), AllocError>
-    ensures { OnOk result (text.new.items ≡ text.old.items ++ printed_line (type_line eol subtype.now boundary.now)) }
+    ensures appended { OnOk result (text.new.items ≡ text.old.items ++ printed_line (type_line eol subtype.now boundary.now)) }
+    ensures unchanged { OnErr result (text.new.items ≡ text.old.items) }
+{
+    let size = text.len();
+    let pushed = push_type_line(text, subtype, boundary, eol);
+    if pushed.is_err() {
+        text.truncate(size);
+    }
+    pushed
+}
+
+// The same; after an error some of it may follow the text.
+fn push_type_line(
+    text: &mut Vec<u8>,
+    subtype: &[u8],
+    boundary: &[u8],
+    eol: Ending,
+) -> Result<(), AllocError>
+    ensures appended { OnOk result (text.new.items ≡ text.old.items ++ printed_line (type_line eol subtype.now boundary.now)) }
+    ensures kept { IsKept text.old.items text.new.items }
 {
     text.extend_from_slice(b"Content-Type: multipart/")?;
     text.extend_from_slice(subtype)?;

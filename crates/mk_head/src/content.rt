@@ -1,8 +1,9 @@
 //! Content types: type, subtype and parameters (RFC 2045, 5.1 and 5.2).
-ghost use Rattle.std.specs.Prelude.{◌≡◌, ◌++◌, ◌∷◌, [], map, IfOk, OnOk};
+ghost use Rattle.std.specs.Prelude.{◌≡◌, ◌++◌, ◌∷◌, [], map, IfOk, OnOk, OnErr};
 ghost use Rattle.std.specs.List.{list_all};
 ghost use Rattle.mk_line.specs.Ascii.{equals_sign, slash};
 ghost use Rattle.mk_line.specs.Parting.{before, following};
+ghost use Rattle.mk_line.specs.inner.Kept.{IsKept};
 ghost use Rattle.mk_head.specs.Values.{Plain, content_type_of, is_token as token, is_token_byte as token_byte, lowered, media_type, parameter_before, parameter_value as value_of_parameter, parameters as parameters_of, pieces, stripped, type_of_pieces, typed_as};
 ghost use Rattle.mk_head.specs.Depths.{pieces_after};
 ghost use Rattle.mk_head.specs.ValueViews.{media_type_of, parameter_of};
@@ -63,9 +64,10 @@ pub fn content_type(alloc: Global, value: &[u8]) -> Result<ContentType, AllocErr
 }
 
 /// Appends the type and the subtype that the value of a field says, with a slash between them, as `text/plain`. The parameters
-/// aren't read, and memory is asked for only to append, and for a value with comments.
+/// aren't read, and memory is asked for only to append, and for a value with comments. After an error the text is as before.
 pub fn push_media_type(text: &mut Vec<u8>, value: &[u8]) -> Result<(), AllocError>
-    ensures { OnOk result (text.new.items ≡ text.old.items ++ ((content_type_of value.now).main ++ slash ∷ (content_type_of value.now).sub)) }
+    ensures appended { OnOk result (text.new.items ≡ text.old.items ++ ((content_type_of value.now).main ++ slash ∷ (content_type_of value.now).sub)) }
+    ensures unchanged { OnErr result (text.new.items ≡ text.old.items) }
 {
     match memchr(OPENING, value) {
         None => push_first_type(text, value),
@@ -78,10 +80,24 @@ pub fn push_media_type(text: &mut Vec<u8>, value: &[u8]) -> Result<(), AllocErro
 
 // The same for a value without comments.
 fn push_first_type(text: &mut Vec<u8>, value: &[u8]) -> Result<(), AllocError>
-    ensures { OnOk result (text.new.items ≡ text.old.items ++ ((type_of_pieces (pieces Plain value.now)).main ++ slash ∷ (type_of_pieces (pieces Plain value.now)).sub)) }
+    ensures appended { OnOk result (text.new.items ≡ text.old.items ++ ((type_of_pieces (pieces Plain value.now)).main ++ slash ∷ (type_of_pieces (pieces Plain value.now)).sub)) }
+    ensures unchanged { OnErr result (text.new.items ≡ text.old.items) }
 {
     let (first, _) = value.split_at(piece_end(value));
     let (main, sub) = names(strip(first));
+    let size = text.len();
+    let pushed = push_names(text, main, sub);
+    if pushed.is_err() {
+        text.truncate(size);
+    }
+    pushed
+}
+
+// Appends a type and a subtype in lower case, with a slash between them; after an error some of it may follow the text.
+fn push_names(text: &mut Vec<u8>, main: &[u8], sub: &[u8]) -> Result<(), AllocError>
+    ensures appended { OnOk result (text.new.items ≡ text.old.items ++ (lowered main.now ++ slash ∷ lowered sub.now)) }
+    ensures kept { IsKept text.old.items text.new.items }
+{
     push_lowercase(text, main)?;
     text.push(SLASH)?;
     push_lowercase(text, sub)
@@ -89,7 +105,8 @@ fn push_first_type(text: &mut Vec<u8>, value: &[u8]) -> Result<(), AllocError>
 
 // Appends a text in lower case.
 fn push_lowercase(text: &mut Vec<u8>, more: &[u8]) -> Result<(), AllocError>
-    ensures { OnOk result (text.new.items ≡ text.old.items ++ lowered more.now) }
+    ensures appended { OnOk result (text.new.items ≡ text.old.items ++ lowered more.now) }
+    ensures unchanged { OnErr result (text.new.items ≡ text.old.items) }
 {
     let start = text.len();
     text.extend_from_slice(more)?;

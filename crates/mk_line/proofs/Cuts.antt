@@ -96,7 +96,7 @@ cut_open byte (next ∷ bytes) h =
     let f = or_parts (byte == 10) (has_line_feed (next ∷ bytes)) h in
     rw (cut_other byte (next ∷ bytes) f.0, cut_open next bytes f.1) refl
 
-nil_full : {A : Type 0} → is_nil [] ≡ false → A
+nil_full : {A : Type 0} → is_nil {X = ℕ} [] ≡ false → A
 nil_full e = cc
 
 pub append_nil : (xs : List ℕ) → xs ++ [] ≡ xs

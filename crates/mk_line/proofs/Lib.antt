@@ -7,3 +7,4 @@ pub mod LaneRuns
 pub mod LastBlocks
 pub mod LaneCounts
 pub mod Counted
+pub mod Kept

@@ -29,6 +29,10 @@ opening = 40
 abbrev pub closing : ℕ
 closing = 41
 
+-- b'*'
+abbrev pub asterisk : ℕ
+asterisk = 42
+
 -- b'-'
 abbrev pub hyphen : ℕ
 hyphen = 45

@@ -3,5 +3,7 @@ pub mod Lines
 pub mod Kinds
 pub mod Marks
 pub mod Parting
+pub mod Results
 pub mod Meters
 pub mod Views
+pub mod inner

@@ -40,8 +40,8 @@ is_open Crlf = false
 is_open Lf = false
 is_open Missing = true
 
--- no byte is there
-abbrev pub is_nil : List ℕ → Bool
+-- nothing is there
+abbrev pub is_nil : {X : Type 0} → List X → Bool
 is_nil [] = true
 is_nil (byte ∷ bytes) = false
 
@@ -65,7 +65,7 @@ abbrev pub ended : List ℕ → TextLine
 ended [] = text_line [] Lf
 ended (byte ∷ bytes) = with_byte byte (ended bytes)
 
--- the ending of a text is that of its first line, and LF where that has none (own)
+-- an ending as it is, and LF in the place of a missing one (own)
 abbrev pub closed : Ending → Ending
 closed Crlf = Crlf
 closed Lf = Lf

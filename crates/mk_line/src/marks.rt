@@ -1,8 +1,9 @@
 //! Delimiters and close lines of a boundary (RFC 2046, 5.1.1).
-ghost use Rattle.std.specs.Prelude.{◌≡◌, ◌≢◌, ℕ, List, [], ◌∷◌, ◌++◌, MatchOption, OnOk};
+ghost use Rattle.std.specs.Prelude.{◌≡◌, ◌≢◌, ℕ, List, [], ◌∷◌, ◌++◌, MatchOption, OnOk, OnErr};
 ghost use Rattle.std.specs.Str.{bytes_eq};
 ghost use Rattle.mk_line.specs.Ascii.{hyphen};
-ghost use Rattle.mk_line.specs.Lines.{printed_line};
+ghost use Rattle.mk_line.specs.Lines.{ending_bytes, printed_line};
+ghost use Rattle.mk_line.specs.inner.Kept.{IsKept};
 ghost use Rattle.mk_line.specs.Marks.{mark, close_line, dashed, delimiter_line, trimmed as without_blanks};
 
 use crate::cutting::Ending;
@@ -59,29 +60,46 @@ fn before_dashes(line: &[u8]) -> Option<&[u8]>
     line.strip_suffix(DASHES)
 }
 
-/// Appends the delimiter line of a boundary, which begins a part. After an error only some of its bytes may be there.
+/// Appends the delimiter line of a boundary, which begins a part. After an error the text is as before.
 pub fn push_delimiter(text: &mut Vec<u8>, boundary: &[u8], eol: Ending) -> Result<(), AllocError>
-    ensures { OnOk result (text.new.items ≡ text.old.items ++ printed_line (delimiter_line eol boundary.now)) }
+    ensures appended { OnOk result (text.new.items ≡ text.old.items ++ printed_line (delimiter_line eol boundary.now)) }
+    ensures unchanged { OnErr result (text.new.items ≡ text.old.items) }
 {
-    push_dashed(text, boundary)?;
-    text.extend_from_slice(eol.bytes())
+    let size = text.len();
+    let pushed = push_line(text, boundary, b"", eol);
+    if pushed.is_err() {
+        text.truncate(size);
+    }
+    pushed
 }
 
-/// Appends the close line of a boundary. After an error only some of its bytes may be there.
+/// Appends the close line of a boundary. After an error the text is as before.
 pub fn push_close(text: &mut Vec<u8>, boundary: &[u8], eol: Ending) -> Result<(), AllocError>
-    ensures { OnOk result (text.new.items ≡ text.old.items ++ printed_line (close_line eol boundary.now)) }
+    ensures appended { OnOk result (text.new.items ≡ text.old.items ++ printed_line (close_line eol boundary.now)) }
+    ensures unchanged { OnErr result (text.new.items ≡ text.old.items) }
 {
-    push_dashed(text, boundary)?;
-    text.extend_from_slice(DASHES)?;
-    text.extend_from_slice(eol.bytes())
+    let before = text.len();
+    let pushed = push_line(text, boundary, DASHES, eol);
+    if pushed.is_err() {
+        text.truncate(before);
+    }
+    pushed
 }
 
-// Appends two hyphens and the boundary.
-fn push_dashed(text: &mut Vec<u8>, boundary: &[u8]) -> Result<(), AllocError>
-    ensures { OnOk result (text.new.items ≡ text.old.items ++ dashed boundary.now) }
+// Appends a line of two hyphens, the boundary and a text; after an error some of it may follow the text.
+fn push_line(
+    text: &mut Vec<u8>,
+    boundary: &[u8],
+    following: &[u8],
+    eol: Ending,
+) -> Result<(), AllocError>
+    ensures appended { OnOk result (text.new.items ≡ text.old.items ++ ((dashed boundary.now ++ following.now) ++ ending_bytes eol)) }
+    ensures kept { IsKept text.old.items text.new.items }
 {
     text.extend_from_slice(DASHES)?;
-    text.extend_from_slice(boundary)
+    text.extend_from_slice(boundary)?;
+    text.extend_from_slice(following)?;
+    text.extend_from_slice(eol.bytes())
 }
 
 /// The content without the blanks at its end.

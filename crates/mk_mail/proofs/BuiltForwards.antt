@@ -5,7 +5,7 @@ use Rattle.std.proofs.lemmas.Bool.Decides.{Decides-eqb}
 use Rattle.std.proofs.lemmas.List.{append-nil}
 use Rattle.std.proofs.lemmas.Slice.Eq.{starts_is}
 use Rattle.std.specs.List.{flat_map, list_all, starts_with}
-use Rattle.std.specs.Option.{option_map}
+use Rattle.std.specs.Option.{option_map, option_map_or}
 use Rattle.std.specs.Str.{bytes_eq}
 use Rattle.mk_line.specs.declared.cutting.Ending.{Ending}
 use Rattle.mk_line.specs.declared.cutting.Ending.TheVariants.{Crlf, Lf, Missing}
@@ -19,7 +19,7 @@ use Rattle.mk_head.specs.Fields.{counted}
 use Rattle.mk_head.specs.Split.{Head, head_lines}
 use Rattle.mk_head.specs.Splits.{IsRun}
 use Rattle.mk_head.specs.Types.{field_value, header_encoding, type_by, type_line as multi_line}
-use Rattle.mk_head.specs.Unfolding.{or_nothing}
+use Rattle.std.specs.Prelude.{unwrap_or}
 use Rattle.mk_head.specs.Values.{is_token, lowered}
 use Rattle.mk_head.specs.Boundaries.{is_boundary}
 use Rattle.mk_line.specs.Parting.{following}
@@ -41,7 +41,7 @@ use Rattle.mk_decide.proofs.Typed.{MayBound, made_bound, made_kind, made_value, 
 use Rattle.mk_decide.proofs.Wraps.{close_is, type_is}
 use Rattle.mk_build.specs.declared.building.BuildError.{BuildError}
 use Rattle.mk_build.specs.declared.building.BuildError.TheVariants as build
-use Rattle.mk_build.specs.Building.{Attached, attached, built_part, close_line, closed_field, first_failing, is_free_field, is_media, is_name_or_none}
+use Rattle.mk_build.specs.Building.{Attached, attached, built_part, close_line, closed_field, first_failing, is_free_field, is_media, is_name}
 use Rattle.mk_build.specs.Forwards.{Forwarded, are_8bit, attachment_line, built_with, eight_bit_line, ending_after, forwarded_part, head_with, is_8bit, is_clear, or_held}
 use Rattle.mk_build.specs.Multiparts.{refusal_as}
 use Rattle.mk_build.proofs.EndedTexts.{Grows, divided_by}
@@ -351,8 +351,8 @@ says_type : (eol : Ending) (fields : List (List ℕ)) (sub b : List ℕ) (wide :
 says_type eol fields sub b wide c h = skip_fields (codes "Content-Type") eol fields (made eol sub b wide) refl c h ∙ by_line wide
   where
     by_line : (t : Bool) → field_value (codes "Content-Type") (made eol sub b t) ≡ Some (made_value sub b)
-    by_line true = ap (λ cs. Some (or_nothing (following 58 cs))) (append_nil (codes "Content-Type: multipart/" ++ (sub ++ (codes "; boundary=\"" ++ (b ++ codes "\"")))))
-    by_line false = ap (λ cs. Some (or_nothing (following 58 cs))) (append_nil (codes "Content-Type: multipart/" ++ (sub ++ (codes "; boundary=\"" ++ (b ++ codes "\"")))))
+    by_line true = ap (λ cs. Some (unwrap_or (following 58 cs) [])) (append_nil (codes "Content-Type: multipart/" ++ (sub ++ (codes "; boundary=\"" ++ (b ++ codes "\"")))))
+    by_line false = ap (λ cs. Some (unwrap_or (following 58 cs) [])) (append_nil (codes "Content-Type: multipart/" ++ (sub ++ (codes "; boundary=\"" ++ (b ++ codes "\"")))))
 
 root_kind : (eol : Ending) (fields : List (List ℕ)) (sub b : List ℕ) (wide : Bool) → is_open eol ≡ false → is_token sub ≡ true → MayBound b → AreFreeFields fields → kind (root_lines eol fields sub b wide) false ≡ Multi b (bytes_eq (lowered sub) (codes "digest"))
 unfolding kind
@@ -496,7 +496,7 @@ forwarded_messages_lem eol fields parts messages sub boundary is small none =
     let s = none_of boundary messages (refusal_as fields parts (plain sub boundary)) none in
     let p = none_at build.BadField (first_failing is_free_field fields) _ s.0 in
     let q = none_at build.BadType (first_failing (λ (a : Attached). is_media a.media) parts) _ p.1 in
-    let r = none_at build.BadName (first_failing (λ (a : Attached). is_name_or_none a.name) parts) _ q.1 in
+    let r = none_at build.BadName (first_failing (λ (a : Attached). option_map_or is_name a.name true) parts) _ q.1 in
     let w = allowed (is_token sub) (is_boundary boundary) r.1 in
     let good = good_parts parts q.0 r.0 small in
     let read = read_with eol fields sub boundary parts messages c is w.0 (may_bound boundary w.1) (free_fields fields p.0) good (clear_messages boundary messages s.1) in

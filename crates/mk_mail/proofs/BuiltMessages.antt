@@ -3,7 +3,7 @@ use Rattle.std.proofs.Common.{◌≡◌, ◌≢◌, ◌+◌, ◌&&◌, ◌||◌,
 use Rattle.std.proofs.lemmas.Bool.{cases_Bool}
 use Rattle.std.proofs.lemmas.List.{append-nil}
 use Rattle.std.specs.List.{flat_map, starts_with}
-use Rattle.std.specs.Option.{option_map}
+use Rattle.std.specs.Option.{option_map, option_map_or}
 use Rattle.mk_line.specs.declared.cutting.Ending.{Ending}
 use Rattle.mk_line.specs.declared.cutting.Ending.TheVariants.{Crlf, Lf, Missing}
 use Rattle.mk_line.specs.Kinds.{is_from_line}
@@ -15,7 +15,7 @@ use Rattle.mk_head.specs.Fields.{counted}
 use Rattle.mk_head.specs.Split.{Head, is_start}
 use Rattle.mk_head.specs.Splits.{IsRun}
 use Rattle.mk_head.specs.Types.{field_value, header_encoding, type_by}
-use Rattle.mk_head.specs.Unfolding.{or_nothing}
+use Rattle.std.specs.Prelude.{unwrap_or}
 use Rattle.mk_line.specs.Parting.{following}
 use Rattle.mk_tree.specs.Documents.{Document, document_of, levels, tree}
 use Rattle.mk_tree.specs.Kinds.{Multi, is_digest, kind, kind_of}
@@ -34,7 +34,7 @@ use Rattle.mk_decide.proofs.Typed.{MayBound, made_bound, made_kind, made_value, 
 use Rattle.mk_decide.proofs.Wraps.{close_is, type_is}
 use Rattle.mk_build.specs.declared.building.BuildError.{BuildError}
 use Rattle.mk_build.specs.declared.building.BuildError.TheVariants as build
-use Rattle.mk_build.specs.Building.{Attached, attached, built_part, closed_field, first_failing, is_free_field, is_media, is_name_or_none, refusal_at}
+use Rattle.mk_build.specs.Building.{Attached, attached, built_part, closed_field, first_failing, is_free_field, is_media, refusal_at, is_name}
 use Rattle.mk_build.specs.Multiparts.{built_as, refusal_as}
 use Rattle.mk_head.specs.Values.{is_token, lowered}
 use Rattle.std.specs.Str.{bytes_eq}
@@ -46,7 +46,7 @@ use Rattle.mk_mail.proofs.BuiltParts.{AreFull, empty_line, full_join, full_none,
 -- the parts that may be attached
 abbrev pub AreGood : List Attached → Type 0
 AreGood [] = Unit {0}
-AreGood (a ∷ list) = (is_media a.media ≡ true) × (is_name_or_none a.name ≡ true) × AreBytes a.text × AreGood list
+AreGood (a ∷ list) = (is_media a.media ≡ true) × (option_map_or is_name a.name true ≡ true) × AreBytes a.text × AreGood list
 
 -- the message as an entity
 abbrev pub parts_of : Ending → List ℕ → List Attached → Parts
@@ -110,7 +110,7 @@ root_full eol fields sub b list c k m h g =
 says_type : (eol : Ending) (fields : List (List ℕ)) (sub b : List ℕ) → is_open eol ≡ false → AreFreeFields fields → field_value (codes "Content-Type") (root_fields eol fields sub b) ≡ Some (made_value sub b)
 says_type eol fields sub b c h =
     skip_fields (codes "Content-Type") eol fields (version eol ∷ multi_line eol sub b ∷ []) refl c h
-    ∙ ap (λ cs. Some (or_nothing (following 58 cs))) (append_nil (codes "Content-Type: multipart/" ++ (sub ++ (codes "; boundary=\"" ++ (b ++ codes "\"")))))
+    ∙ ap (λ cs. Some (unwrap_or (following 58 cs) [])) (append_nil (codes "Content-Type: multipart/" ++ (sub ++ (codes "; boundary=\"" ++ (b ++ codes "\"")))))
 
 root_kind : (eol : Ending) (fields : List (List ℕ)) (sub b : List ℕ) → is_open eol ≡ false → is_token sub ≡ true → MayBound b → AreFreeFields fields → kind (root_fields eol fields sub b) false ≡ Multi b (bytes_eq (lowered sub) (codes "digest"))
 unfolding kind
@@ -251,11 +251,11 @@ pub free_fields : (fields : List (List ℕ)) → first_failing is_free_field fie
 free_fields [] h = tt
 free_fields (field ∷ fields) h = let p = first_passes is_free_field field fields h in (p.0, free_fields fields p.1)
 
-pub good_parts : (list : List Attached) → first_failing (λ (a : Attached). is_media a.media) list ≡ None → first_failing (λ (a : Attached). is_name_or_none a.name) list ≡ None → HaveBytes list → AreGood list
+pub good_parts : (list : List Attached) → first_failing (λ (a : Attached). is_media a.media) list ≡ None → first_failing (λ (a : Attached). option_map_or is_name a.name true) list ≡ None → HaveBytes list → AreGood list
 good_parts [] h k s = tt
 good_parts (a ∷ list) h k s =
     let p = first_passes (λ (x : Attached). is_media x.media) a list h in
-    let q = first_passes (λ (x : Attached). is_name_or_none x.name) a list k in
+    let q = first_passes (λ (x : Attached). option_map_or is_name x.name true) a list k in
     (p.0, q.0, s.0, good_parts list p.1 q.1 s.1)
 
 pub allowed : (t u : Bool) → (if t then (if u then None else Some build.BadBoundary) else Some build.BadSubtype) ≡ None → (t ≡ true) × (u ≡ true)
@@ -279,7 +279,7 @@ is_built eol fields parts sub boundary is small none =
     let c = closed_eol eol is in
     let p = none_at build.BadField (first_failing is_free_field fields) _ none in
     let q = none_at build.BadType (first_failing (λ (a : Attached). is_media a.media) parts) _ p.1 in
-    let r = none_at build.BadName (first_failing (λ (a : Attached). is_name_or_none a.name) parts) _ q.1 in
+    let r = none_at build.BadName (first_failing (λ (a : Attached). option_map_or is_name a.name true) parts) _ q.1 in
     let w = allowed (is_token sub) (is_boundary boundary) r.1 in
     let m = may_bound boundary w.1 in
     let good = good_parts parts q.0 r.0 small in

@@ -1,14 +1,14 @@
 -- A built message says the names that were attached.
 use Rattle.std.proofs.Common.{◌≡◌, ◌++◌, ◌&&◌, if◌then◌else◌, ℕ, zero, suc, Bool, true, not, Option, None, Some, List, [], ◌∷◌, refl, ap, sym, ◌∙◌, map, codes, length, nat_le, nat_lt}
 use Rattle.std.specs.List.{list_all}
-use Rattle.std.specs.Option.{option_map, option_or}
+use Rattle.std.specs.Option.{option_map, option_or, option_map_or}
 use Rattle.std.specs.Str.{is_utf8}
 use Rattle.mk_line.specs.declared.cutting.Ending.{Ending}
 use Rattle.mk_line.specs.Parting.{following}
 use Rattle.mk_line.proofs.Cuts.{append_nil}
 use Rattle.mk_head.specs.Fields.{counted}
 use Rattle.mk_head.specs.Types.{field_value}
-use Rattle.mk_head.specs.Unfolding.{or_nothing}
+use Rattle.std.specs.Prelude.{unwrap_or, option_and_then}
 use Rattle.mk_param.specs.Said.{said_text}
 use Rattle.mk_tree.specs.Sections.{Placed, section_at}
 use Rattle.mk_tree.specs.Tree.{field_lines}
@@ -19,15 +19,14 @@ use Rattle.mk_mail.proofs.SaidNames.{disposed, value_of}
 use Rattle.mk_mail.proofs.BuiltMessages.{AreGood, is_built, part_at}
 use Rattle.mk_mail.proofs.PartTypes.{InQuotes, both, name_quotes}
 use Rattle.mk_mail.specs.BuiltLaws.{BuiltNamesAreSaid}
-use Rattle.mk_build.specs.Building.{Attached, is_name, is_name_byte, is_name_or_none, is_said, longest, longest_said, named_in_utf8, plain_name}
+use Rattle.mk_build.specs.Building.{Attached, is_name, is_name_byte, is_said, longest, longest_said, named_in_utf8, plain_name}
 use Rattle.mk_line.specs.Lines.{is_nil}
 use Rattle.mk_code.specs.EncodedWords.{is_shown}
 use Rattle.mk_param.specs.Percents.{percent_encoded}
-use Rattle.std.specs.Prelude.{option_and_then}
 
 -- the value of the disposition of a part
 disposition_value : (eol : Ending) (media name said : List ℕ) (base64 : Bool) → field_value (codes "Content-Disposition") (part_fields eol media (Some name) (Some said) base64) ≡ Some (value_of name (percent_encoded said))
-disposition_value eol media name said base64 = ap (λ cs. Some (or_nothing (following 58 cs))) (append_nil (codes "Content-Disposition:" ++ value_of name (percent_encoded said)))
+disposition_value eol media name said base64 = ap (λ cs. Some (unwrap_or (following 58 cs) [])) (append_nil (codes "Content-Disposition:" ++ value_of name (percent_encoded said)))
 
 -- what its fields say
 part_says : (eol : Ending) (a : Attached) (name said : List ℕ) (p : Placed) → p.entity ≡ part_entity eol a → a.name ≡ Some name → a.said ≡ Some said → InQuotes name
@@ -55,7 +54,7 @@ said_given a name e h = ap (λ o. option_and_then (λ n. if is_said n then Some 
 good_name : (eol : Ending) (list : List Attached) (k : ℕ) (a : Attached) (name : List ℕ) → AreGood list → counted k list ≡ Some a → a.name ≡ Some name → is_name name ≡ true
 good_name eol [] k a name g e n = absurd cc
 good_name eol (x ∷ list) zero a name g e n = absurd cc
-good_name eol (x ∷ list) (suc zero) a name g e n = let same : x ≡ a = cc in ap is_name_or_none (sym (ap (λ (y : Attached). y.name) same ∙ n)) ∙ g.1
+good_name eol (x ∷ list) (suc zero) a name g e n = let same : x ≡ a = cc in ap (λ o. option_map_or is_name o true) (sym (ap (λ (y : Attached). y.name) same ∙ n)) ∙ g.1
 good_name eol (x ∷ list) (suc (suc k)) a name g e n = good_name eol list (suc k) a name g.3 e n
 
 in_quotes : (name : List ℕ) → is_name name ≡ true → InQuotes name

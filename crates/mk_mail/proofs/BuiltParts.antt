@@ -11,7 +11,7 @@ use Rattle.mk_head.specs.declared.encodings.Encoding.{Encoding}
 use Rattle.mk_head.specs.declared.encodings.Encoding.TheVariants.{Base64, Qp}
 use Rattle.mk_head.specs.Splits.{IsRun}
 use Rattle.mk_head.specs.Types.{field_value, header_encoding, type_by}
-use Rattle.mk_head.specs.Unfolding.{or_nothing}
+use Rattle.std.specs.Prelude.{unwrap_or}
 use Rattle.mk_head.specs.Values.{is_token, is_token_byte}
 use Rattle.mk_line.specs.Parting.{before, following}
 use Rattle.mk_code.specs.Contents.{IsContent}
@@ -29,7 +29,8 @@ use Rattle.mk_tree.specs.Reading.{IsWellRead}
 use Rattle.mk_tree.specs.Tree.{Entity, leaf, print}
 use Rattle.mk_tree.proofs.Plugs.{unmarked_join}
 use Rattle.mk_decide.proofs.Bounds.{made_line}
-use Rattle.mk_build.specs.Building.{Attached, attached, disposition_line, encoded, encoding_line, encoding_name, is_media, is_name, is_name_byte, is_name_or_none, is_single, is_subtype, longest, name_param, said_param}
+use Rattle.mk_build.specs.Building.{Attached, attached, disposition_line, encoded, encoding_line, encoding_name, is_media, is_name, is_name_byte, is_single, longest, name_param, said_param}
+use Rattle.std.specs.Option.{option_map_or}
 use Rattle.mk_mail.specs.BuiltLaws.{AreBytes}
 use Rattle.mk_view.specs.Extracts.{IsContentOf}
 use Rattle.mk_mail.proofs.BuiltBodies.{AreFree, body_content, free_ended, free_unmarked, safe_free}
@@ -118,15 +119,15 @@ inner_line eol content c h = made_line eol content c (inner_feed content h) (inn
 -- the bytes of a media type and of a name
 media_inner : (media : List ℕ) → is_media media ≡ true → list_all is_inner media ≡ true
 media_inner media h =
-    let p = both (nat_le (length media) longest) (is_token (before 47 media) && (is_subtype (following 47 media) && is_single (before 47 media))) h in
-    let q = both (is_token (before 47 media)) (is_subtype (following 47 media) && is_single (before 47 media)) p.1 in
-    let r = both (is_subtype (following 47 media)) (is_single (before 47 media)) q.1 in
+    let p = both (nat_le (length media) longest) (is_token (before 47 media) && (option_map_or is_token (following 47 media) false && is_single (before 47 media))) h in
+    let q = both (is_token (before 47 media)) (option_map_or is_token (following 47 media) false && is_single (before 47 media)) p.1 in
+    let r = both (option_map_or is_token (following 47 media) false) (is_single (before 47 media)) q.1 in
     by_subtype (following 47 media) refl (token_inner (before 47 media) q.0) r.0
   where
     token_inner : (bytes : List ℕ) → is_token bytes ≡ true → list_all is_inner bytes ≡ true
     token_inner bytes t = inner_all is_token_byte bytes refl refl (both (not (is_nil bytes)) (list_all is_token_byte bytes) t).1
 
-    by_subtype : (o : Option (List ℕ)) → following 47 media ≡ o → list_all is_inner (before 47 media) ≡ true → is_subtype o ≡ true → list_all is_inner media ≡ true
+    by_subtype : (o : Option (List ℕ)) → following 47 media ≡ o → list_all is_inner (before 47 media) ≡ true → option_map_or is_token o false ≡ true → list_all is_inner media ≡ true
     by_subtype None e t s = absurd cc
     by_subtype (Some sub) e t s = ap (list_all is_inner) (parted media sub e) ∙ inner_join (before 47 media) (47 ∷ sub) t (token_inner sub s)
 
@@ -135,7 +136,7 @@ name_inner name h =
     let p = both (not (is_nil name)) (nat_le (length name) longest && list_all is_name_byte name) h in
     inner_all is_name_byte name refl refl (both (nat_le (length name) longest) (list_all is_name_byte name) p.1).1
 
-param_inner : (name : Option (List ℕ)) → is_name_or_none name ≡ true → list_all is_inner (name_param name) ≡ true
+param_inner : (name : Option (List ℕ)) → option_map_or is_name name true ≡ true → list_all is_inner (name_param name) ≡ true
 param_inner None h = refl
 param_inner (Some name) h = inner_join (codes "; name=\"") (name ++ codes "\"") refl (inner_join name (codes "\"") (name_inner name h) refl)
 
@@ -179,7 +180,7 @@ full_one content eol c h = record { lines = (h, (λ _. refl), tt); closed = (c, 
 pub full_none : AreFull []
 full_none = record { lines = tt; closed = tt }
 
-disposition_full : (eol : Ending) (name said : Option (List ℕ)) → is_open eol ≡ false → is_name_or_none name ≡ true → AreFull (disposition eol name said)
+disposition_full : (eol : Ending) (name said : Option (List ℕ)) → is_open eol ≡ false → option_map_or is_name name true ≡ true → AreFull (disposition eol name said)
 disposition_full eol None said c h = full_none
 disposition_full eol (Some name) said c h =
     let content = codes "Content-Disposition: attachment; filename=\"" ++ (name ++ (codes "\"" ++ said_param said)) in
@@ -192,7 +193,7 @@ encoding_inner : (base64 : Bool) → list_all is_inner (codes "Content-Transfer-
 encoding_inner true = refl
 encoding_inner false = refl
 
-fields_full : (eol : Ending) (media : List ℕ) (name said : Option (List ℕ)) (base64 : Bool) → is_open eol ≡ false → is_media media ≡ true → is_name_or_none name ≡ true → AreFull (part_fields eol media name said base64)
+fields_full : (eol : Ending) (media : List ℕ) (name said : Option (List ℕ)) (base64 : Bool) → is_open eol ≡ false → is_media media ≡ true → option_map_or is_name name true ≡ true → AreFull (part_fields eol media name said base64)
 fields_full eol media name said base64 c h n =
     let content = codes "Content-Type: " ++ (media ++ name_param name) in
     full_join (part_type eol media name ∷ []) (disposition eol name said ++ (part_encoding eol base64 ∷ []))
@@ -200,7 +201,7 @@ fields_full eol media name said base64 c h n =
     (full_join (disposition eol name said) (part_encoding eol base64 ∷ []) (disposition_full eol name said c n)
     (full_one (codes "Content-Transfer-Encoding: " ++ encoding_name base64) eol c (inner_line eol (codes "Content-Transfer-Encoding: " ++ encoding_name base64) c (encoding_inner base64))))
 
-pub part_full : (eol : Ending) (a : Attached) → is_open eol ≡ false → is_media a.media ≡ true → is_name_or_none a.name ≡ true → AreLines (print (part_entity eol a)) × AreClosed (print (part_entity eol a))
+pub part_full : (eol : Ending) (a : Attached) → is_open eol ≡ false → is_media a.media ≡ true → option_map_or is_name a.name true ≡ true → AreLines (print (part_entity eol a)) × AreClosed (print (part_entity eol a))
 part_full eol a c h n =
     let head = full_join (part_fields eol a.media a.name a.said a.base64) (empty_line eol ∷ []) (fields_full eol a.media a.name a.said a.base64 c h n) (full_one [] eol c (inner_line eol [] c refl)) in
     let body : AreFull (part_body eol a) = record { lines = lines_cut (encoded eol a ++ ending_bytes eol); closed = some_closed (part_body eol a) (cut_ended (encoded eol a) eol c) } in
@@ -232,8 +233,8 @@ part_free b eol a c small =
 
 -- what its fields say
 type_value : (eol : Ending) (media : List ℕ) (name said : Option (List ℕ)) (base64 : Bool) → field_value (codes "Content-Type") (part_fields eol media name said base64) ≡ Some (32 ∷ (media ++ name_param name))
-type_value eol media None said base64 = ap (λ cs. Some (or_nothing (following 58 cs))) (append_nil (codes "Content-Type: " ++ (media ++ name_param None)))
-type_value eol media (Some name) said base64 = ap (λ cs. Some (or_nothing (following 58 cs))) (append_nil (codes "Content-Type: " ++ (media ++ name_param (Some name))))
+type_value eol media None said base64 = ap (λ cs. Some (unwrap_or (following 58 cs) [])) (append_nil (codes "Content-Type: " ++ (media ++ name_param None)))
+type_value eol media (Some name) said base64 = ap (λ cs. Some (unwrap_or (following 58 cs) [])) (append_nil (codes "Content-Type: " ++ (media ++ name_param (Some name))))
 
 -- the encoding that is named
 abbrev coding : Bool → Encoding
@@ -246,7 +247,7 @@ says_encoding eol media None said false = refl
 says_encoding eol media (Some name) said true = refl
 says_encoding eol media (Some name) said false = refl
 
-fields_kind : (digest : Bool) (eol : Ending) (media : List ℕ) (name said : Option (List ℕ)) (base64 : Bool) → is_media media ≡ true → is_name_or_none name ≡ true → kind (part_fields eol media name said base64) digest ≡ Leaf
+fields_kind : (digest : Bool) (eol : Ending) (media : List ℕ) (name said : Option (List ℕ)) (base64 : Bool) → is_media media ≡ true → option_map_or is_name name true ≡ true → kind (part_fields eol media name said base64) digest ≡ Leaf
 unfolding kind
 fields_kind digest eol media name said base64 h n =
     ap (λ o. kind_of (type_by digest o) (header_encoding (part_fields eol media name said base64))) (type_value eol media name said base64)
@@ -257,7 +258,7 @@ fields_run eol media None said base64 = (refl, (refl, tt))
 fields_run eol media (Some name) said base64 = (refl, (refl, (refl, tt)))
 
 -- it is read back
-pub part_read : (n : ℕ) (digest : Bool) (eol : Ending) (a : Attached) → is_media a.media ≡ true → is_name_or_none a.name ≡ true → IsWellRead (suc n) digest (part_entity eol a)
+pub part_read : (n : ℕ) (digest : Bool) (eol : Ending) (a : Attached) → is_media a.media ≡ true → option_map_or is_name a.name true ≡ true → IsWellRead (suc n) digest (part_entity eol a)
 part_read n digest eol a h k = (record { run = fields_run eol a.media a.name a.said a.base64; next = refl }, fields_kind digest eol a.media a.name a.said a.base64 h k)
 
 no_returns : (eol : Ending) (a : Attached) → AreBytes a.text → eol ≡ Lf → list_all is_other (encoded eol a) ≡ true

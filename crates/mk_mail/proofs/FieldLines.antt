@@ -60,7 +60,7 @@ start_first (byte ∷ bytes) =
 one_and : (n : ℕ) → 1 + n ≡ suc n
 one_and n = omega arith
 
-name_one : (byte : ℕ) (bytes : List ℕ) → name_in (byte ∷ bytes) ≡ (if is_name_byte byte then byte ∷ name_in bytes else [])
+pub name_one : (byte : ℕ) (bytes : List ℕ) → name_in (byte ∷ bytes) ≡ (if is_name_byte byte then byte ∷ name_in bytes else [])
 name_one byte bytes =
     elim (cases_Bool (is_name_byte byte)) [
       | inl n ↦ rw n (ap (λ m. take m (byte ∷ bytes)) (one_and (prefix_len is_name_byte bytes)))

@@ -9,7 +9,7 @@ use Rattle.mk_line.specs.declared.cutting.Ending.{Ending}
 use Rattle.mk_line.specs.Kinds.{is_continuation, is_field_start, is_from_line, is_name}
 use Rattle.mk_line.specs.Lines.{TextLine, cut, eol_of, is_nil}
 use Rattle.mk_head.specs.Fields.{FieldText, is_named, is_one_field}
-use Rattle.mk_head.specs.Split.{option_line}
+use Rattle.std.specs.Option.{option_to_list}
 use Rattle.mk_head.specs.Splits.{IsRun}
 use Rattle.mk_tree.specs.Documents.{Document, document_lines, document_of, enveloped, printed, tree}
 use Rattle.mk_tree.specs.Places.{put}
@@ -254,11 +254,11 @@ from_some [] h = cc
 from_some (byte ∷ bytes) h = refl
 
 -- the envelope is a From-line
-env_some : (t : Bool) (l : TextLine) (ls : List TextLine) → is_from_line l.content ≡ t → AreSomeLines (option_line (enveloped t l ls).envelope)
+env_some : (t : Bool) (l : TextLine) (ls : List TextLine) → is_from_line l.content ≡ t → AreSomeLines (option_to_list (enveloped t l ls).envelope)
 env_some true l ls h = (from_some l.content h, tt)
 env_some false l ls h = tt
 
-envelope_some : (ls : List TextLine) → AreSomeLines (option_line (document_of ls).envelope)
+envelope_some : (ls : List TextLine) → AreSomeLines (option_to_list (document_of ls).envelope)
 envelope_some [] = tt
 envelope_some (l ∷ ls) = env_some (is_from_line l.content) l ls refl
 
@@ -272,11 +272,11 @@ start_from Fielded content h = h
 free_followed : (way : FromLines) (ls : List TextLine) → needs_field way ≡ false → is_followed way ls ≡ true
 free_followed way ls n = rw n refl
 
-env_begins : (way : FromLines) (t : Bool) (l : TextLine) (ls more : List TextLine) → needs_field way ≡ false → is_from_line l.content ≡ t → is_mail_start way l.content ≡ true → begins_from way (option_line (enveloped t l ls).envelope ++ more) ≡ true
+env_begins : (way : FromLines) (t : Bool) (l : TextLine) (ls more : List TextLine) → needs_field way ≡ false → is_from_line l.content ≡ t → is_mail_start way l.content ≡ true → begins_from way (option_to_list (enveloped t l ls).envelope ++ more) ≡ true
 env_begins way true l ls more n h s = rw (s, free_followed way more n) refl
 env_begins way false l ls more n h s = let from = start_from way l.content s in cc
 
-envelope_begins : (way : FromLines) (ls more : List TextLine) → needs_field way ≡ false → begins_from way ls ≡ true → begins_from way (option_line (document_of ls).envelope ++ more) ≡ true
+envelope_begins : (way : FromLines) (ls more : List TextLine) → needs_field way ≡ false → begins_from way ls ≡ true → begins_from way (option_to_list (document_of ls).envelope ++ more) ≡ true
 envelope_begins way [] more n h = cc
 envelope_begins way (l ∷ ls) more n h = env_begins way (is_from_line l.content) l ls more n refl (both_true (is_mail_start way l.content) (is_followed way ls) h).0
 
@@ -314,7 +314,7 @@ same_rest way old new front other rest o n f g b w = record {
 fielded_kept : (way : FromLines) (text : List ℕ) (u : Document) → needs_field way ≡ false → IsFielded (tree text) u → tree (printed u) ≡ u → IsWhole way false (cut text) → IsKept way (cut text) (cut (printed u))
 fielded_kept way text u n a stable w =
     let t = tree text in
-    let front = option_line t.envelope in
+    let front = option_to_list t.envelope in
     let rest = after_fields t.root in
     let old_lines : cut text ≡ front ++ (field_lines t.root ++ rest) = sym (lines_kept text) ∙ ap (λ ls. front ++ ls) (entity_lines t.root) in
     let new_lines : cut (printed u) ≡ front ++ (a.fields ++ rest) =

@@ -17,3 +17,4 @@ pub mod ReplacedApart
 pub mod LackedNames
 pub mod Plainness
 pub mod PutIn
+pub mod NamesTracked

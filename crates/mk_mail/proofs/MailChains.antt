@@ -7,7 +7,7 @@ use Rattle.mk_line.specs.declared.cutting.Ending.{Ending}
 use Rattle.mk_line.specs.declared.cutting.Ending.TheVariants.{Crlf, Lf, Missing}
 use Rattle.mk_line.specs.Lines.{AreLines, IsLine, TextLine, cut, is_nil, text_line, text_of}
 use Rattle.mk_line.proofs.Cuts.{cut_text, lines_cut, text_append, text_cut}
-use Rattle.mk_head.specs.Splits.{has_line}
+use Rattle.std.specs.Prelude.{not}
 use Rattle.mk_mail.specs.Filtered.{is_left}
 use Rattle.mk_mailbox.specs.declared.from_lines.FromLines.TheVariants.{Any, Dated, Fielded}
 use Rattle.mk_mailbox.specs.Pieces.{is_first, is_followed, is_mail_start, front, later, may_begin, parted, mailbox_pieces}
@@ -23,7 +23,7 @@ IsWhole way e (l ∷ ls) = (is_first way e l.content ls ≡ false) × IsWhole wa
 
 -- lines of a message: some, none of which begins another
 abbrev pub AreMessage : FromLines → List TextLine → Type 0
-AreMessage way ls = (has_line ls ≡ true) × IsWhole way false ls
+AreMessage way ls = (not (is_nil ls) ≡ true) × IsWhole way false ls
 
 -- what stands before other messages ends with an empty line, and they begin with a From-line
 abbrev pub AreBefore : FromLines → Bool → List (List TextLine) → Type 0
@@ -222,7 +222,7 @@ pub record IsKept (way : FromLines) (old new : List TextLine) : Type 0 where
   pub ends : ends_empty false old ≡ true → ends_empty false new ≡ true
   pub begins : begins_from way old ≡ true → begins_from way new ≡ true
 
-pub some_lines : (p : List ℕ) (ls : List TextLine) → cut p ≡ ls → is_left p ≡ true → has_line ls ≡ true
+pub some_lines : (p : List ℕ) (ls : List TextLine) → cut p ≡ ls → is_left p ≡ true → not (is_nil ls) ≡ true
 some_lines p [] e t = ap is_left (sym (ap text_of e) ∙ text_cut p) ∙ t
 some_lines p (l ∷ ls) e t = refl
 

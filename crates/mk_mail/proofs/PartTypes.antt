@@ -12,7 +12,8 @@ use Rattle.mk_line.specs.Parting.{before, following}
 use Rattle.mk_head.specs.Types.{type_by}
 use Rattle.mk_head.specs.Values.{Plain, Quoted, uncommented, push_first, pieces, unled, stripped, lowered, parameters, is_token_byte, is_token, MediaType, media_type, typed_as, type_of_pieces, content_type_of}
 use Rattle.mk_tree.specs.Kinds.{Leaf, kind_of}
-use Rattle.mk_build.specs.Building.{longest, is_single, is_subtype, is_media, is_name_byte, is_name_or_none, name_param}
+use Rattle.mk_build.specs.Building.{longest, is_single, is_media, is_name_byte, name_param, is_name}
+use Rattle.std.specs.Option.{option_map_or}
 
 pub both : (a b : Bool) → (a && b) ≡ true → (a ≡ true) × (b ≡ true)
 both true b h = (refl, h)
@@ -80,7 +81,7 @@ quoted_name name = codes "; name=\"" ++ (name ++ codes "\"")
 name_kept : (name : List ℕ) → InQuotes name → uncommented Plain (codes "; name=\"" ++ (name ++ codes "\"")) ≡ codes "; name=\"" ++ (name ++ codes "\"")
 name_kept name h = ap (λ xs. codes "; name=\"" ++ xs) (quoted_uncommented name h)
 
-after_type : (name : Option (List ℕ)) → is_name_or_none name ≡ true → IsBehind (name_param name)
+after_type : (name : Option (List ℕ)) → option_map_or is_name name true ≡ true → IsBehind (name_param name)
 after_type None h = record { kept = refl; others = []; apart = refl }
 after_type (Some name) h =
     let p = both (not (is_nil name)) (nat_le (length name) longest && list_all is_name_byte name) h in
@@ -171,14 +172,14 @@ made_main m sub tail h k b =
     not_true false e = refl
 
 -- the type that a part's value says
-pub part_main : (media : List ℕ) (name : Option (List ℕ)) → is_media media ≡ true → is_name_or_none name ≡ true → (content_type_of (32 ∷ (media ++ name_param name))).main ≡ lowered (before 47 media)
+pub part_main : (media : List ℕ) (name : Option (List ℕ)) → is_media media ≡ true → option_map_or is_name name true ≡ true → (content_type_of (32 ∷ (media ++ name_param name))).main ≡ lowered (before 47 media)
 part_main media name h n =
-    let p = both (nat_le (length media) longest) (is_token (before 47 media) && (is_subtype (following 47 media) && is_single (before 47 media))) h in
-    let q = both (is_token (before 47 media)) (is_subtype (following 47 media) && is_single (before 47 media)) p.1 in
-    let r = both (is_subtype (following 47 media)) (is_single (before 47 media)) q.1 in
+    let p = both (nat_le (length media) longest) (is_token (before 47 media) && (option_map_or is_token (following 47 media) false && is_single (before 47 media))) h in
+    let q = both (is_token (before 47 media)) (option_map_or is_token (following 47 media) false && is_single (before 47 media)) p.1 in
+    let r = both (option_map_or is_token (following 47 media) false) (is_single (before 47 media)) q.1 in
     by_subtype (following 47 media) refl q.0 r.0
   where
-    by_subtype : (o : Option (List ℕ)) → following 47 media ≡ o → is_token (before 47 media) ≡ true → is_subtype o ≡ true → (content_type_of (32 ∷ (media ++ name_param name))).main ≡ lowered (before 47 media)
+    by_subtype : (o : Option (List ℕ)) → following 47 media ≡ o → is_token (before 47 media) ≡ true → option_map_or is_token o false ≡ true → (content_type_of (32 ∷ (media ++ name_param name))).main ≡ lowered (before 47 media)
     by_subtype None e t s = absurd cc
     by_subtype (Some sub) e t s =
         let same = parted media sub e in
@@ -197,9 +198,9 @@ single_kind t e m h s =
     off false e = refl
 
 -- a part is a leaf
-pub part_kind : (digest : Bool) (e : Encoding) (media : List ℕ) (name : Option (List ℕ)) → is_media media ≡ true → is_name_or_none name ≡ true → kind_of (type_by digest (Some (32 ∷ (media ++ name_param name)))) e ≡ Leaf
+pub part_kind : (digest : Bool) (e : Encoding) (media : List ℕ) (name : Option (List ℕ)) → is_media media ≡ true → option_map_or is_name name true ≡ true → kind_of (type_by digest (Some (32 ∷ (media ++ name_param name)))) e ≡ Leaf
 part_kind digest e media name h n =
-    let p = both (nat_le (length media) longest) (is_token (before 47 media) && (is_subtype (following 47 media) && is_single (before 47 media))) h in
-    let q = both (is_token (before 47 media)) (is_subtype (following 47 media) && is_single (before 47 media)) p.1 in
-    let r = both (is_subtype (following 47 media)) (is_single (before 47 media)) q.1 in
+    let p = both (nat_le (length media) longest) (is_token (before 47 media) && (option_map_or is_token (following 47 media) false && is_single (before 47 media))) h in
+    let q = both (is_token (before 47 media)) (option_map_or is_token (following 47 media) false && is_single (before 47 media)) p.1 in
+    let r = both (option_map_or is_token (following 47 media) false) (is_single (before 47 media)) q.1 in
     single_kind (content_type_of (32 ∷ (media ++ name_param name))) e (before 47 media) (part_main media name h n) r.1

@@ -6,11 +6,13 @@ use Rattle.mk_line.specs.Lines.{TextLine, cut, eol_of, is_lf}
 use Rattle.mk_edit.specs.Groups.{Together}
 use Rattle.mk_mail.specs.Filtered.{outcome, text_left}
 use Rattle.mk_mail.specs.Letters.{PlainLetters, root_path}
-use Rattle.mk_mail.specs.Rounds.{Made, OneRoundFilters, PlainRound, RoundsArePiped, RoundsStayApart, left_of, letters_for, made_of, made_text, round_made_at, rounds_left, rounds_left_in, rounds_made, rounds_made_at}
+use Rattle.mk_mail.specs.Rounds.{Made, OneRoundFilters, PlainRound, RoundsArePiped, RoundsStayApart, letters_for, made_text, round_made_at, rounds_left, rounds_left_in, rounds_made, rounds_made_at}
+use Rattle.mk_line.specs.Results.{made_of}
+use Rattle.std.specs.Result.{result_unwrap_or}
 use Rattle.mk_mail.proofs.FilteredMail.{filtered_kept}
 use Rattle.mk_mail.proofs.MailChains.{AreMessage, IsKept, IsWhole, kept_apart}
 
-one_text : (text : List ℕ) (r : Together) → left_of text (made_of (rounds_made_at root_path []) (made_text r)) ≡ text_left text r
+one_text : (text : List ℕ) (r : Together) → result_unwrap_or (made_of (rounds_made_at root_path []) (made_text r)) text ≡ text_left text r
 one_text text (Ok p) = refl
 one_text text (Err q) = refl
 
@@ -20,7 +22,7 @@ same_letters l false = refl
 
 pub one_round : OneRoundFilters
 one_round l text =
-    ap (λ k. left_of text (made_of (rounds_made_at root_path []) (made_text (outcome k text)))) (same_letters l (is_lf (eol_of (cut text))))
+    ap (λ k. result_unwrap_or (made_of (rounds_made_at root_path []) (made_text (outcome k text))) text) (same_letters l (is_lf (eol_of (cut text))))
     ∙ one_text text (outcome l text)
 
 piped_on : (rs more : List PlainRound) (m : Made) → ((text : List ℕ) → rounds_made (rs ++ more) text ≡ made_of (rounds_made more) (rounds_made rs text))
@@ -62,7 +64,7 @@ rounds_kept way [] text n w = unchanged way (cut text) w
 rounds_kept way (r ∷ rs) text n w =
     made_kept way text (rounds_made rs) (round_made_at root_path r text) (text_kept way text (outcome (letters_for r text) text) (filtered_kept way (letters_for r text) text n w)) (λ made v. rounds_kept way rs made n v)
 
-pub left_kept : (way : FromLines) (text : List ℕ) (m : Made) → IsWhole way false (cut text) → IsMadeKept way text m → IsKept way (cut text) (cut (left_of text m))
+pub left_kept : (way : FromLines) (text : List ℕ) (m : Made) → IsWhole way false (cut text) → IsMadeKept way text m → IsKept way (cut text) (cut (result_unwrap_or m text))
 left_kept way text (Ok made) w k = k
 left_kept way text (Err reason) w k = unchanged way (cut text) w
 

@@ -8,7 +8,8 @@ use Rattle.mk_mailbox.proofs.PlaceLemmas.{are_whole, uncut}
 use Rattle.mk_line.specs.Lines.{TextLine, cut, is_nil}
 use Rattle.mk_mail.specs.Apart.{SectionsStayApart, always_fits, mail_left, mail_made, placed_made, section_made}
 use Rattle.mk_mail.specs.Letters.{is_root, root_path}
-use Rattle.mk_mail.specs.Rounds.{Made, PlainRound, left_of}
+use Rattle.mk_mail.specs.Rounds.{Made, PlainRound}
+use Rattle.std.specs.Result.{result_unwrap_or}
 use Rattle.mk_mail.proofs.FieldNames.{both_true}
 use Rattle.mk_mail.proofs.MailChains.{AreMessage, IsKept, IsWhole, kept_apart}
 use Rattle.mk_mail.proofs.RoundsMade.{IsMadeKept, left_kept, rounds_kept, unchanged}
@@ -65,7 +66,7 @@ apart_kept way path rs text w =
     ]
 
 message_kept : (way : FromLines) (path : List ℕ) (rs : List PlainRound) (text : List ℕ) (alone : Bool) → AreMessage way (cut text)
-    → IsKept way (cut text) (cut (if alone then text else left_of text (mail_made way path rs text)))
+    → IsKept way (cut text) (cut (if alone then text else result_unwrap_or (mail_made way path rs text) text))
 message_kept way path rs text true m = unchanged way (cut text) m.1
 message_kept way path rs text false m = left_kept way text (mail_made way path rs text) m.1 (apart_kept way path rs text m.1)
 

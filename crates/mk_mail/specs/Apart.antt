@@ -9,7 +9,8 @@ use Rattle.mk_mailbox.specs.Pieces.{is_left_alone, mailbox_pieces, needs_field}
 use Rattle.mk_mailbox.specs.Places.{takes_place}
 use Rattle.mk_mail.specs.Filtered.{is_left}
 use Rattle.mk_mail.specs.Letters.{is_root}
-use Rattle.mk_mail.specs.Rounds.{Made, PlainRound, left_of, rounds_made_at}
+use Rattle.mk_mail.specs.Rounds.{Made, PlainRound, rounds_made_at}
+use Rattle.std.specs.Result.{result_unwrap_or}
 
 -- a message has a section at a path
 abbrev pub has_section : List ℕ → List ℕ → Bool
@@ -38,7 +39,7 @@ mail_made way path rs text = apart_made way path text (section_made path rs text
 
 -- what they leave of it
 abbrev pub mail_left : FromLines → List ℕ → List PlainRound → List ℕ → List ℕ
-mail_left way path rs text = if is_left_alone way text then text else left_of text (mail_made way path rs text)
+mail_left way path rs text = if is_left_alone way text then text else result_unwrap_or (mail_made way path rs text) text
 
 -- what rounds at any path leave of the messages of a mailbox is cut into just these messages again, but for one of which no byte
 -- is left

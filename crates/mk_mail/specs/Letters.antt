@@ -1,4 +1,6 @@
 -- Letters: a filter of the fields of a section, as a list of edits (own, after formail).
+use Rattle.mk_view.specs.Listed.{greatest_number}
+use Rattle.std.specs.Option.{option_map_or}
 use Rattle.std.specs.Prelude.{◌+◌, ◌++◌, ◌==◌, ◌&&◌, ◌||◌, if◌then◌else◌, ℕ, Bool, true, false, not, Option, None, Some, List, [], ◌∷◌, codes, drop, filter, is_some, length, map, nat_lt, take, unwrap_or}
 use Rattle.std.specs.List.{list_all, list_any, prefix_len}
 use Rattle.std.specs.Str.{bytes_eq, str_to_ascii_lowercase}
@@ -64,11 +66,6 @@ are_names p = is_name p.0 && is_name p.1
 abbrev pub is_pattern : PlainPattern → Bool
 is_pattern p = is_name p.text
 
--- what is asked for passes a test
-abbrev pub passes : {X : Type 0} → (X → Bool) → Option X → Bool
-passes test None = true
-passes test (Some x) = test x
-
 -- whether a letter is there that works by the names of fields
 abbrev pub edits_by_names : PlainLetters → Bool
 edits_by_names l = not (length l.drops == 0) || is_some l.rename || is_some l.add_if || is_some l.add || is_some l.prefixed || is_some l.only || is_some l.first || is_some l.last
@@ -84,8 +81,8 @@ stand_together l = not (is_some l.take && is_some l.whole) && not ((is_some l.ta
 -- the values that letters may have
 abbrev pub have_values : PlainLetters → Bool
 have_values l =
-    passes is_prepend l.prepend && list_all is_pattern l.drops && passes are_names l.rename && passes is_full_field l.add_if && passes is_full_field l.add && passes is_given_field l.prefixed && passes is_given_field l.only
-    && passes is_name l.first && passes is_name l.last && passes is_name l.take && passes is_name l.whole
+    option_map_or is_prepend l.prepend true && list_all is_pattern l.drops && option_map_or are_names l.rename true && option_map_or is_full_field l.add_if true && option_map_or is_full_field l.add true && option_map_or is_given_field l.prefixed true && option_map_or is_given_field l.only true
+    && option_map_or is_name l.first true && option_map_or is_name l.last true && option_map_or is_name l.take true && option_map_or is_name l.whole true
 
 -- letters that may be asked for
 abbrev pub are_allowed : PlainLetters → Bool
@@ -137,10 +134,6 @@ replaced name f names = map (λ own. if same_name name own then f own else own) 
 -- all fields of a name get another, which isn't the same
 abbrev pub renamed_all : List ℕ → List ℕ → List ℕ → List (List ℕ) → Work
 renamed_all path old new names = record { names = replaced old (λ own. new) names; edits = map (λ own. RenameField path old 1 new) (those old names) }
-
--- the greatest number that an edit can name a field by
-abbrev pub greatest_number : ℕ
-greatest_number = 4294967295
 
 -- the number after a number, as far as numbers go
 abbrev pub next_number : ℕ → Option ℕ

@@ -6,4 +6,5 @@ pub mod Rounds
 pub mod Apart
 pub mod Replaced
 pub mod LetterViews
+pub mod Tracked
 pub mod LetterWork

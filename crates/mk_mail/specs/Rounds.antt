@@ -1,4 +1,6 @@
 -- Rounds of letters, each on what the one before it left (own).
+use Rattle.mk_line.specs.Results.{made_of}
+use Rattle.std.specs.Result.{result_unwrap_or}
 use Rattle.std.specs.Prelude.{◌≡◌, ◌++◌, if◌then◌else◌, ℕ, Result, Ok, Err, false, List, [], ◌∷◌, filter, map}
 use Rattle.std.specs.List.{flat_map}
 use Rattle.mk_line.specs.Lines.{cut, eol_of, is_lf}
@@ -36,11 +38,6 @@ made_text (Err q) = Err q.1
 abbrev pub round_made_at : List ℕ → PlainRound → List ℕ → Made
 round_made_at path r text = made_text (outcome_at path (letters_for r text) text)
 
--- what is made of a text that was made
-abbrev pub made_of : (List ℕ → Made) → Made → Made
-made_of f (Ok text) = f text
-made_of f (Err reason) = Err reason
-
 -- what rounds at a path make of a text, each of what the one before it made, up to the first reason
 abbrev pub rounds_made_at : List ℕ → List PlainRound → List ℕ → Made
 rounds_made_at path [] text = Ok text
@@ -50,14 +47,9 @@ rounds_made_at path (r ∷ rs) text = made_of (rounds_made_at path rs) (round_ma
 abbrev pub rounds_made : List PlainRound → List ℕ → Made
 rounds_made rs text = rounds_made_at root_path rs text
 
--- the text that was made, or the text as it came
-abbrev pub left_of : List ℕ → Made → List ℕ
-left_of text (Ok made) = made
-left_of text (Err reason) = text
-
 -- what rounds leave of a text: where an edit of one is refused, all of it
 abbrev pub rounds_left : List PlainRound → List ℕ → List ℕ
-rounds_left rs text = left_of text (rounds_made rs text)
+rounds_left rs text = result_unwrap_or (rounds_made rs text) text
 
 -- what rounds leave of a message of a mailbox that is cut at these From-lines
 abbrev pub rounds_left_in : FromLines → List PlainRound → List ℕ → List ℕ

@@ -6,6 +6,7 @@ ghost use Rattle.mk_mail.specs.Filtered.{FilteredStayApart, LettersChangeFieldsA
 ghost use Rattle.mk_mail.specs.Prepended.{PrependedFieldsKeepTheirBytes};
 ghost use Rattle.mk_mail.specs.Replaced.{ReplacedStayApart};
 ghost use Rattle.mk_mail.specs.Rounds.{OneRoundFilters, RoundsArePiped, RoundsStayApart};
+ghost use Rattle.mk_mail.specs.Tracked.{NamesAreTracked};
 
 pub use mk_mailbox::laws::{
     calls_give_the_messages, ends_are_whole, ends_stay, pieces_are_all, pieces_are_some,
@@ -37,6 +38,11 @@ pub fn built_names_are_said()
 /// What letters leave of a message has other fields than the message, and all else as it was.
 pub fn letters_change_fields_alone()
     ensures { LettersChangeFieldsAlone }
+{}
+
+/// The names that letters go by are those of the document: where their edits are accepted, the fields have the names that were tracked.
+pub fn names_are_tracked()
+    ensures { NamesAreTracked }
 {}
 
 /// A field with a text put before what it says has all its bytes, in their order: those of the text come after its colon and

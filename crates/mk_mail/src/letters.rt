@@ -1,12 +1,12 @@
 //! Letters: a filter of the fields of a message (own, after formail).
 ghost use Rattle.std.specs.Prelude.{◌≡◌, true, map, IfOk, OnOk};
-ghost use Rattle.std.specs.Option.{option_map};
+ghost use Rattle.std.specs.Option.{option_map, option_map_or};
 ghost use Rattle.mk_line.specs.Kinds.{is_name as is_one_name};
 ghost use Rattle.mk_decide.specs.Views.{edit_of};
 ghost use Rattle.mk_mail.specs.LetterViews.{bytes_in, letters_of, prepend_of};
 ghost use Rattle.mk_mail.specs.LetterWork.{work_of};
 ghost use Rattle.mk_mail.specs.Prepended.{is_prepend};
-ghost use Rattle.mk_mail.specs.Letters.{add_if_letter, added, are_allowed, are_names, edits_at, edits_of, edits_by_names as by_names, edits_some as some_edits, first_letter, have_values as values_are_had, is_full_field as full_field, is_given_field as given_field, letter, letter_edits as edits_of_letters, names_at, only_letter, passes, prefixed_letter, rename_letter, stand_together as stand_so};
+ghost use Rattle.mk_mail.specs.Letters.{add_if_letter, added, are_allowed, are_names, edits_at, edits_of, edits_by_names as by_names, edits_some as some_edits, first_letter, have_values as values_are_had, is_full_field as full_field, is_given_field as given_field, letter, letter_edits as edits_of_letters, names_at, only_letter, prefixed_letter, rename_letter, stand_together as stand_so};
 
 use crate::field_names::is_bare;
 use crate::filtering::Filter;
@@ -240,7 +240,7 @@ fn keep_first(
 }
 
 fn may_prepend(prepend: &Option<Prepend>) -> bool
-    ensures { result ≡ passes is_prepend (option_map prepend_of prepend.now) }
+    ensures { result ≡ option_map_or is_prepend (option_map prepend_of prepend.now) true }
 {
     match prepend {
         Some(prepend) => prepend.ok(),
@@ -249,7 +249,7 @@ fn may_prepend(prepend: &Option<Prepend>) -> bool
 }
 
 fn may_rename(names: &Option<(Vec<u8>, Vec<u8>)>) -> bool
-    ensures { result ≡ passes are_names (option_map (λ p. (p.0.items, p.1.items)) names.now) }
+    ensures { result ≡ option_map_or are_names (option_map (λ p. (p.0.items, p.1.items)) names.now) true }
 {
     match names {
         Some((old, new)) => is_name(old) && is_name(new),
@@ -258,7 +258,7 @@ fn may_rename(names: &Option<(Vec<u8>, Vec<u8>)>) -> bool
 }
 
 fn is_full_field(field: &Option<Vec<u8>>) -> bool
-    ensures { result ≡ passes full_field (bytes_in field.now) }
+    ensures { result ≡ option_map_or full_field (bytes_in field.now) true }
 {
     match field {
         Some(field) => is_given(field) && !is_bare(field),
@@ -267,7 +267,7 @@ fn is_full_field(field: &Option<Vec<u8>>) -> bool
 }
 
 fn is_given_field(field: &Option<Vec<u8>>) -> bool
-    ensures { result ≡ passes given_field (bytes_in field.now) }
+    ensures { result ≡ option_map_or given_field (bytes_in field.now) true }
 {
     match field {
         Some(field) => is_given(field),
@@ -276,7 +276,7 @@ fn is_given_field(field: &Option<Vec<u8>>) -> bool
 }
 
 fn is_given_name(name: &Option<Vec<u8>>) -> bool
-    ensures { result ≡ passes is_one_name (bytes_in name.now) }
+    ensures { result ≡ option_map_or is_one_name (bytes_in name.now) true }
 {
     match name {
         Some(name) => is_name(name),

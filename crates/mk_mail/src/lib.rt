@@ -28,7 +28,10 @@ mod section_names;
 mod word_texts;
 
 pub use letters::{Letters, field_edits, field_edits_at};
-pub use mk_build::{Attach, AttachError, BuildError, attach, build, build_in_utf8};
+pub use mk_build::{
+    Attach, AttachError, AttachOptions, BuildError, Forward, Multipart, attach, attach_with, build,
+    build_with,
+};
 pub use mk_mailbox::{Fault, FromLines, MailFault, Mailbox, Place, Sink, Source};
 pub use mk_view::{
     Described, ExtractError, Leaf, NameForm, content, content_in, content_size, extract, leaves,

@@ -8,13 +8,16 @@ use Rattle.std.specs.Option.{option_map}
 use Rattle.std.proofs.KnownBytes.{Consumes-trans}
 use Rattle.std.specs.Io.KnownBytes.{Consumes}
 use Rattle.mk_line.specs.Lines.{cut, has_line_feed}
-use Rattle.mk_mailbox.specs.Gathered.{IsLastSplit, IsSplit, later_of}
+use Rattle.mk_mailbox.specs.Gathered.{IsLastSplit, IsSplit, chunk_bytes, later_of}
 use Rattle.mk_line.specs.Meters.{ticked}
 use Rattle.mk_mailbox.specs.Devices.{IsFull}
 use Rattle.mk_mailbox.specs.Held.{Held, unread}
 use Rattle.mk_mailbox.specs.declared.intake.Intake.{Intake}
 use Rattle.mk_mailbox.specs.Intakes.{IsIntake, held_of, kept_by}
-use Rattle.mk_mailbox.specs.Mailboxes.{Answers, FitsReads, IsKnownWhole, IsNextPiece, IsOpenInFront, chunk_bytes}
+use Rattle.mk_mailbox.specs.Mailboxes.{FitsReads, IsKnownWhole, IsNextPiece, IsOpenInFront, read_limit}
+use Rattle.mk_mailbox.specs.inner.Answers.{Answers}
+use Rattle.mk_mailbox.specs.MailboxLaws.{IsReply, call_reply}
+use Rattle.mk_mailbox.specs.declared.mailbox.MailFault.{MailFault}
 use Rattle.mk_mailbox.specs.Pieces.{mailbox_pieces}
 use Rattle.mk_mailbox.proofs.LinesGathered.{gathered_unknown}
 use Rattle.mk_mailbox.proofs.MessageLines.{pieces_of}
@@ -119,7 +122,7 @@ none_known (Ok (Some piece)) old new was w i s h t u = tt
 none_known (Err e) old new was w i s h t u = tt
 
 -- bytes that came from one read more, or from none
-ticked_by : (t : Bool) (n old new : ℕ) → nat_lt old (2 ^ 64 - 1) ≡ t → n ≤ chunk_bytes → new ≡ (if t then old + 1 else old) → (n + chunk_bytes * old ≤ chunk_bytes * new) ⊎ IsFull new
+ticked_by : (t : Bool) (n old new : ℕ) → nat_lt old (2 ^ 64 - 1) ≡ t → n ≤ chunk_bytes → new ≡ (if t then old + 1 else old) → (n + read_limit * old ≤ read_limit * new) ⊎ IsFull new
 ticked_by true n old new h l e = inl (omega (arith, l, e))
 ticked_by false n old new h l e = inr (omega (arith, ltb-false old (2 ^ 64 - 1) h, e))
 
@@ -185,3 +188,14 @@ pub grown_on : (before turn : ℕ) (kept mid now read : List ℕ) (was ended : B
 grown_on before turn kept mid now read true ended h w m n g = cc
 grown_on before turn kept mid now read false true h w m n g = let a = ap length m in let b = ap length n in omega (arith, h, a, b, length-append mid read)
 grown_on before turn kept mid now read false false h w m n g = let a = ap length m in let b = g refl in omega (arith, h, a, b)
+
+-- what a call answers, as the laws speak of it
+pub replied : (answer : Result (Option (Vec ℕ)) MailFault) (old : Held) (read : List ℕ) (new : Held) → MatchResult answer (λ o. Answers (option_map (λ v. v.items) o) old read new) (λ _. new.kept ≡ old.kept ++ read) → IsReply (call_reply answer) old read new
+replied (Ok (Some piece)) old read new a = a
+replied (Ok None) old read new a = a
+replied (Err fault) old read new a = a
+
+-- and back
+pub answered : (found : Option (Vec ℕ)) (old : Held) (read : List ℕ) (new : Held) → IsReply (call_reply (Ok found)) old read new → Answers (option_map (λ v. v.items) found) old read new
+answered (Some piece) old read new a = a
+answered None old read new a = a

@@ -11,3 +11,4 @@ pub mod Intaking
 pub mod MailboxRuns
 pub mod PieceLaws
 pub mod PlaceLemmas
+pub mod CutPlaces

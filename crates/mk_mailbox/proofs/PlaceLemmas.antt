@@ -4,14 +4,14 @@ use Rattle.std.proofs.lemmas.Bool.{cases_Bool}
 use Rattle.mk_line.specs.Lines.{TextLine, cut, is_nil, text_of}
 use Rattle.mk_mailbox.specs.declared.from_lines.FromLines.{FromLines}
 use Rattle.mk_mailbox.specs.Pieces.{is_first, is_followed, is_mail_start, later, parted}
-use Rattle.mk_mailbox.specs.Places.{are_none, at_most_one, is_uncut}
+use Rattle.mk_mailbox.specs.Places.{at_most_one, is_uncut}
 
 -- no line begins a message, where `e` says whether the line before the first is empty
 abbrev pub are_whole : FromLines → Bool → List TextLine → Bool
 are_whole way e [] = true
 are_whole way e (l ∷ ls) = if is_first way e l.content ls then false else are_whole way (is_nil l.content) ls
 
-none_later : (way : FromLines) (e : Bool) (ls : List TextLine) → are_none (map text_of (later way e ls)) ≡ are_whole way e ls
+none_later : (way : FromLines) (e : Bool) (ls : List TextLine) → is_nil (map text_of (later way e ls)) ≡ are_whole way e ls
 none_later way e [] = refl
 none_later way e (l ∷ ls) =
     elim (cases_Bool (is_first way e l.content ls)) [

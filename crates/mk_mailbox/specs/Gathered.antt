@@ -7,7 +7,7 @@ use Rattle.mk_line.specs.Lines.{TextLine, cut, ended, ends_open, has_line_feed, 
 use Rattle.mk_mailbox.specs.declared.from_lines.FromLines.{FromLines}
 use Rattle.mk_mailbox.specs.declared.gathering.Told.{Told}
 use Rattle.mk_mailbox.specs.declared.gathering.Told.TheVariants.{Begins, Waits, Belongs}
-use Rattle.mk_mailbox.specs.Mailboxes.{IsOpenInFront, chunk_bytes}
+use Rattle.mk_mailbox.specs.Mailboxes.{IsOpenInFront}
 use Rattle.mk_mailbox.specs.Pieces.{front, later, mailbox_pieces, may_begin, needs_field}
 
 -- the bytes of a text that still belong to a message, and the messages after them
@@ -80,6 +80,10 @@ pub record IsLastSplit (way : FromLines) (piece old new : List ℕ) : Type 0 whe
   pub some : 0 < length piece
   pub front : front_of way false old ≡ piece
   pub later : later_of way false old ≡ mailbox_pieces way new
+
+-- the most bytes of a chunk
+abbrev pub chunk_bytes : ℕ
+chunk_bytes = 65536
 
 -- a part of a chunk that is filled up to a place
 pub record IsChunk (chunk : List ℕ) (at filled : ℕ) : Type 0 where

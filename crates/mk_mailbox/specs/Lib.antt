@@ -7,3 +7,4 @@ pub mod Mailboxes
 pub mod Gathered
 pub mod Intakes
 pub mod MailboxLaws
+pub mod inner

@@ -1,10 +1,17 @@
 -- Laws of mailboxes, over the definitions alone.
-use Rattle.std.specs.Prelude.{◌≡◌, ◌<◌, ◌++◌, ℕ, true, false, List, [], ◌∷◌, length}
+use Rattle.std.specs.Prelude.{◌≡◌, ◌≢◌, ◌<◌, ◌≤◌, ◌&&◌, ◌++◌, ◌⊎◌, ℕ, Bool, true, false, List, [], ◌∷◌, Option, None, Some, Result, Ok, Err, IfErr, OnOk, length}
+use Rattle.std.specs.Global.{Vec}
+use Rattle.std.specs.Io.KnownBytes.{Consumes, IsAtEnd}
 use Rattle.std.specs.List.{flat_map}
 use Rattle.mk_mailbox.specs.declared.from_lines.FromLines.{FromLines}
+use Rattle.mk_mailbox.specs.declared.mailbox.MailFault.{MailFault}
+use Rattle.mk_mailbox.specs.declared.mailbox.MailFault.TheVariants.{Memory, ReadFault}
+use Rattle.mk_mailbox.specs.Devices.{IsLong, Rose}
 use Rattle.mk_mailbox.specs.Held.{Held}
-use Rattle.mk_mailbox.specs.Mailboxes.{IsNextPiece, IsOver}
+use Rattle.mk_mailbox.specs.Mailboxes.{FitsReads, IsKnownWhole, IsNextPiece, IsOver}
+use Rattle.mk_line.specs.Lines.{TextLine, cut, text_of}
 use Rattle.mk_mailbox.specs.Pieces.{mailbox_pieces}
+use Rattle.mk_mailbox.specs.Places.{begins_from, ends_empty}
 
 -- what a call answers: a message, that there is none, or an error
 pub data Reply : Type 0 where
@@ -30,6 +37,31 @@ pub record IsCall (old : Held) (call : Call) (new : Held) : Type 0 where
   pub over : old.ended ≡ true → call.read ≡ []
   pub stays : old.ended ≡ true → new.ended ≡ true
   pub same : new.from_lines ≡ old.from_lines
+
+-- what the laws call the answer of `Mailbox::next`
+abbrev pub call_reply : Result (Option (Vec ℕ)) MailFault → Reply
+call_reply (Ok (Some piece)) = message piece.items
+call_reply (Ok None) = none
+call_reply (Err fault) = error
+
+-- what `Mailbox::next` promises, by what its device held, how often it was read and how often it failed, before and after
+pub record IsNextCall (left right : Option (List ℕ)) (reads_before reads failures_before failures : ℕ) (answer : Result (Option (Vec ℕ)) MailFault) (old new : Held) : Type 0 where
+  -- it is a call of the laws, and takes what it reads from the device
+  pub exact : (read : List ℕ) × Consumes left right read × IsCall old (record { read = read; reply = call_reply answer }) new × FitsReads read reads_before reads
+  -- the input ends where the device does
+  pub ended : new.ended ≡ true → (old.ended ≡ true) ⊎ IsAtEnd right
+  -- once the input has ended the device isn't read, and no read fault is answered
+  pub idle : old.ended ≡ true → (right ≡ left) × (reads ≡ reads_before) × (failures ≡ failures_before)
+  pub only : old.ended ≡ true → IfErr answer (λ e. e ≡ Memory)
+  -- nor is it while a message is known to be whole, and at a read fault none of what is kept is known to be
+  pub known : IsKnownWhole old.from_lines old.kept → (right ≡ left) × (reads ≡ reads_before)
+  pub unknown : IfErr answer (λ e. e ≡ ReadFault → (IsKnownWhole old.from_lines new.kept → ⊥) ⊎ IsLong reads_before reads)
+  -- a read fault comes where the device failed, or gave no end in so many reads, each of which but the last took a byte
+  pub fault : IfErr answer (λ e. e ≡ ReadFault → Rose failures_before failures ⊎ IsLong reads_before reads)
+  pub held : IfErr answer (λ e. e ≡ ReadFault → Rose failures_before failures ⊎ (2147483646 ≤ length new.kept))
+  -- without one the device didn't fail
+  pub well : OnOk answer (failures ≡ failures_before)
+  pub memory : IfErr answer (λ e. e ≡ Memory → failures ≡ failures_before)
 
 -- calls one after another
 abbrev pub AreCalls : Held → List Call → Held → Type 0
@@ -88,3 +120,17 @@ AreOnes way (p ∷ ps) = (mailbox_pieces way p ≡ p ∷ []) × AreOnes way ps
 -- no message is cut again
 abbrev pub PiecesAreUncut : Type 0
 PiecesAreUncut = (way : FromLines) (text : List ℕ) → AreOnes way (mailbox_pieces way text)
+
+-- some lines and those after them are parted: a message ends with an empty line, and the next begins with a From-line that counts
+abbrev pub are_parted : FromLines → List TextLine → List TextLine → Bool
+are_parted way before after = ends_empty false before && begins_from way after
+
+-- a mailbox is cut at each such place
+abbrev pub CutsAreMade : Type 0
+CutsAreMade = (way : FromLines) (text : List ℕ) (before after : List TextLine) → cut text ≡ before ++ after → are_parted way before after ≡ true
+    → mailbox_pieces way text ≡ mailbox_pieces way (text_of before) ++ mailbox_pieces way (text_of after)
+
+-- and nowhere else: a text that has no such place is one message
+abbrev pub OthersStayWhole : Type 0
+OthersStayWhole = (way : FromLines) (text : List ℕ) → text ≢ [] → ((before after : List TextLine) → cut text ≡ before ++ after → are_parted way before after ≡ false)
+    → mailbox_pieces way text ≡ text ∷ []

@@ -1,5 +1,5 @@
 -- What the calls of a mailbox answer (own).
-use Rattle.std.specs.Prelude.{◌≡◌, ◌==◌, ◌<◌, ◌≤◌, ◌+◌, ◌*◌, ◌++◌, ◌⊎◌, if◌then◌else◌, ℕ, Bool, true, false, List, [], ◌∷◌, Option, None, Some, length, slice_get}
+use Rattle.std.specs.Prelude.{◌≡◌, ◌==◌, ◌<◌, ◌≤◌, ◌+◌, ◌*◌, ◌++◌, ◌⊎◌, if◌then◌else◌, ℕ, Bool, true, false, List, [], ◌∷◌, Some, length, slice_get}
 use Rattle.mk_line.specs.Ascii.{line_feed}
 use Rattle.mk_line.specs.Lines.{TextLine, cut, has_line_feed, is_open}
 use Rattle.mk_mailbox.specs.declared.from_lines.FromLines.{FromLines}
@@ -49,15 +49,10 @@ pub record IsOver (old : Held) (read : List ℕ) (new : Held) : Type 0 where
   pub kept : new.kept ≡ []
   pub ended : new.ended ≡ true
 
--- a call that read these bytes answers a message, or that there is none
-abbrev pub Answers : Option (List ℕ) → Held → List ℕ → Held → Type 0
-Answers (Some piece) old read new = IsNextPiece piece old read new
-Answers None old read new = IsOver old read new
-
--- the most bytes of one read
-abbrev pub chunk_bytes : ℕ
-chunk_bytes = 65536
+-- more bytes than one read is asked for
+abbrev pub read_limit : ℕ
+read_limit = 4294967296
 
 -- these bytes came from reads that were counted
 abbrev pub FitsReads : List ℕ → ℕ → ℕ → Type 0
-FitsReads read old new = (length read + chunk_bytes * old ≤ chunk_bytes * new) ⊎ IsFull new
+FitsReads read old new = (length read + read_limit * old ≤ read_limit * new) ⊎ IsFull new

@@ -14,15 +14,10 @@ abbrev pub ends_empty : Bool → List TextLine → Bool
 ends_empty e [] = e
 ends_empty e (l ∷ ls) = ends_empty (is_nil l.content) ls
 
--- no messages
-abbrev pub are_none : List (List ℕ) → Bool
-are_none [] = true
-are_none (p ∷ ps) = false
-
 -- one message at most
 abbrev pub at_most_one : List (List ℕ) → Bool
 at_most_one [] = true
-at_most_one (p ∷ ps) = are_none ps
+at_most_one (p ∷ ps) = is_nil ps
 
 -- a text is cut as one message, or is none
 abbrev pub is_uncut : FromLines → List ℕ → Bool

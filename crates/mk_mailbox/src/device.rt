@@ -1,4 +1,4 @@
-ghost use Rattle.std.specs.Prelude.{◌≡◌, ℕ, ◌<◌, ◌≤◌, Bool, true, List, Option, length, IfOk, OnOk, OnErr};
+ghost use Rattle.std.specs.Prelude.{◌≡◌, ℕ, ◌<◌, ◌≤◌, List, Option, length, IfOk, OnOk, OnErr};
 ghost use Rattle.std.specs.Io.KnownBytes.{ReadConsumes, WriteAppends, Keeps};
 ghost use Rattle.mk_line.specs.Meters.{ticked};
 
@@ -67,8 +67,9 @@ pub trait Sink {
 
     ghost failures: { Self → ℕ };
 
-    /// Whether the device was finished, so that all it holds stands.
-    ghost finished: { Self → Bool };
+    /// How many times the device was finished: from the first on, all that it holds stands. The count stays at the greatest
+    /// `u64` once it is there.
+    ghost finishes: { Self → ℕ };
 
     /// Takes bytes from the start of the piece and answers how many.
     fn write(&mut self, piece: &[u8]) -> Result<usize, Fault>
@@ -79,16 +80,16 @@ pub trait Sink {
             n ≡ 0 → 0 < length piece.now → failures self.new ≡ ticked (failures self.old)) }
         ensures took_some { IfOk result (λ n. 0 < n → failures self.new ≡ failures self.old) }
         ensures none_given { length piece.now ≡ 0 → OnOk result (failures self.new ≡ failures self.old) }
-        ensures unfinished { finished self.new ≡ finished self.old };
+        ensures unfinished { finishes self.new ≡ finishes self.old };
 
     /// Says that all was written. A device that holds bytes back until then lets them stand, or fails; nothing is written
     /// after it.
     fn finish(&mut self) -> Result<(), Fault>
         ensures bytes { Keeps (contents self.old) (contents self.new) }
-        ensures stands { OnOk result (finished self.new ≡ true) }
+        ensures stands { OnOk result (finishes self.new ≡ ticked (finishes self.old)) }
         ensures failed { OnErr result (failures self.new ≡ ticked (failures self.old)) }
         ensures went_well { OnOk result (failures self.new ≡ failures self.old) }
-        ensures unfinished { OnErr result (finished self.new ≡ finished self.old) };
+        ensures unfinished { OnErr result (finishes self.new ≡ finishes self.old) };
 
     /// How many calls failed.
     fn faults(&self) -> u64

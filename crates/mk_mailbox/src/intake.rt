@@ -6,10 +6,11 @@ ghost use Rattle.mk_line.specs.Ascii.{line_feed};
 ghost use Rattle.mk_line.specs.Lines.{has_line_feed};
 ghost use Rattle.mk_line.specs.Meters.{ticked};
 ghost use Rattle.mk_mailbox.specs.Devices.{IsLong, Rose};
-ghost use Rattle.mk_mailbox.specs.Gathered.{IsChunk, IsGathered, IsLastSplit, IsOneLine, IsSplit};
+ghost use Rattle.mk_mailbox.specs.Gathered.{IsChunk, IsGathered, IsLastSplit, IsOneLine, IsSplit, chunk_bytes};
 ghost use Rattle.mk_mailbox.specs.Held.{unread};
 ghost use Rattle.mk_mailbox.specs.Intakes.{IsIntake, held_of, kept_by};
-ghost use Rattle.mk_mailbox.specs.Mailboxes.{Answers, FitsReads, IsKnownWhole, chunk_bytes};
+ghost use Rattle.mk_mailbox.specs.Mailboxes.{FitsReads, IsKnownWhole};
+ghost use Rattle.mk_mailbox.specs.inner.Answers.{Answers};
 
 use crate::device::{CHUNK_BYTES, Fault, MOST_READS, Source};
 use crate::from_lines::FromLines;
@@ -60,6 +61,8 @@ impl Intake {
             × MatchResult result (λ o. Answers (option_map (λ v. v.items) o) (held_of self.old) read (held_of self.new)) (λ _. kept_by self.new ≡ kept_by self.old ++ read) }
         ensures ended { self.new.ended ≡ true → (self.old.ended ≡ true) ⊎ IsAtEnd (S.remaining r.new) }
         ensures stays { self.old.ended ≡ true → (self.new.ended ≡ true) × (S.remaining r.new ≡ S.remaining r.old) }
+        ensures idle { self.old.ended ≡ true → (S.read_count r.new ≡ S.read_count r.old) × (S.failures r.new ≡ S.failures r.old) }
+        ensures only { self.old.ended ≡ true → IfErr result (λ e. e ≡ MailFault.Memory) }
         ensures known { IsKnownWhole self.old.gathered.from_lines (kept_by self.old)
             → (S.remaining r.new ≡ S.remaining r.old) × (S.read_count r.new ≡ S.read_count r.old) }
         ensures unknown { IfErr result (λ e. e ≡ MailFault.ReadFault

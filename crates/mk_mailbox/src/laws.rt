@@ -1,5 +1,5 @@
 //! Laws of mailboxes, over the definitions alone: each a function with an empty body whose clause is the law.
-ghost use Rattle.mk_mailbox.specs.MailboxLaws.{CallsGiveMessages, EndsAreWhole, EndsStay, PiecesAreAll, PiecesAreSome, PiecesAreUncut};
+ghost use Rattle.mk_mailbox.specs.MailboxLaws.{CallsGiveMessages, CutsAreMade, EndsAreWhole, EndsStay, OthersStayWhole, PiecesAreAll, PiecesAreSome, PiecesAreUncut};
 
 /// Whatever calls of `Mailbox::next` were made, in whatever pieces the input was read and whichever calls failed: the
 /// messages given so far, and then those of what is kept, are those of all that was read.
@@ -30,4 +30,14 @@ pub fn pieces_are_some()
 /// No message of a mailbox is cut again.
 pub fn pieces_are_uncut()
     ensures { PiecesAreUncut }
+{}
+
+/// A mailbox is cut at each line that directly follows an empty line and is a From-line that counts.
+pub fn cuts_are_made()
+    ensures { CutsAreMade }
+{}
+
+/// A mailbox is cut nowhere else: a text without such a line is one message.
+pub fn others_stay_whole()
+    ensures { OthersStayWhole }
 {}

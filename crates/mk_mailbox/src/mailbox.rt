@@ -1,10 +1,8 @@
 //! Mailboxes: messages one after another, each begun by a From-line (own).
-ghost use Rattle.std.specs.Prelude.{◌≡◌, ◌≤◌, ◌++◌, ◌⊎◌, [], ℕ, List, true, false, length, IfErr, IfNone, IfOk, MatchOption, MatchResult, OnErr, OnOk};
-ghost use Rattle.std.specs.Io.KnownBytes.{Consumes, IsAtEnd};
-ghost use Rattle.std.specs.Option.{option_map};
-ghost use Rattle.mk_mailbox.specs.Devices.{IsLong, Rose};
+ghost use Rattle.std.specs.Prelude.{◌≡◌, [], false, IfNone, IfOk, MatchOption, OnErr};
 ghost use Rattle.mk_mailbox.specs.declared.from_lines.FromLines.TheVariants.{Any};
-ghost use Rattle.mk_mailbox.specs.Mailboxes.{Answers, FitsReads, IsKnownWhole, IsNextPiece};
+ghost use Rattle.mk_mailbox.specs.Mailboxes.{IsKnownWhole, IsNextPiece};
+ghost use Rattle.mk_mailbox.specs.MailboxLaws.{IsNextCall};
 
 use crate::device::Source;
 use crate::from_lines::FromLines;
@@ -65,29 +63,10 @@ impl Mailbox {
     }
 
     /// The next message; none where the input has ended and all of it was given. After an error all that was read is
-    /// kept, and a later call goes on with it.
+    /// kept, and a later call goes on with it. Nothing is read once the input has ended, nor while a message is known to be
+    /// whole.
     pub fn next<S: Source>(&mut self, r: &mut S) -> Result<Option<Vec<u8>>, MailFault>
-        ensures exact { (read : List ℕ) × Consumes (S.remaining r.old) (S.remaining r.new) read
-            × (self.old.ended ≡ true → read ≡ [])
-            × FitsReads read (S.read_count r.old) (S.read_count r.new)
-            × MatchResult result (λ o. Answers (option_map (λ v. v.items) o) self.old read self.new) (λ _. self.new.kept ≡ self.old.kept ++ read) }
-        ensures ended { self.new.ended ≡ true → (self.old.ended ≡ true) ⊎ IsAtEnd (S.remaining r.new) }
-        ensures stays { self.old.ended ≡ true → (self.new.ended ≡ true) × (S.remaining r.new ≡ S.remaining r.old) }
-
-        // Nothing is read while a message is known to be whole, and where the source fails none of what is kept is.
-        ensures known { IsKnownWhole self.old.from_lines self.old.kept
-            → (S.remaining r.new ≡ S.remaining r.old) × (S.read_count r.new ≡ S.read_count r.old) }
-        ensures unknown { IfErr result (λ e. e ≡ MailFault.ReadFault
-            → (IsKnownWhole self.old.from_lines self.new.kept → ⊥) ⊎ IsLong (S.read_count r.old) (S.read_count r.new)) }
-        ensures fault { IfErr result (λ e. e ≡ MailFault.ReadFault
-            → Rose (S.failures r.old) (S.failures r.new) ⊎ IsLong (S.read_count r.old) (S.read_count r.new)) }
-
-        // Without a failure a read fault comes only where so much is kept: each read but the last took a byte.
-        ensures held { IfErr result (λ e. e ≡ MailFault.ReadFault
-            → Rose (S.failures r.old) (S.failures r.new) ⊎ (2147483646 ≤ length self.new.kept)) }
-        ensures well { OnOk result (S.failures r.new ≡ S.failures r.old) }
-        ensures memory { IfErr result (λ e. e ≡ MailFault.Memory → S.failures r.new ≡ S.failures r.old) }
-        ensures same { self.new.from_lines ≡ self.old.from_lines }
+        ensures { IsNextCall (S.remaining r.old) (S.remaining r.new) (S.read_count r.old) (S.read_count r.new) (S.failures r.old) (S.failures r.new) result self.old self.new }
     {
         self.intake.next(r)
     }

@@ -14,7 +14,7 @@ use Rattle.mk_transfer.proofs.Fronts.{AppendsFront-following, AppendsFront-none}
 use Rattle.mk_messages.specs.MessageLines.{lines_from, mailbox_listing, message_line}
 use Rattle.mk_messages.proofs.Taken.{AreTaken, size_of}
 
-lines_append : (number start : ℕ) (ms ns : List (List ℕ)) → lines_from number start (ms ++ ns) ≡ lines_from number start ms ++ lines_from (number + length ms) (start + size_of ms) ns
+pub lines_append : (number start : ℕ) (ms ns : List (List ℕ)) → lines_from number start (ms ++ ns) ≡ lines_from number start ms ++ lines_from (number + length ms) (start + size_of ms) ns
 lines_append number start [] ns = (λ i. lines_from (number_is i) (start_is i) ns)
   where
     number_is : number ≡ number + 0
@@ -79,7 +79,7 @@ listed_all way text done out after e a = subst (λ ms. Appends out after (lines_
 -- sending a line stopped
 pub sending_blamed : (stop : Stop) (cause : Cause) (before after : Counts) → cause ≡ cause_of_writing stop → (stop ≡ Stopped → Rose before.output after.output) → (stop ≡ Wanting → after.output ≡ before.output)
     → after.input ≡ before.input → after.errors ≡ before.errors → IsBlamed cause before after
-sending_blamed Stopped cause before after e fault memory input errors = subst (λ c. IsBlamed c before after) (sym e) (record { failed = inl (fault refl); input = input })
+sending_blamed Stopped cause before after e fault memory input errors = subst (λ c. IsBlamed c before after) (sym e) (record { failed = inl (fault refl); input = input; errors = omega (arith, errors) })
 sending_blamed Wanting cause before after e fault memory input errors = subst (λ c. IsBlamed c before after) (sym e) (record { input = input; output = memory refl; errors = errors })
 
 pub not_both : (t : Bool) → t ≡ true → t ≡ false → ⊥

@@ -5,7 +5,7 @@ use Rattle.std.proofs.lemmas.Option.{slice_get_past}
 use Rattle.mk_mailbox.specs.declared.from_lines.FromLines.{FromLines}
 use Rattle.mk_mailbox.specs.Devices.{IsFull, IsLong}
 use Rattle.mk_mailbox.specs.Held.{Held}
-use Rattle.mk_mailbox.specs.Mailboxes.{FitsReads, IsNextPiece, IsOver, chunk_bytes}
+use Rattle.mk_mailbox.specs.Mailboxes.{FitsReads, IsNextPiece, IsOver, read_limit}
 use Rattle.mk_mailbox.specs.Pieces.{mailbox_pieces}
 
 -- the messages of a text, and of what may follow it, are these and those of what is kept
@@ -83,8 +83,8 @@ picked_none way (Some x) (Some y) text done index c e n l =
 -- ---- reads
 
 -- a call gives no more bytes than it reads, and each read gives no more than a chunk
-pub counted_on : (start before reads now : ℕ) (m read : List ℕ) (old new : Held) → (start + length old.kept + chunk_bytes * before ≤ chunk_bytes * reads) ⊎ IsFull reads → FitsReads read reads now → IsNextPiece m old read new
-    → ((start + length m) + length new.kept + chunk_bytes * before ≤ chunk_bytes * now) ⊎ IsFull now
+pub counted_on : (start before reads now : ℕ) (m read : List ℕ) (old new : Held) → (start + length old.kept + read_limit * before ≤ read_limit * reads) ⊎ IsFull reads → FitsReads read reads now → IsNextPiece m old read new
+    → ((start + length m) + length new.kept + read_limit * before ≤ read_limit * now) ⊎ IsFull now
 counted_on start before reads now m read old new c f p =
     let sizes : length (old.kept ++ read) ≡ length (m ++ new.kept) = ap length p.whole in
     elim f [
@@ -95,7 +95,7 @@ counted_on start before reads now m read old new c f p =
       ]
     ]
 
-pub long_on : (start kept before reads now : ℕ) → (start + kept + chunk_bytes * before ≤ chunk_bytes * reads) ⊎ IsFull reads → IsLong reads now → IsLong before now
+pub long_on : (start kept before reads now : ℕ) → (start + kept + read_limit * before ≤ read_limit * reads) ⊎ IsFull reads → IsLong reads now → IsLong before now
 long_on start kept before reads now c h =
     elim h [
       | inr full ↦ inr full
@@ -106,16 +106,16 @@ long_on start kept before reads now c h =
     ]
 
 -- the same of the reads alone
-pub counted_kept : (before reads now : ℕ) (m read : List ℕ) (old new : Held) → (0 + length old.kept + chunk_bytes * before ≤ chunk_bytes * reads) ⊎ IsFull reads → FitsReads read reads now → IsNextPiece m old read new
-    → (0 + length new.kept + chunk_bytes * before ≤ chunk_bytes * now) ⊎ IsFull now
+pub counted_kept : (before reads now : ℕ) (m read : List ℕ) (old new : Held) → (0 + length old.kept + read_limit * before ≤ read_limit * reads) ⊎ IsFull reads → FitsReads read reads now → IsNextPiece m old read new
+    → (0 + length new.kept + read_limit * before ≤ read_limit * now) ⊎ IsFull now
 counted_kept before reads now m read old new c f p =
     elim (counted_on 0 before reads now m read old new c f p) [
       | inl less ↦ inl (omega (arith, less))
       | inr full ↦ inr full
     ]
 
-pub counted_on_to : (start end before reads now : ℕ) (m read : List ℕ) (old new : Held) → (start + length old.kept + chunk_bytes * before ≤ chunk_bytes * reads) ⊎ IsFull reads → FitsReads read reads now → IsNextPiece m old read new
-    → end ≡ start + length m → (end + length new.kept + chunk_bytes * before ≤ chunk_bytes * now) ⊎ IsFull now
+pub counted_on_to : (start end before reads now : ℕ) (m read : List ℕ) (old new : Held) → (start + length old.kept + read_limit * before ≤ read_limit * reads) ⊎ IsFull reads → FitsReads read reads now → IsNextPiece m old read new
+    → end ≡ start + length m → (end + length new.kept + read_limit * before ≤ read_limit * now) ⊎ IsFull now
 counted_on_to start end before reads now m read old new c f p e =
     elim (counted_on start before reads now m read old new c f p) [
       | inl less ↦ inl (omega (arith, less, e))

@@ -1,2 +1,3 @@
 pub mod MessageLines
 pub mod TakenOut
+pub mod MessageLaws

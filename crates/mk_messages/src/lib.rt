@@ -13,6 +13,7 @@
 #![tactic(auto)]
 
 mod in_memory;
+pub mod laws;
 mod listing;
 mod picking;
 mod taken_out;

@@ -1,6 +1,7 @@
 //! The messages of a mailbox, listed.
 ghost use Rattle.std.specs.Prelude.{◌≡◌, ◌<◌, ◌+◌, ◌^◌, [], List, ℕ, length, true, false, IfErr, IfOk, MatchResult, OnErr, OnOk};
 ghost use Rattle.std.specs.Io.KnownBytes.{Appends, Consumes, IsAtEnd};
+ghost use Rattle.mk_line.specs.Meters.{ticked};
 ghost use Rattle.mk_mailbox.specs.Devices.{AppendsFront};
 ghost use Rattle.mk_messages.specs.MessageLines.{mailbox_listing, message_line as line_of, section_count};
 ghost use Rattle.mk_transfer.specs.RunClauses.{IsBlamed, SameFailures, Sends, counts};
@@ -32,8 +33,8 @@ pub fn try_messages<S: Source, O: Sink>(
     ensures clean { OnOk result (SameFailures
         (counts (S.failures input.old) (S.read_count input.old) (O.failures out.old) 0)
         (counts (S.failures input.new) (S.read_count input.new) (O.failures out.new) 0)) }
-    ensures finished { OnOk result (O.finished out.new ≡ true) }
-    ensures unfinished { OnErr result (O.finished out.new ≡ O.finished out.old) }
+    ensures finished { OnOk result (O.finishes out.new ≡ ticked (O.finishes out.old)) }
+    ensures unfinished { OnErr result (O.finishes out.new ≡ O.finishes out.old) }
 {
     list_each(alloc, input, out, from_lines)?;
     match finish(out) {
@@ -60,7 +61,7 @@ fn list_each<S: Source, O: Sink>(
     ensures clean { OnOk result (SameFailures
         (counts (S.failures input.old) (S.read_count input.old) (O.failures out.old) 0)
         (counts (S.failures input.new) (S.read_count input.new) (O.failures out.new) 0)) }
-    ensures unfinished { O.finished out.new ≡ O.finished out.old }
+    ensures unfinished { O.finishes out.new ≡ O.finishes out.old }
 {
     list_in(
         alloc,
@@ -93,7 +94,7 @@ fn list_in<S: Source, O: Sink>(
     ensures clean { OnOk result (SameFailures
         (counts (S.failures input.old) (S.read_count input.old) (O.failures out.old) 0)
         (counts (S.failures input.new) (S.read_count input.new) (O.failures out.new) 0)) }
-    ensures unfinished { O.finished out.new ≡ O.finished out.old }
+    ensures unfinished { O.finishes out.new ≡ O.finishes out.old }
 {
     let mut start = 0u64;
     for turn in 0..u64::MAX {
@@ -126,7 +127,7 @@ fn list_message<O: Sink>(
     requires { start + length message.items < 2 ^ 64 }
     ensures sends { Sends result (line_of number start message.items)
         (O.contents out.old) (O.contents out.new) (O.failures out.old) (O.failures out.new) }
-    ensures unfinished { O.finished out.new ≡ O.finished out.old }
+    ensures unfinished { O.finishes out.new ≡ O.finishes out.old }
 {
     match message_line(alloc, number, start, message) {
         Ok(line) => send(out, &line),

@@ -1,4 +1,5 @@
 -- Bytes written with percent signs (RFC 2231, 7: ext-octet and attribute-char).
+use Rattle.mk_line.specs.Ascii.{asterisk}
 use Rattle.std.specs.Prelude.{◌==◌, ◌&&◌, ◌||◌, ◌/◌, ◌%◌, if◌then◌else◌, ℕ, Bool, not, List, [], ◌∷◌, Option, Some, None}
 use Rattle.std.specs.List.{flat_map}
 use Rattle.mk_head.specs.Values.{is_token_byte}
@@ -13,12 +14,8 @@ percent_sign = 37
 abbrev pub apostrophe : ℕ
 apostrophe = 39
 
--- b'*'
-abbrev pub asterisk : ℕ
-asterisk = 42
-
--- `%` and two hexadecimal digits of either case (lower case is own) are a byte, `%` alone is nothing, and other bytes stand
--- for themselves (RFC 2231, 7)
+-- `%` and two hexadecimal digits of either case (lower case is own) are a byte, `%` without them is invalid, and other bytes
+-- stand for themselves (RFC 2231, 7)
 abbrev pub percent_decoded : List ℕ → Option (List ℕ)
 percent_decoded [] = Some []
 percent_decoded (byte ∷ []) = if byte == percent_sign then None else Some (byte ∷ [])

@@ -1,7 +1,7 @@
 -- The segments of a value that several parameters hold together (RFC 2231, 3 and 4.1).
 use Rattle.std.specs.Prelude.{◌++◌, ℕ, zero, suc, List, [], ◌∷◌, Option, Some, None, decimal}
 use Rattle.std.specs.Option.{option_map, option_or}
-use Rattle.mk_param.specs.Percents.{asterisk}
+use Rattle.mk_line.specs.Ascii.{asterisk}
 
 -- a segment: its value stands as it is, or with percent signs
 pub data Segment : Type 0 where

@@ -1,5 +1,5 @@
 //! Bytes with percent signs, read and written (RFC 2231, 7).
-ghost use Rattle.std.specs.Prelude.{◌≡◌, ◌<◌, ◌≤◌, ◌++◌, true, length, IfOk, IfSome, IsSome, MatchOption, OnOk, option_map};
+ghost use Rattle.std.specs.Prelude.{◌≡◌, ◌<◌, ◌≤◌, ◌++◌, true, length, IfOk, IfSome, IsSome, MatchOption, OnErr, OnOk, option_map};
 ghost use Rattle.mk_code.specs.EncodedWords.{put_before};
 ghost use Rattle.mk_code.specs.QuotedPrintable.{digit_value as value_of, hex_digit as digit_of, is_hex_digit as hex, pair_at};
 ghost use Rattle.mk_param.specs.Percents.{byte_encoded, is_attribute_byte as attribute_byte, percent_decoded, percent_encoded};
@@ -87,19 +87,26 @@ fn digit_value(byte: u8) -> u8
     byte % 16 + byte / 64 * 9
 }
 
-/// Appends bytes, with percent signs where they can't stand for themselves in a value with a charset.
+/// Appends bytes, with percent signs where they can't stand for themselves in a value with a charset. After an error the text
+/// is as before.
 pub fn push_percent(text: &mut Vec<u8>, bytes: &[u8]) -> Result<(), AllocError>
-    ensures { OnOk result (text.new.items ≡ text.old.items ++ percent_encoded bytes.now) }
+    ensures appended { OnOk result (text.new.items ≡ text.old.items ++ percent_encoded bytes.now) }
+    ensures unchanged { OnErr result (text.new.items ≡ text.old.items) }
 {
+    let size = text.len();
     for byte in bytes {
-        push_byte(text, *byte)?;
+        if let Err(error) = push_byte(text, *byte) {
+            text.truncate(size);
+            return Err(error);
+        }
     }
     Ok(())
 }
 
 // Appends a byte as itself, or as a percent sign and two digits.
 fn push_byte(text: &mut Vec<u8>, byte: u8) -> Result<(), AllocError>
-    ensures { OnOk result (text.new.items ≡ text.old.items ++ byte_encoded byte) }
+    ensures appended { OnOk result (text.new.items ≡ text.old.items ++ byte_encoded byte) }
+    ensures unchanged { OnErr result (text.new.items ≡ text.old.items) }
 {
     if is_attribute_byte(byte) {
         text.extend_from_slice(&[byte])

@@ -14,7 +14,8 @@ use Rattle.mk_decide.specs.EditSplices.{splices_of}
 use Rattle.mk_decide.specs.Outcomes.{edited}
 use Rattle.mk_edit.specs.Groups.{Together, following, made_on, together}
 use Rattle.mk_edit.specs.History.{History}
-use Rattle.mk_edit.specs.Histories.{AreLinked, IsHistory, edited_by, grouped_by, left_by, step, text_now, with_step}
+use Rattle.mk_edit.specs.Histories.{AreLinked, IsHistory, edited_by, grouped_by, step, text_now, with_step}
+use Rattle.std.specs.Result.{result_unwrap_or}
 use Rattle.mk_edit.proofs.GroupFacts.{groups_read_back_lem}
 use Rattle.mk_edit.proofs.Leading.{histories_stay_lem}
 use Rattle.mk_expand.specs.declared.errors.WordError.{WordError}
@@ -102,7 +103,7 @@ left_read es old new v m =
 pub left_valid : (es : List PlainEdit) (old new : History) → IsHistory old → MadeSo es old new → IsHistory new
 left_valid es old new v m =
     let done : step (Group es) old ≡ Ok new = ap (grouped_by old) m.made ∙ ap (λ h. Ok h) (sym m.left) in
-    subst IsHistory (ap (left_by old) done) (histories_stay_lem old (Group es ∷ []) v)
+    subst IsHistory (ap (λ (r : Result History Refusal). result_unwrap_or r old) done) (histories_stay_lem old (Group es ∷ []) v)
 
 -- ---- edits of a word
 

@@ -2,6 +2,5 @@ pub mod Faults
 pub mod Journaling
 pub mod JournalRuns
 pub mod Runs
-pub mod Scripts
 pub mod WordSteps
 pub mod inner

@@ -1,4 +1,5 @@
 -- What a run of a script on a message is (own).
+use Rattle.std.specs.Result.{result_unwrap_or}
 use Rattle.std.specs.Prelude.{if◌then◌else◌, ℕ, List, [], ◌∷◌, ◌++◌, Result, Ok, Err, length}
 use Rattle.mk_line.specs.Lines.{is_nil}
 use Rattle.mk_decide.specs.Edits.{Undo, Redo, Refusal}
@@ -27,11 +28,6 @@ outcome_of pieces (Groups words) h = words_step pieces words h
 outcome_of pieces (TakesBack number) h = ordered_at number (step Undo h)
 outcome_of pieces (MakesAgain number) h = ordered_at number (step Redo h)
 
--- a refused step changes nothing
-abbrev pub left_by : History → Result History StepRefusal → History
-left_by h (Ok g) = g
-left_by h (Err r) = h
-
 -- the line that reports why a step is refused
 abbrev pub refusal_line : StepRefusal → List ℕ
 refusal_line (EditRefused number path reason) = error_line number path reason
@@ -49,12 +45,12 @@ reported pieces s h = report_of (outcome_of pieces s h)
 -- the history after steps that are done in turn
 abbrev pub history_after : Pieces → List ScriptStep → History → History
 history_after pieces [] h = h
-history_after pieces (s ∷ ss) h = history_after pieces ss (left_by h (outcome_of pieces s h))
+history_after pieces (s ∷ ss) h = history_after pieces ss (result_unwrap_or (outcome_of pieces s h) h)
 
 -- the lines that report the refusals among steps that are done in turn
 abbrev pub errors_of : Pieces → List ScriptStep → History → List ℕ
 errors_of pieces [] h = []
-errors_of pieces (s ∷ ss) h = reported pieces s h ++ errors_of pieces ss (left_by h (outcome_of pieces s h))
+errors_of pieces (s ∷ ss) h = reported pieces s h ++ errors_of pieces ss (result_unwrap_or (outcome_of pieces s h) h)
 
 -- a run of a script, and the journal that it leaves
 pub record ScriptRun : Type 0 where

@@ -1,17 +1,17 @@
 //! The run of a script on a message, over any devices.
 
-ghost use Rattle.std.specs.Prelude.{◌≡◌, ◌≢◌, ◌⊎◌, true, false, [], length, map, Ok, IfOk, IfErr, OnOk, OnErr};
+ghost use Rattle.std.specs.Prelude.{◌≡◌, ◌≢◌, ◌≤◌, ◌⊎◌, true, false, [], length, map, Ok, IfOk, IfErr, OnOk, OnErr};
 ghost use Rattle.std.specs.Io.KnownBytes.{Appends, Keeps};
+ghost use Rattle.mk_line.specs.Meters.{ticked};
 ghost use Rattle.mk_mailbox.specs.Devices.{AppendsFront, Rose};
 ghost use Rattle.mk_expand.specs.Pieces.{as_given};
 ghost use Rattle.mk_expand.specs.Views.{pieces_of};
-ghost use Rattle.mk_script.specs.ScriptViews.{step_by, texts_of};
+ghost use Rattle.mk_script.specs.ScriptViews.{step_by, items_of};
 ghost use Rattle.mk_run.specs.Journaling.{journaling_of};
-ghost use Rattle.mk_run.specs.JournalRuns.{LeavesRun, LeavesSteps, Prints, SinkFailed};
-ghost use Rattle.mk_run.specs.Runs.{run_from};
-ghost use Rattle.mk_run.specs.Scripts.{steps_asked};
+ghost use Rattle.mk_run.specs.JournalRuns.{LeavesOpen, LeavesRun, LeavesSteps, Prints, SinkFailed, StaysOpen, finished};
+ghost use Rattle.mk_run.specs.Runs.{run_from, run_of, run_steps as run_steps_of};
+ghost use Rattle.mk_script.specs.Reasons.{steps_of};
 ghost use Rattle.mk_transfer.specs.RunClauses.{held, counts, reason_with, IsBlamedWith, SameFailures, ReadFailed, ends_itself};
-ghost use Rattle.mk_run.specs.inner.Keeping.{bytes_kept};
 ghost use Rattle.mk_run.specs.inner.Sessions.{LeavesSession, sunk};
 
 use crate::journaling::{Journal, begin, is_memory, journal_of};
@@ -40,10 +40,10 @@ pub fn run_edit<S: Source, O: Sink, E: Sink, J: Sink>(
 ) -> Status
     ensures leaves { let before = counts (S.failures input.old) (S.read_count input.old) (O.failures out.old) (E.failures err.old) in
         let after = counts (S.failures input.new) (S.read_count input.new) (O.failures out.new) (E.failures err.new) in
-        LeavesRun (reason_with before after (J.failures jout.old) (J.failures jout.new)) result (as_given (texts_of pieces.now)) (journaling_of journal.entry) script.now
+        LeavesRun (reason_with before after (J.failures jout.old) (J.failures jout.new)) result (as_given (items_of pieces.now)) (journaling_of journal.entry) script.now
         (held (S.remaining input.old) (O.contents out.old) (E.contents err.old))
         (held (S.remaining input.new) (O.contents out.new) (E.contents err.new))
-        (J.contents jout.old) (J.contents jout.new) (J.finished jout.new) }
+        (J.contents jout.old) (J.contents jout.new) (J.finishes jout.old) (J.finishes jout.new) }
 
     // A fault is answered only if a device failed, or if so much was read that reading was given up.
     ensures blamed { result ≡ Status.Fault →
@@ -57,11 +57,16 @@ pub fn run_edit<S: Source, O: Sink, E: Sink, J: Sink>(
         (counts (S.failures input.new) (S.read_count input.new) (O.failures out.new) (E.failures err.new)) }
     ensures kept { ends_itself result ≡ true → J.failures jout.new ≡ J.failures jout.old }
 
-    // The output is finished if the message goes out. Otherwise it isn't, unless finishing the journal fails after it.
+    // The output is finished if the message goes out. A run that is given up finishes neither device, unless the whole journal
+    // has gone out and its device fails last.
     ensures prints { Prints result (journaling_of journal.entry)
         (held (S.remaining input.old) (O.contents out.old) (E.contents err.old))
-        (held (S.remaining input.new) (O.contents out.new) (E.contents err.new)) (O.finished out.old) (O.finished out.new) }
-    ensures unfinished { ends_itself result ≡ false → (O.finished out.new ≡ O.finished out.old) ⊎ Rose (J.failures jout.old) (J.failures jout.new) }
+        (held (S.remaining input.new) (O.contents out.new) (E.contents err.new)) (O.finishes out.old) (O.finishes out.new) }
+    ensures unfinished { ends_itself result ≡ false → LeavesOpen (λ message. run_of (as_given (items_of pieces.now)) (journaling_of journal.entry) message script.now)
+        (held (S.remaining input.old) (O.contents out.old) (E.contents err.old))
+        (held (S.remaining input.new) (O.contents out.new) (E.contents err.new))
+        (J.contents jout.old) (J.contents jout.new) (J.failures jout.old) (J.failures jout.new)
+        (finished (O.finishes out.old) (J.finishes jout.old)) (finished (O.finishes out.new) (J.finishes jout.new)) }
 {
     let script = Script {
         text: script,
@@ -89,10 +94,10 @@ pub fn try_edit<S: Source, O: Sink, E: Sink, J: Sink>(
     journal: Journal<'_>,
     jout: &mut J,
 ) -> Result<Status, Cause>
-    ensures leaves { LeavesSteps result (pieces_of pieces.entry) (journaling_of journal.entry) (steps_asked script.entry.as_one (length pieces.entry.texts.now) script.entry.text.now)
+    ensures leaves { LeavesSteps result (pieces_of pieces.entry) (journaling_of journal.entry) (steps_of script.entry.as_one (length pieces.entry.texts.now) script.entry.text.now)
         (held (S.remaining input.old) (O.contents out.old) (E.contents err.old))
         (held (S.remaining input.new) (O.contents out.new) (E.contents err.new))
-        (J.contents jout.old) (J.contents jout.new) (J.finished jout.new) }
+        (J.contents jout.old) (J.contents jout.new) (J.finishes jout.old) (J.finishes jout.new) }
     ensures ended { IfOk result (λ status. ends_itself status ≡ true) }
     ensures blamed { IfErr result (λ cause. IsBlamedWith cause
         (counts (S.failures input.old) (S.read_count input.old) (O.failures out.old) (E.failures err.old))
@@ -104,8 +109,12 @@ pub fn try_edit<S: Source, O: Sink, E: Sink, J: Sink>(
     ensures kept { OnOk result (J.failures jout.new ≡ J.failures jout.old) }
     ensures prints { IfOk result (λ status. Prints status (journaling_of journal.entry)
         (held (S.remaining input.old) (O.contents out.old) (E.contents err.old))
-        (held (S.remaining input.new) (O.contents out.new) (E.contents err.new)) (O.finished out.old) (O.finished out.new)) }
-    ensures unfinished { OnErr result ((O.finished out.new ≡ O.finished out.old) ⊎ Rose (J.failures jout.old) (J.failures jout.new)) }
+        (held (S.remaining input.new) (O.contents out.new) (E.contents err.new)) (O.finishes out.old) (O.finishes out.new)) }
+    ensures unfinished { OnErr result (LeavesOpen (λ message. run_steps_of (pieces_of pieces.entry) (journaling_of journal.entry) message (steps_of script.entry.as_one (length pieces.entry.texts.now) script.entry.text.now))
+        (held (S.remaining input.old) (O.contents out.old) (E.contents err.old))
+        (held (S.remaining input.new) (O.contents out.new) (E.contents err.new))
+        (J.contents jout.old) (J.contents jout.new) (J.failures jout.old) (J.failures jout.new)
+        (finished (O.finishes out.old) (J.finishes jout.old)) (finished (O.finishes out.new) (J.finishes jout.new))) }
 {
     match script.steps(alloc, pieces.texts.len()) {
         Ok(steps) => run_steps(alloc, input, out, err, steps, pieces, journal, jout),
@@ -131,7 +140,7 @@ fn run_steps<S: Source, O: Sink, E: Sink, J: Sink>(
     ensures leaves { LeavesSteps result (pieces_of pieces.entry) (journaling_of journal.entry) (Ok (map step_by steps.items))
         (held (S.remaining input.old) (O.contents out.old) (E.contents err.old))
         (held (S.remaining input.new) (O.contents out.new) (E.contents err.new))
-        (J.contents jout.old) (J.contents jout.new) (J.finished jout.new) }
+        (J.contents jout.old) (J.contents jout.new) (J.finishes jout.old) (J.finishes jout.new) }
     ensures ended { IfOk result (λ status. ends_itself status ≡ true) }
     ensures blamed { IfErr result (λ cause. IsBlamedWith cause
         (counts (S.failures input.old) (S.read_count input.old) (O.failures out.old) (E.failures err.old))
@@ -143,8 +152,12 @@ fn run_steps<S: Source, O: Sink, E: Sink, J: Sink>(
     ensures kept { OnOk result (J.failures jout.new ≡ J.failures jout.old) }
     ensures prints { IfOk result (λ status. Prints status (journaling_of journal.entry)
         (held (S.remaining input.old) (O.contents out.old) (E.contents err.old))
-        (held (S.remaining input.new) (O.contents out.new) (E.contents err.new)) (O.finished out.old) (O.finished out.new)) }
-    ensures unfinished { OnErr result ((O.finished out.new ≡ O.finished out.old) ⊎ Rose (J.failures jout.old) (J.failures jout.new)) }
+        (held (S.remaining input.new) (O.contents out.new) (E.contents err.new)) (O.finishes out.old) (O.finishes out.new)) }
+    ensures unfinished { OnErr result (LeavesOpen (λ message. run_steps_of (pieces_of pieces.entry) (journaling_of journal.entry) message (Ok (map step_by steps.items)))
+        (held (S.remaining input.old) (O.contents out.old) (E.contents err.old))
+        (held (S.remaining input.new) (O.contents out.new) (E.contents err.new))
+        (J.contents jout.old) (J.contents jout.new) (J.failures jout.old) (J.failures jout.new)
+        (finished (O.finishes out.old) (J.finishes jout.old)) (finished (O.finishes out.new) (J.finishes jout.new))) }
 {
     let message = match read_all(alloc, input) {
         Ok(message) => message,
@@ -177,26 +190,28 @@ fn run_session<O: Sink, E: Sink, J: Sink>(
 ) -> Result<Status, Cause>
     ensures leaves { LeavesSession result (run_from (pieces_of pieces.entry) (map step_by steps.items) (journaling_of journal.entry) session)
         (sunk (O.contents out.old) (E.contents err.old) (J.contents jout.old))
-        (sunk (O.contents out.new) (E.contents err.new) (J.contents jout.new)) (J.finished jout.new) }
+        (sunk (O.contents out.new) (E.contents err.new) (J.contents jout.new)) (J.finishes jout.old) (J.finishes jout.new) }
     ensures blamed { IfErr result (λ cause. cause ≡ Cause.Write →
         Rose (O.failures out.old) (O.failures out.new) ⊎ Rose (E.failures err.old) (E.failures err.new) ⊎ Rose (J.failures jout.old) (J.failures jout.new)) }
     ensures memory { IfErr result (λ cause. cause ≡ Cause.Memory →
         (O.failures out.new ≡ O.failures out.old) × (E.failures err.new ≡ E.failures err.old) × (J.failures jout.new ≡ J.failures jout.old)) }
     ensures printed { OnOk result (O.failures out.new ≡ O.failures out.old) }
     ensures told { OnOk result (E.failures err.new ≡ E.failures err.old) }
+    ensures counted { E.failures err.old ≤ E.failures err.new }
     ensures kept { OnOk result (J.failures jout.new ≡ J.failures jout.old) }
-    ensures finishes { OnOk result (O.finished out.new ≡ true) }
-    ensures unfinished { OnErr result ((O.finished out.new ≡ O.finished out.old) ⊎ Rose (J.failures jout.old) (J.failures jout.new)) }
+    ensures finishes { OnOk result (O.finishes out.new ≡ ticked (O.finishes out.old)) }
+    ensures unfinished { OnErr result (StaysOpen (run_from (pieces_of pieces.entry) (map step_by steps.items) (journaling_of journal.entry) session).journal (J.contents jout.old) (J.contents jout.new) (J.failures jout.old) (J.failures jout.new)
+        (finished (O.finishes out.old) (J.finishes jout.old)) (finished (O.finishes out.new) (J.finishes jout.new))) }
 {
     let refused = match do_steps(alloc, &mut session, err, steps, pieces) {
         Ok(refused) => refused,
         Err(stop) => return Err(writing(stop)),
     };
-    let kept = match journal_of(&session, journal) {
+    let kept = match journal_of(alloc, &session, journal) {
         Ok(kept) => kept,
         Err(AllocError) => return Err(Cause::Memory),
     };
-    match print(out, session.text(), jout, kept) {
+    match print(out, session.text(), jout, &kept) {
         Ok(()) => Ok(if refused {
             Status::Refused
         } else {
@@ -206,31 +221,33 @@ fn run_session<O: Sink, E: Sink, J: Sink>(
     }
 }
 
-// Writes the message, and after it the journal; then finishes them in that order.
+// Writes the message, and after it the journal, where there is one; then finishes them in that order.
 fn print<O: Sink, J: Sink>(
     out: &mut O,
     text: &[u8],
     jout: &mut J,
-    kept: Option<Vec<u8>>,
+    journal: &[u8],
 ) -> Result<(), Stop>
     ensures output { OnOk result (Appends (O.contents out.old) (O.contents out.new) text.now) }
-    ensures journal { OnOk result (Appends (J.contents jout.old) (J.contents jout.new) (bytes_kept kept)) }
-    ensures stands { OnOk result (bytes_kept kept ≢ [] → J.finished jout.new ≡ true) }
+    ensures journal { OnOk result (Appends (J.contents jout.old) (J.contents jout.new) journal.now) }
+    ensures stands { OnOk result (journal.now ≢ [] → J.finishes jout.new ≡ ticked (J.finishes jout.old)) }
+    ensures untouched { OnOk result (journal.now ≡ [] → J.finishes jout.new ≡ J.finishes jout.old) }
     ensures output_front { OnErr result (AppendsFront (O.contents out.old) (O.contents out.new) text.now) }
-    ensures journal_front { OnErr result (AppendsFront (J.contents jout.old) (J.contents jout.new) (bytes_kept kept)) }
+    ensures journal_front { OnErr result (AppendsFront (J.contents jout.old) (J.contents jout.new) journal.now) }
     ensures later { OnErr result (Keeps (J.contents jout.old) (J.contents jout.new) ⊎ Appends (O.contents out.old) (O.contents out.new) text.now) }
     ensures blamed { IfErr result (λ stop. stop ≡ Stop.Fault → Rose (O.failures out.old) (O.failures out.new) ⊎ Rose (J.failures jout.old) (J.failures jout.new)) }
     ensures only { IfErr result (λ stop. stop ≡ Stop.Fault) }
     ensures printed { OnOk result (O.failures out.new ≡ O.failures out.old) }
     ensures saved { OnOk result (J.failures jout.new ≡ J.failures jout.old) }
-    ensures finishes { OnOk result (O.finished out.new ≡ true) }
-    ensures unfinished { OnErr result ((O.finished out.new ≡ O.finished out.old) ⊎ Rose (J.failures jout.old) (J.failures jout.new)) }
+    ensures finishes { OnOk result (O.finishes out.new ≡ ticked (O.finishes out.old)) }
+    ensures unfinished { OnErr result (StaysOpen journal.now (J.contents jout.old) (J.contents jout.new) (J.failures jout.old) (J.failures jout.new)
+        (finished (O.finishes out.old) (J.finishes jout.old)) (finished (O.finishes out.new) (J.finishes jout.new))) }
 {
     send(out, text)?;
-    let Some(journal) = kept else {
+    if journal.is_empty() {
         return finish(out);
-    };
-    send(jout, &journal)?;
+    }
+    send(jout, journal)?;
     finish(out)?;
     finish(jout)
 }

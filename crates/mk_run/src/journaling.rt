@@ -2,7 +2,7 @@
 
 ghost use Rattle.std.specs.Prelude.{◌≡◌, Ok, Err, IfOk, IfErr, IfSome};
 ghost use Rattle.mk_run.specs.Journaling.{Anew, begun, journaling_of, left_journal, named_by};
-ghost use Rattle.mk_run.specs.inner.Keeping.{bytes_kept, says_memory};
+ghost use Rattle.mk_run.specs.inner.Keeping.{says_memory};
 
 use mk_edit::{LoadError, Session};
 use std::alloc::{AllocError, Global};
@@ -56,12 +56,16 @@ pub fn is_memory(error: LoadError) -> bool
     }
 }
 
-/// The journal that a run leaves, if it keeps one.
-pub fn journal_of(session: &Session, journal: Journal<'_>) -> Result<Option<Vec<u8>>, AllocError>
-    ensures { IfOk result (λ kept. bytes_kept kept ≡ left_journal (journaling_of journal.entry) session.now) }
+/// The journal that a run leaves: no byte where it keeps none.
+pub fn journal_of(
+    alloc: Global,
+    session: &Session,
+    journal: Journal<'_>,
+) -> Result<Vec<u8>, AllocError>
+    ensures { IfOk result (λ kept. kept.items ≡ left_journal (journaling_of journal.entry) session.now) }
 {
     match journal {
-        Journal::Off => Ok(None),
-        Journal::New | Journal::Old(_) => Ok(Some(session.save()?)),
+        Journal::Off => Ok(Vec::new(alloc)),
+        Journal::New | Journal::Old(_) => session.save(),
     }
 }

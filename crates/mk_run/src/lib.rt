@@ -37,8 +37,7 @@ pub use mk_field::{
 };
 pub use mk_show::{
     Folder, Manner, Portion, Report, Spec, UnpackOptions, laws, read_doc, run_extract, run_pack,
-    run_sections, try_extract, try_extract_as, try_pack, try_pack_in, try_sections, try_unpack,
-    try_unpack_in, try_unpack_with, unpack,
+    run_sections, try_extract, try_sections, try_unpack, unpack,
 };
 pub use mk_transfer::{Cause, Status, Stop, give_up, read_all, write_all};
 pub use report::report_invalid;

@@ -114,7 +114,7 @@ fn make_plain(
     let mut edits = Vec::with_capacity(alloc, words.len())?;
     let mut numbers = Vec::with_capacity(alloc, words.len())?;
     for NumberedWord { number, word } in words {
-        edits.push(plain_edit(alloc, session.doc(), word, pieces, eol)?)?;
+        edits.push(plain_edit(alloc, session.doc(), &word, pieces, eol)?)?;
         numbers.push(number)?;
     }
     match make_edits(session, &edits) {
@@ -135,13 +135,13 @@ fn make_plain(
 fn plain_edit(
     alloc: Global,
     doc: &Doc,
-    word: Word,
+    word: &Word,
     pieces: Pieces<'_>,
     eol: Ending,
 ) -> Result<Edit, AllocError>
-    requires plain { stands_alone (said_by word) ≡ true }
+    requires plain { stands_alone (said_by word.now) ≡ true }
     requires ends { eol ≢ Ending.Missing }
-    ensures { IfOk result (λ edit. meaning_of (pieces_of pieces.entry) eol (tree doc.now) (said_by word) ≡ Ok (edit_of edit ∷ [])) }
+    ensures { IfOk result (λ edit. meaning_of (pieces_of pieces.entry) eol (tree doc.now) (said_by word.now) ≡ Ok (edit_of edit ∷ [])) }
 {
     match edits_for(alloc, word, doc, pieces, eol) {
         Ok(mut edits) => match edits.pop() {
@@ -208,7 +208,7 @@ fn make_on(
     ensures { MakesWord result word.number (meaning_of (pieces_of pieces.entry) eol (tree (text_now session.old)) (said_by word.word)) session.old session.new }
 {
     let NumberedWord { number, word } = word;
-    let edits = match edits_for(alloc, word, session.doc(), pieces, eol) {
+    let edits = match edits_for(alloc, &word, session.doc(), pieces, eol) {
         Ok(edits) => edits,
         Err(fault) => return Err(StepError::Word { number, fault }),
     };

@@ -2,7 +2,7 @@
 
 ghost use Rattle.std.specs.Prelude.{◌≡◌, map, Ok, IfOk, IfErr};
 ghost use Rattle.mk_script.specs.ScriptViews.{step_by, Explains};
-ghost use Rattle.mk_run.specs.Scripts.{steps_asked};
+ghost use Rattle.mk_script.specs.Reasons.{steps_of};
 
 use mk_script::{ScriptError, Step, steps, steps_as_one};
 use std::alloc::Global;
@@ -19,12 +19,12 @@ pub struct Script<'a> {
 impl Script<'_> {
     ghost use Rattle.std.specs.Prelude.{◌≡◌, map, Ok, IfOk, IfErr};
     ghost use Rattle.mk_script.specs.ScriptViews.{step_by, Explains};
-    ghost use Rattle.mk_run.specs.Scripts.{steps_asked};
+    ghost use Rattle.mk_script.specs.Reasons.{steps_of};
 
     /// Its steps, if it is given this many pieces.
     pub(crate) fn steps(&self, alloc: Global, pieces: usize) -> Result<Vec<Step>, ScriptError>
-        ensures read { IfOk result (λ all. steps_asked self.now.as_one pieces self.now.text.now ≡ Ok (map step_by all.items)) }
-        ensures refused { IfErr result (λ e. Explains e (steps_asked self.now.as_one pieces self.now.text.now)) }
+        ensures read { IfOk result (λ all. steps_of self.now.as_one pieces self.now.text.now ≡ Ok (map step_by all.items)) }
+        ensures refused { IfErr result (λ e. Explains e (steps_of self.now.as_one pieces self.now.text.now)) }
     {
         if self.as_one {
             steps_as_one(alloc, self.text, pieces)

@@ -6,7 +6,8 @@ ghost use Rattle.mk_edit.specs.Answers.{Does};
 ghost use Rattle.mk_edit.specs.Histories.{step};
 ghost use Rattle.mk_edit.specs.History.{History};
 ghost use Rattle.mk_decide.specs.Edits.{Order};
-ghost use Rattle.mk_run.specs.Runs.{errors_of, history_after, left_by, ordered_at, outcome_of, reported};
+ghost use Rattle.mk_run.specs.Runs.{errors_of, history_after, ordered_at, outcome_of, reported};
+ghost use Rattle.std.specs.Result.{result_unwrap_or};
 ghost use Rattle.mk_run.specs.inner.Making.{DoesStep};
 ghost use Rattle.mk_transfer.specs.RunClauses.{Sends};
 ghost use Rattle.mk_expand.specs.Views.{pieces_of};
@@ -50,7 +51,7 @@ fn do_step<E: Sink>(
     step: Step,
     pieces: Pieces<'_>,
 ) -> Result<bool, Stop>
-    ensures done { OnOk result (session.new ≡ left_by session.old (outcome_of (pieces_of pieces.entry) (step_by step) session.old)) }
+    ensures done { OnOk result (session.new ≡ result_unwrap_or (outcome_of (pieces_of pieces.entry) (step_by step) session.old) session.old) }
     ensures refused { IfOk result (λ refused.
         refused ≡ not (is_nil (reported (pieces_of pieces.entry) (step_by step) session.old))) }
     ensures sends { Sends result (reported (pieces_of pieces.entry) (step_by step) session.old)

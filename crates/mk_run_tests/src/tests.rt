@@ -194,7 +194,12 @@ fn journal_of(row: &Row) -> Journal<'_> {
 fn check_journal(rt: &impl Abort, row: &Row, jout: &Page) {
     let left = row.bytes("left");
     assert_eq!(rt; jout.bytes(), left, "{}", row.shows);
-    assert_eq!(rt; jout.is_finished(), !left.is_empty(), "{}", row.shows);
+    assert_eq!(rt;
+        jout.finishes(),
+        u64::from(!left.is_empty()),
+        "{}",
+        row.shows
+    );
 }
 
 // The cells `piece` of a row.
@@ -217,10 +222,14 @@ fn check_left(
     out: &Page,
     err: &Page,
 ) -> Result<(), Fail> {
+    let ends_well = status == Status::Well;
     let status = format!(in alloc; "{status:?}")?;
     assert_eq!(rt; status.as_str(), row.text("status"), "{}", row.shows);
     assert_eq!(rt; out.bytes(), row.bytes("output"), "{}", row.shows);
     assert_eq!(rt; err.bytes(), row.bytes("errors"), "{}", row.shows);
+    if ends_well {
+        assert_eq!(rt; out.finishes(), 1, "{}", row.shows);
+    }
     Ok(())
 }
 

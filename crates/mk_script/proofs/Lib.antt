@@ -9,3 +9,5 @@ pub mod WrittenLemmas
 pub mod PieceWords
 pub mod PlacedWords
 pub mod JobWords
+pub mod TurnedLines
+pub mod ScriptsWritten

@@ -7,8 +7,8 @@ use Rattle.std.proofs.lemmas.Slice.Eq.{bytes_eq-Decides}
 use Rattle.std.specs.List.{list_any}
 use Rattle.std.specs.Option.{option_map, option_and_then}
 use Rattle.std.specs.Str.{bytes_eq}
-use Rattle.mk_line.specs.Ascii.{space}
-use Rattle.mk_script.specs.Paths.{dot, parted, number_of, path_of}
+use Rattle.mk_line.specs.Ascii.{space, full_stop}
+use Rattle.mk_script.specs.Paths.{parted, number_of, path_of}
 use Rattle.mk_script.specs.Targets.{Target, is_name, count_of, with_count, target_of, whole_target, before_rest, target_front}
 use Rattle.mk_script.specs.Written.{IsPath, written_path, IsTarget, written_target}
 use Rattle.mk_script.proofs.NumberLemmas.{some_same, none_some, number_of-decimal, number_of-written, decimal_digits}
@@ -63,7 +63,7 @@ name_holds (byte ∷ bytes) h = elim (cases_Bool (list_any (λ b. b == space) (b
 
 -- a path is written without spaces
 pub path_holds : (path : List ℕ) → IsPath path → HoldsNo space (written_path path)
-path_holds path h = HoldsNo-join space dot (map decimal path) (λ e. absurd (let bad : 46 ≡ 32 = e in omega arith)) (decimals_hold space path (omega arith) h.fit)
+path_holds path h = HoldsNo-join space full_stop (map decimal path) (λ e. absurd (let bad : 46 ≡ 32 = e in omega arith)) (decimals_hold space path (omega arith) h.fit)
 
 -- ---- a field
 

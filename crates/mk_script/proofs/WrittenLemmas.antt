@@ -4,7 +4,8 @@ use Rattle.std.proofs.lemmas.Bool.{cases_Bool, le-leb, leb-true}
 use Rattle.std.specs.List.{join_with_byte}
 use Rattle.std.specs.Option.{option_and_then}
 use Rattle.std.specs.Char.{digit_value}
-use Rattle.mk_script.specs.Paths.{dot, max_components, pieces_of, number_of, with_number, numbers_of, short_path, path_of}
+use Rattle.mk_script.specs.Paths.{max_components, pieces_of, number_of, with_number, numbers_of, short_path, path_of}
+use Rattle.mk_line.specs.Ascii.{full_stop}
 use Rattle.mk_script.specs.Written.{AreComponents, IsPath, written_path}
 use Rattle.mk_script.proofs.NumberLemmas.{some_same, none_some, number_of-decimal, number_of-written, decimal_digits}
 use Rattle.mk_script.proofs.PieceLemmas.{AllHoldNo, HoldsNo-digits, pieces_of-join, join-pieces_of, pieces_of-some, HasFirst}
@@ -42,25 +43,25 @@ has_some : (numbers : List ℕ) → HasFirst (map decimal numbers) → 0 < lengt
 has_some [] h = absurd h
 has_some (n ∷ ns) h = omega arith
 
-path_of-numbers : (text path : List ℕ) (numbers : Option (List ℕ)) → numbers_of (pieces_of dot text) ≡ numbers → option_and_then short_path numbers ≡ Some path
+path_of-numbers : (text path : List ℕ) (numbers : Option (List ℕ)) → numbers_of (pieces_of full_stop text) ≡ numbers → option_and_then short_path numbers ≡ Some path
     → IsPath path × (text ≡ written_path path)
 path_of-numbers text path None n e = absurd (none_some e)
 path_of-numbers text path (Some ns) n e = elim (cases_Bool (nat_le (length ns) max_components)) [
   | inr f ↦ absurd (none_some (rw f at e))
   | inl t ↦
       let same : ns ≡ path = some_same (rw t at e) in
-      let read = numbers_of-decimal (pieces_of dot text) ns n in
-      let some : HasFirst (map decimal ns) = subst HasFirst read.1 (pieces_of-some dot text) in
-      let is : text ≡ written_path ns = sym (join-pieces_of dot text) ∙ ap (join_with_byte dot) read.1 in
+      let read = numbers_of-decimal (pieces_of full_stop text) ns n in
+      let some : HasFirst (map decimal ns) = subst HasFirst read.1 (pieces_of-some full_stop text) in
+      let is : text ≡ written_path ns = sym (join-pieces_of full_stop text) ∙ ap (join_with_byte full_stop) read.1 in
       subst (λ all. IsPath all × (text ≡ written_path all)) same (record { some = has_some ns some; short = leb-true _ _ t; fit = read.0 }, is)
 ]
 
 pub path_of-decimal : (text path : List ℕ) → path_of text ≡ Some path → IsPath path × (text ≡ written_path path)
-path_of-decimal text path e = path_of-numbers text path (numbers_of (pieces_of dot text)) refl e
+path_of-decimal text path e = path_of-numbers text path (numbers_of (pieces_of full_stop text)) refl e
 
 pub path_of-written : (path : List ℕ) → IsPath path → path_of (written_path path) ≡ Some path
 path_of-written [] h = absurd (let bad : 0 < 0 = h.some in omega arith)
 path_of-written (n ∷ ns) h =
-    let pieces = pieces_of-join dot (decimal n) (map decimal ns) (decimals_hold dot (n ∷ ns) (omega arith) h.fit) in
+    let pieces = pieces_of-join full_stop (decimal n) (map decimal ns) (decimals_hold full_stop (n ∷ ns) (omega arith) h.fit) in
     let short : nat_le (length (n ∷ ns)) max_components ≡ true = le-leb _ _ h.short in
     rw (pieces, numbers_of-written (n ∷ ns) h.fit, short) refl

@@ -5,4 +5,5 @@ pub mod ScriptSteps
 pub mod ScriptViews
 pub mod Targets
 pub mod Written
+pub mod WrittenScripts
 pub mod Reasons

@@ -1,13 +1,10 @@
 -- How the path of a section is written (own): numbers from 1, without leading zeros, joined by dots.
+use Rattle.mk_line.specs.Ascii.{full_stop}
 use Rattle.std.specs.Prelude.{◌==◌, ◌&&◌, ◌+◌, ◌^◌, if◌then◌else◌, ℕ, nat_lt, nat_le, List, [], ◌∷◌, length, take, drop, Option, None, Some}
 use Rattle.std.specs.List.{list_all, position}
 use Rattle.std.specs.Option.{option_map, option_and_then}
 use Rattle.std.specs.Char.{is_digit}
 use Rattle.std.specs.Str.Parse.{digits_value_after}
-
--- b'.'
-abbrev pub dot : ℕ
-dot = 46
 
 -- b'0'
 abbrev pub zero_digit : ℕ
@@ -21,7 +18,7 @@ max_components = 101
 abbrev pub parted : ℕ → List ℕ → Option (List ℕ × List ℕ)
 parted separator text = option_map (λ n. (take n text, drop (n + 1) text)) (position (λ byte. byte == separator) text)
 
--- pieces of which the first gets one more byte at the start
+-- a byte before the first of some pieces
 abbrev pub onto_first_piece : ℕ → List (List ℕ) → List (List ℕ)
 onto_first_piece byte [] = (byte ∷ []) ∷ []
 onto_first_piece byte (piece ∷ pieces) = (byte ∷ piece) ∷ pieces
@@ -63,4 +60,4 @@ short_path numbers = if nat_le (length numbers) max_components then Some numbers
 
 -- the path that a text writes
 abbrev pub path_of : List ℕ → Option (List ℕ)
-path_of text = option_and_then short_path (numbers_of (pieces_of dot text))
+path_of text = option_and_then short_path (numbers_of (pieces_of full_stop text))

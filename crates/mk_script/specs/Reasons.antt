@@ -1,5 +1,6 @@
 -- Why a line of a script is invalid: the first thing that is wrong with it (own).
-use Rattle.std.specs.Prelude.{◌==◌, ◌-◌, if◌then◌else◌, ℕ, Bool, true, false, List, [], ◌∷◌, Option, None, Some, Result, Ok, Err, codes}
+use Rattle.std.specs.Prelude.{◌==◌, ◌-◌, if◌then◌else◌, ℕ, Bool, true, false, List, [], ◌∷◌, Option, None, Some, Result, Ok, Err, codes, is_some, not}
+use Rattle.std.specs.Result.{result_err}
 use Rattle.std.specs.List.{list_any}
 use Rattle.std.specs.Str.{bytes_eq}
 use Rattle.mk_line.specs.Ascii.{space}
@@ -45,17 +46,12 @@ arguments_of name =
     else (if bytes_eq name (codes "set") then takes.Path ∷ takes.Name ∷ takes.Count ∷ takes.Text ∷ []
     else (if bytes_eq name (codes "insert") then takes.Path ∷ takes.Count ∷ takes.Piece ∷ [] else other_arguments_of name)))))
 
--- a value is there
-abbrev pub is_there : {X : Type 0} → Option X → Bool
-is_there None = false
-is_there (Some x) = true
-
 -- whether a text may stand for an argument that others follow
 abbrev pub is_argument : Argument → List ℕ → Bool
-is_argument takes.Path text = is_there (path_of text)
+is_argument takes.Path text = is_some (path_of text)
 is_argument takes.Name text = is_name text
 is_argument takes.FieldName text = is_field_name text
-is_argument takes.Count text = is_there (count_of text)
+is_argument takes.Count text = is_some (count_of text)
 is_argument takes.Paths text = true
 is_argument takes.Piece text = true
 is_argument takes.Encoding text = true
@@ -68,7 +64,7 @@ fault_of takes.Paths text = BadPath
 fault_of takes.Name text = Spaces
 fault_of takes.FieldName text = BadFieldName
 fault_of takes.Count text = BadNumber
-fault_of takes.Piece text = if is_there (number_of text) then NoSuchPiece else BadNumber
+fault_of takes.Piece text = if is_some (number_of text) then NoSuchPiece else BadNumber
 fault_of takes.Encoding text = BadEncoding
 fault_of takes.Text text = Missing
 
@@ -109,14 +105,9 @@ arguments_fault (argument ∷ next ∷ others) text = fault_with argument (argum
 abbrev pub is_bare : List ℕ → Bool
 is_bare name = is_among name (codes "undo" ∷ codes "redo" ∷ codes "begin" ∷ codes "end" ∷ [])
 
--- whether there is a word that takes these
-abbrev pub are_taken : List Argument → Bool
-are_taken [] = false
-are_taken (argument ∷ others) = true
-
 -- a word without anything after it
 abbrev pub bare_fault : List ℕ → LineFault
-bare_fault name = if are_taken (arguments_of name) then Missing else UnknownWord
+bare_fault name = if not (is_nil (arguments_of name)) then Missing else UnknownWord
 
 -- what stands after the option of a word: `content` alone has one
 abbrev pub past_option : List ℕ → List ℕ → Option (List ℕ)
@@ -170,11 +161,6 @@ invalid_line as_one count script (Some number) =
     let line = line_text number (cut script) in
     Some (number, line_fault as_one (line_of count line) line)
 
--- the number of the first fault, where there is one
-abbrev pub number_of_fault : Result (List ScriptStep) ℕ → Option ℕ
-number_of_fault (Ok steps) = None
-number_of_fault (Err number) = Some number
-
 -- the steps of a script, or of one that is a group as a whole
 abbrev pub steps_of : Bool → ℕ → List ℕ → Result (List ScriptStep) ℕ
 steps_of false count script = script_of count script
@@ -182,4 +168,4 @@ steps_of true count script = script_as_one count script
 
 -- the first invalid line of a script that is given so many pieces, where there is one
 abbrev pub first_invalid : Bool → ℕ → List ℕ → Option (ℕ × LineFault)
-first_invalid as_one count script = invalid_line as_one count script (number_of_fault (steps_of as_one count script))
+first_invalid as_one count script = invalid_line as_one count script (result_err (steps_of as_one count script))

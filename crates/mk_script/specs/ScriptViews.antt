@@ -21,9 +21,9 @@ use Rattle.mk_script.specs.ScriptSteps.{ScriptStep, Makes, Groups, TakesBack, Ma
 abbrev pub picked_by : TargetIn → Target
 picked_by t = record { path = t.path.items; name = t.name.items; k = t.k }
 
--- paths in memory
-abbrev pub paths_in : List (Vec ℕ) → List (List ℕ)
-paths_in paths = map (λ v. v.items) paths
+-- lists in memory as plain data
+abbrev pub items_of : List (Vec ℕ) → List (List ℕ)
+items_of vs = map (λ v. v.items) vs
 
 -- what a word says
 abbrev pub said_by : Word → ScriptWord
@@ -34,7 +34,7 @@ said_by (Set target field) = Sets (picked_by target) field.items
 said_by (Body path piece) = Bodies path.items piece
 said_by (Replace path piece) = Replaces path.items piece
 said_by (Insert path place piece) = Inserts path.items place piece
-said_by (Remove paths) = Removes (paths_in paths.items)
+said_by (Remove paths) = Removes (items_of paths.items)
 said_by (Wrap path subtype boundary) = Wraps path.items subtype.items boundary.items
 said_by (Content path piece) = SetsContent path.items piece
 said_by (Text charset path piece) = SetsText charset.items path.items piece
@@ -58,10 +58,6 @@ line_by End = Ends
 -- a line with its number
 abbrev pub line_in : NumberedLineIn → NumberedLine
 line_in l = (l.number, option_map line_by l.said)
-
--- pieces in memory as texts
-abbrev pub texts_of : List (Vec ℕ) → List (List ℕ)
-texts_of pieces = map (λ v. v.items) pieces
 
 -- a word with the number of its line
 abbrev pub numbered : NumberedWord → ℕ × ScriptWord

@@ -1,10 +1,10 @@
 -- How the lines of a script are written. A line says something exactly where it is that as it is written (`laws`).
 use Rattle.std.specs.Prelude.{◌≡◌, ◌<◌, ◌≤◌, ◌^◌, ◌↔◌, if◌then◌else◌, true, ℕ, List, [], ◌∷◌, ◌++◌, Some, length, map, codes, decimal}
 use Rattle.std.specs.List.{join_with_byte}
-use Rattle.mk_line.specs.Ascii.{space}
+use Rattle.mk_line.specs.Ascii.{space, full_stop}
 use Rattle.mk_script.specs.declared.script.ChosenEncoding.{ChosenEncoding}
 use Rattle.mk_script.specs.declared.script.ChosenEncoding.TheVariants.{Qp, QuotedPrintable, Base64, EightBit, Identity}
-use Rattle.mk_script.specs.Paths.{dot, max_components}
+use Rattle.mk_script.specs.Paths.{max_components}
 use Rattle.mk_script.specs.Targets.{Target, is_field_name, is_name}
 use Rattle.mk_script.specs.Script.{ScriptWord, Adds, Deletes, Renames, Sets, Bodies, Replaces, Inserts, Removes, Wraps, SetsContent, SetsText, Encodes, Puts, PutsPiece, DropsAll, Appends, AppendsText, Attaches, AttachesText, ScriptLine, Edits, Undoes, Redoes, Begins, Ends, line_of}
 
@@ -21,7 +21,7 @@ pub record IsPath (path : List ℕ) : Type 0 where
 
 -- a path is written as its numbers, with dots between them
 abbrev pub written_path : List ℕ → List ℕ
-written_path path = join_with_byte dot (map decimal path)
+written_path path = join_with_byte full_stop (map decimal path)
 
 -- a field that may be picked
 pub record IsTarget (target : Target) : Type 0 where

@@ -3,7 +3,8 @@
 ghost use Rattle.std.specs.Prelude.{◌≡◌, ◌<◌, ◌==◌, ◌∷◌, length, option_copied, IfOk, IfSome};
 ghost use Rattle.std.specs.List.{position};
 ghost use Rattle.std.specs.Option.{option_map};
-ghost use Rattle.mk_script.specs.Paths.{dot, parted as parted_at, pieces_of, pieces_after, number_of, numbers_of, path_of};
+ghost use Rattle.mk_script.specs.Paths.{parted as parted_at, pieces_of, pieces_after, number_of, numbers_of, path_of};
+ghost use Rattle.mk_line.specs.Ascii.{full_stop};
 ghost use Rattle.mk_script.specs.Targets.{count_of};
 
 use std::alloc::{AllocError, Global};
@@ -51,7 +52,7 @@ pub fn path(alloc: Global, text: &[u8]) -> Result<Option<Vec<u32>>, AllocError>
 
 /// The numbers that a text writes: from 1, without leading zeros, joined by dots. `None` where it writes none.
 pub fn numbers(alloc: Global, text: &[u8]) -> Result<Option<Vec<u32>>, AllocError>
-    ensures { IfOk result (λ path. option_map (λ numbers. numbers.items) path ≡ numbers_of (pieces_of dot text.now)) }
+    ensures { IfOk result (λ path. option_map (λ numbers. numbers.items) path ≡ numbers_of (pieces_of full_stop text.now)) }
 {
     let mut numbers = Vec::new(alloc);
     let mut rest = text;

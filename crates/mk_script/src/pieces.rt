@@ -5,7 +5,7 @@ ghost use Rattle.mk_line.specs.Ascii.{space};
 ghost use Rattle.std.specs.Option.{option_map};
 ghost use Rattle.mk_script.specs.Script.{inserting, paths_of, piece_of, placed as placed_in, placing, removing, word_on, wrapping, Bodies, Replaces};
 ghost use Rattle.mk_script.specs.Paths.{pieces_of};
-ghost use Rattle.mk_script.specs.ScriptViews.{paths_in, said_by};
+ghost use Rattle.mk_script.specs.ScriptViews.{said_by, items_of};
 
 use crate::jobs::read_job;
 use crate::paths::{count, first_piece, number, parted, path};
@@ -126,7 +126,7 @@ fn read_remove(alloc: Global, rest: &[u8]) -> Result<Option<Word>, AllocError>
 
 // The paths that a text writes, parted by one space.
 fn paths(alloc: Global, text: &[u8]) -> Result<Option<Vec<Vec<u32>>>, AllocError>
-    ensures { IfOk result (λ found. option_map (λ v. paths_in v.items) found ≡ paths_of (pieces_of space text.now)) }
+    ensures { IfOk result (λ found. option_map (λ v. items_of v.items) found ≡ paths_of (pieces_of space text.now)) }
 {
     let mut all = Vec::new(alloc);
     let mut rest = text;

@@ -3,7 +3,8 @@
 ghost use Rattle.std.specs.Prelude.{◌≡◌, IfOk};
 ghost use Rattle.std.specs.Option.{option_map};
 ghost use Rattle.mk_line.specs.Lines.{cut as lines_of_text};
-ghost use Rattle.mk_script.specs.Reasons.{are_given_piece, are_given_text, arguments_fault as fault_of_arguments, arguments_of, bare_fault as fault_of_bare, begins_blank as begins_with_blank, fault_at as fault_there, fault_of as own_fault_of, first_invalid as first_invalid_line, given_fault as fault_of_given, is_argument as may_stand, is_bare as takes_nothing, last_fault as fault_of_last, line_text as text_of_line, number_of_fault, other_arguments_of as others_of, past_option, place_fault as fault_of_place, steps_of, word_arguments_fault as fault_of_word_arguments, word_fault as fault_of_word};
+ghost use Rattle.mk_script.specs.Reasons.{are_given_piece, are_given_text, arguments_fault as fault_of_arguments, arguments_of, bare_fault as fault_of_bare, begins_blank as begins_with_blank, fault_at as fault_there, fault_of as own_fault_of, first_invalid as first_invalid_line, given_fault as fault_of_given, is_argument as may_stand, is_bare as takes_nothing, last_fault as fault_of_last, line_text as text_of_line, other_arguments_of as others_of, past_option, place_fault as fault_of_place, steps_of, word_arguments_fault as fault_of_word_arguments, word_fault as fault_of_word};
+ghost use Rattle.std.specs.Result.{result_err};
 ghost use Rattle.mk_script.specs.ScriptViews.{line_by};
 
 use crate::groups::{ScriptError, steps, steps_as_one};
@@ -100,7 +101,7 @@ fn first_number(
     pieces: usize,
     as_one: bool,
 ) -> Result<Option<usize>, AllocError>
-    ensures { IfOk result (λ number. number ≡ number_of_fault (steps_of as_one pieces script.now)) }
+    ensures { IfOk result (λ number. number ≡ result_err (steps_of as_one pieces script.now)) }
 {
     let read = if as_one {
         steps_as_one(alloc, script, pieces)

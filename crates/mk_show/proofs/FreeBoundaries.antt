@@ -13,7 +13,7 @@ use Rattle.mk_splice.proofs.Decimals.{is_decimal}
 use Rattle.mk_splice.proofs.Hexes.{digest_good}
 use Rattle.mk_build.specs.Building.{Attached}
 use Rattle.mk_build.specs.Forwards.{Forwarded}
-use Rattle.mk_show.specs.FreeBoundary.{all_packed_with, are_clear, first_boundary, free_boundary, free_from, last_number, number_mark, numbered}
+use Rattle.mk_show.specs.FreeBoundary.{all_packed_with, are_clear, first_boundary, free_boundary, free_from, last_number, number_mark}
 use Rattle.mk_show.specs.OwnBoundary.{digits_kept, measured, measured_part, own_boundary}
 use Rattle.mk_show.proofs.OwnBoundaries.{AreHex, few, no_space, stands, taken}
 
@@ -22,7 +22,7 @@ unfolding last_number
 last_is = refl
 
 -- without messages it is the boundary of the fields and the parts
-at_once : (first : List ℕ) (more n : ℕ) → 0 < more → free_from first [] more n ≡ numbered first n
+at_once : (first : List ℕ) (more n : ℕ) → 0 < more → free_from first [] more n ≡ (first ++ number_mark n)
 at_once first zero n h = absurd (omega (arith, h))
 at_once first (suc more) n h = refl
 
@@ -34,28 +34,28 @@ free_own fields parts =
     ∙ ap (λ t. codes "=_" ++ take digits_kept (digest_of (flat_map measured fields ++ t))) (append_nil (flat_map measured_part parts)))
 
 -- one step of the search
-pub search_on : (first : List ℕ) (messages : List Forwarded) (n : ℕ) (goal_text : List ℕ) → n < last_number → are_clear (numbered first n) messages ≡ false → free_from first messages (last_number - n) n ≡ goal_text → free_from first messages (last_number - (n + 1)) (n + 1) ≡ goal_text
+pub search_on : (first : List ℕ) (messages : List Forwarded) (n : ℕ) (goal_text : List ℕ) → n < last_number → are_clear (first ++ number_mark n) messages ≡ false → free_from first messages (last_number - n) n ≡ goal_text → free_from first messages (last_number - (n + 1)) (n + 1) ≡ goal_text
 search_on first messages n goal_text h f e =
     let less : last_number - n ≡ suc (last_number - (n + 1)) = omega (arith, h) in
     let next : n + 1 ≡ suc n = omega arith in
     ap (free_from first messages (last_number - (n + 1))) next
-    ∙ (past (last_number - (n + 1)) (are_clear (numbered first n) messages) f ∙ (ap (λ m. free_from first messages m n) (sym less) ∙ e))
+    ∙ (past (last_number - (n + 1)) (are_clear (first ++ number_mark n) messages) f ∙ (ap (λ m. free_from first messages m n) (sym less) ∙ e))
   where
-    past : (m : ℕ) (t : Bool) → t ≡ false → free_from first messages m (suc n) ≡ (if t then numbered first n else free_from first messages m (suc n))
+    past : (m : ℕ) (t : Bool) → t ≡ false → free_from first messages m (suc n) ≡ (if t then (first ++ number_mark n) else free_from first messages m (suc n))
     past m t f = rw f refl
 
-pub search_ends : (first : List ℕ) (messages : List Forwarded) (n : ℕ) (goal_text : List ℕ) → n < last_number → are_clear (numbered first n) messages ≡ true → free_from first messages (last_number - n) n ≡ goal_text → numbered first n ≡ goal_text
+pub search_ends : (first : List ℕ) (messages : List Forwarded) (n : ℕ) (goal_text : List ℕ) → n < last_number → are_clear (first ++ number_mark n) messages ≡ true → free_from first messages (last_number - n) n ≡ goal_text → (first ++ number_mark n) ≡ goal_text
 search_ends first messages n goal_text h t e =
     let less : last_number - n ≡ suc (last_number - (n + 1)) = omega (arith, h) in
-    found (last_number - (n + 1)) (are_clear (numbered first n) messages) t ∙ (ap (λ m. free_from first messages m n) (sym less) ∙ e)
+    found (last_number - (n + 1)) (are_clear (first ++ number_mark n) messages) t ∙ (ap (λ m. free_from first messages m n) (sym less) ∙ e)
   where
-    found : (m : ℕ) (u : Bool) → u ≡ true → numbered first n ≡ (if u then numbered first n else free_from first messages m (suc n))
+    found : (m : ℕ) (u : Bool) → u ≡ true → (first ++ number_mark n) ≡ (if u then (first ++ number_mark n) else free_from first messages m (suc n))
     found m u t = rw t refl
 
-pub search_last : (first : List ℕ) (messages : List Forwarded) (n : ℕ) (goal_text : List ℕ) → n ≡ last_number → free_from first messages (last_number - n) n ≡ goal_text → numbered first last_number ≡ goal_text
+pub search_last : (first : List ℕ) (messages : List Forwarded) (n : ℕ) (goal_text : List ℕ) → n ≡ last_number → free_from first messages (last_number - n) n ≡ goal_text → (first ++ number_mark last_number) ≡ goal_text
 search_last first messages n goal_text is e =
     let none : last_number - n ≡ 0 = omega (arith, is) in
-    ap (numbered first) (sym is) ∙ (ap (λ m. free_from first messages m n) (sym none) ∙ e)
+    ap (λ n. first ++ number_mark n) (sym is) ∙ (ap (λ m. free_from first messages m n) (sym none) ∙ e)
 
 pub free_is : (fields : List (List ℕ)) (parts : List Attached) (messages : List Forwarded) (first : List ℕ) → first ≡ first_boundary fields parts messages → free_from first messages last_number 0 ≡ free_boundary fields parts messages
 unfolding free_boundary
@@ -66,10 +66,10 @@ either P true x y p q = p
 either P false x y p q = q
 
 -- what holds of each that is tried holds of the one that is found
-found_by : (P : List ℕ → Type 0) (first : List ℕ) (messages : List Forwarded) (more n : ℕ) → ((k : ℕ) → k ≤ n + more → P (numbered first k)) → P (free_from first messages more n)
+found_by : (P : List ℕ → Type 0) (first : List ℕ) (messages : List Forwarded) (more n : ℕ) → ((k : ℕ) → k ≤ n + more → P (first ++ number_mark k)) → P (free_from first messages more n)
 found_by P first messages zero n h = h n (omega arith)
 found_by P first messages (suc more) n h =
-    either P (are_clear (numbered first n) messages) (numbered first n) (free_from first messages more (suc n)) (h n (omega arith)) (found_by P first messages more (suc n) (λ k l. h k (omega (arith, l))))
+    either P (are_clear (first ++ number_mark n) messages) (first ++ number_mark n) (free_from first messages more (suc n)) (h n (omega arith)) (found_by P first messages more (suc n) (λ k l. h k (omega (arith, l))))
 
 -- bytes of a boundary, none a space
 abbrev ArePlain : List ℕ → Type 0

@@ -13,7 +13,7 @@ use Rattle.mk_line.specs.Marks.{dashed}
 use Rattle.mk_splice.specs.Grammar.{AreDigits}
 use Rattle.mk_build.specs.Building.{Attached}
 use Rattle.mk_build.specs.Forwards.{Forwarded, is_clear}
-use Rattle.mk_show.specs.FreeBoundary.{are_clear, first_boundary, free_boundary, free_from, last_number, line_count, numbered}
+use Rattle.mk_show.specs.FreeBoundary.{are_clear, first_boundary, free_boundary, free_from, last_number, line_count, number_mark}
 use Rattle.mk_show.proofs.FreeBoundaries.{decimal_digits, last_is, mark_is}
 
 -- digits before an underscore are told from what follows
@@ -28,7 +28,7 @@ same_digits (d ∷ ds) (c ∷ es) r s h k e = let rest = same_digits ds es r s h
 
 -- a line begins with a boundary of a number
 abbrev pub passes : List ℕ → ℕ → TextLine → Bool
-passes first n l = not (starts_with nat_eq l.content (dashed (numbered first n)))
+passes first n l = not (starts_with nat_eq l.content (dashed (first ++ number_mark n)))
 
 -- a number that counts
 abbrev pub Counts : ℕ → Type 0
@@ -38,10 +38,10 @@ not_false : (t : Bool) → not t ≡ false → t ≡ true
 not_false true e = refl
 not_false false e = absurd cc
 
-parted_so : (first : List ℕ) (n : ℕ) (content : List ℕ) → Counts n → starts_with nat_eq content (dashed (numbered first n)) ≡ true
+parted_so : (first : List ℕ) (n : ℕ) (content : List ℕ) → Counts n → starts_with nat_eq content (dashed (first ++ number_mark n)) ≡ true
     → (rest : List ℕ) × (content ≡ (45 ∷ 45 ∷ first) ++ (95 ∷ (decimal n ++ 95 ∷ rest)))
 parted_so first n content h t =
-    let p = dashed (numbered first n) in
+    let p = dashed (first ++ number_mark n) in
     let rest = drop (length p) content in
     let is = (starts_is Decides-eqb content p (starts_with nat_eq content p) refl).0 t in
     let mark = mark_is n (ne_eqb n 0 (λ e. absurd (omega (arith, e, h.0)))) in (
@@ -135,9 +135,9 @@ lines_counted : (messages : List Forwarded) → length (all_lines messages) ≡ 
 lines_counted [] = refl
 lines_counted (f ∷ messages) = length-append (cut f.text) (all_lines messages) ∙ ap (λ n. length (cut f.text) + n) (lines_counted messages)
 
-lines_clear : (first : List ℕ) (k : ℕ) (messages : List Forwarded) → list_all (passes first k) (all_lines messages) ≡ are_clear (numbered first k) messages
+lines_clear : (first : List ℕ) (k : ℕ) (messages : List Forwarded) → list_all (passes first k) (all_lines messages) ≡ are_clear (first ++ number_mark k) messages
 lines_clear first k [] = refl
-lines_clear first k (f ∷ messages) = list_all-append (passes first k) (cut f.text) (all_lines messages) ∙ ap (λ t. is_clear (numbered first k) f.text && t) (lines_clear first k messages)
+lines_clear first k (f ∷ messages) = list_all-append (passes first k) (cut f.text) (all_lines messages) ∙ ap (λ t. is_clear (first ++ number_mark k) f.text && t) (lines_clear first k messages)
 
 two_of : (u : Bool) → u ≡ true → u ≡ false → ⊥
 two_of true p q = cc
@@ -154,12 +154,12 @@ clear_by messages true x y p q = p refl
 clear_by messages false x y p q = q refl
 
 -- where one is free, the one that is found is
-found_free : (first : List ℕ) (messages : List Forwarded) (more n k : ℕ) → n ≤ k → k ≤ n + more → are_clear (numbered first k) messages ≡ true → are_clear (free_from first messages more n) messages ≡ true
-found_free first messages zero n k h l t = let e : k ≡ n = omega (arith, h, l) in subst (λ m. are_clear (numbered first m) messages ≡ true) e t
+found_free : (first : List ℕ) (messages : List Forwarded) (more n k : ℕ) → n ≤ k → k ≤ n + more → are_clear (first ++ number_mark k) messages ≡ true → are_clear (free_from first messages more n) messages ≡ true
+found_free first messages zero n k h l t = let e : k ≡ n = omega (arith, h, l) in subst (λ m. are_clear (first ++ number_mark m) messages ≡ true) e t
 found_free first messages (suc more) n k h l t =
-    clear_by messages (are_clear (numbered first n) messages) (numbered first n) (free_from first messages more (suc n)) (λ u. u)
+    clear_by messages (are_clear (first ++ number_mark n) messages) (first ++ number_mark n) (free_from first messages more (suc n)) (λ u. u)
     (λ f.
-    found_free first messages more (suc n) k (past n k h (λ e. two_of (are_clear (numbered first n) messages) (subst (λ m. are_clear (numbered first m) messages ≡ true) (sym e) t) f)) (omega (arith, l)) t)
+    found_free first messages more (suc n) k (past n k h (λ e. two_of (are_clear (first ++ number_mark n) messages) (subst (λ m. are_clear (first ++ number_mark m) messages ≡ true) (sym e) t) f)) (omega (arith, l)) t)
 
 pub free_is_free : (fields : List (List ℕ)) (parts : List Attached) (messages : List Forwarded) → line_count messages < last_number → are_clear (free_boundary fields parts messages) messages ≡ true
 unfolding free_boundary

@@ -6,3 +6,4 @@ pub mod ShownLemmas
 pub mod UnpackLemmas
 pub mod ChoosingLemmas
 pub mod TurnedParts
+pub mod MeasuredTexts

@@ -1,23 +1,22 @@
 -- The last piece of a text, and the body after a head.
-use Rattle.std.proofs.Common.{◌≡◌, ◌≢◌, ◌++◌, ℕ, suc, Bool, true, false, Option, None, Some, List, [], ◌∷◌, ◌<◌, length, length-append, length-drop, drop, map, nat_lt, arith, sym, ap, ◌∙◌, refl, inl, inr}
+use Rattle.std.proofs.Common.{◌≡◌, ◌≢◌, ◌++◌, ℕ, suc, Bool, true, false, Option, None, Some, List, [], ◌∷◌, ◌<◌, codes, length, length-append, length-drop, drop, map, nat_lt, arith, sym, ap, ◌∙◌, refl, inl, inr}
 use Rattle.std.proofs.lemmas.Bool.{cases_Bool, le-ltb, lt-ltb}
 use Rattle.std.specs.Option.{option_map, unwrap_or}
 use Rattle.mk_line.specs.declared.cutting.Ending.{Ending}
-use Rattle.mk_line.specs.Lines.{TextLine, cut, eol_of, text_of}
+use Rattle.mk_line.specs.Lines.{TextLine, cut, eol_of, text_of, is_nil}
 use Rattle.mk_line.proofs.Cuts.{cut_rest, text_apart}
 use Rattle.mk_head.specs.Split.{after_head, head_lines, head_of}
 use Rattle.mk_head.specs.Fields.{HeaderView, header_view}
-use Rattle.mk_head.specs.Splits.{has_line}
+use Rattle.std.specs.Prelude.{not}
 use Rattle.mk_head.proofs.Splits.{head_body}
 use Rattle.mk_script.specs.Paths.{parted, pieces_of}
 use Rattle.mk_show.specs.Parts.{last_of}
 use Rattle.mk_build.specs.declared.building.BuildError.TheVariants as refused
 use Rattle.mk_build.specs.Building.{Attached, build_refusal, built, first_failing, is_free_field}
 use Rattle.mk_build.specs.declared.attachment.Attach.{Attach}
-use Rattle.mk_build.specs.Multiparts.{built_as, refusal_as}
+use Rattle.mk_build.specs.BuildViews.{attached_of}
 use Rattle.mk_build.proofs.Envelopes.{none_held}
-use Rattle.mk_show.specs.Packing.{Manner, boundary_for, boundary_with, fields_given, fields_in_front, files_in, has_body, multipart_with, packed, packed_as, packed_in, parts_in, told}
-use Rattle.mk_show.proofs.FreeBoundaries.{free_own}
+use Rattle.mk_show.specs.Packing.{Manner, fields_given, fields_in_front, has_body, packed, packed_in, told, usual_manner}
 use Rattle.mk_transfer.specs.Said.{shown}
 use Rattle.mk_script.proofs.PathLemmas.{pieces_of-parted, pieces_of-whole}
 use Rattle.mk_script.proofs.PieceLemmas.{HasFirst, pieces_of-some}
@@ -38,7 +37,7 @@ some_left [] y ys e = cc
 some_left (byte ∷ bytes) y ys e = omega arith
 
 -- a text goes on after its first lines exactly where there are more
-goes_on : (text : List ℕ) (xs ys : List TextLine) → cut text ≡ xs ++ ys → nat_lt (length (text_of xs)) (length text) ≡ has_line ys
+goes_on : (text : List ℕ) (xs ys : List TextLine) → cut text ≡ xs ++ ys → nat_lt (length (text_of xs)) (length text) ≡ not (is_nil ys)
 goes_on text xs [] e =
     le-ltb (length (text_of xs)) (length text) (omega (arith, ap length (text_apart text xs [] e), length-append (text_of xs) []))
 goes_on text xs (y ∷ ys) e =
@@ -50,6 +49,10 @@ body_told text h body e b =
     let apart = head_body (cut text) in
     ap (λ n. nat_lt n (length text)) (b ∙ ap (λ v. v.body) e)
     ∙ goes_on text (head_lines (head_of (cut text))) (after_head (cut text)) (sym apart)
+
+-- a multipart/mixed with a boundary
+abbrev pub between : List ℕ → Manner
+between boundary = record { utf8_names = false; subtype = codes "mixed"; charset = None; boundary = Some boundary; turned = false }
 
 -- what goes out where there is no reason against it
 pub packed_well : (boundary : List ℕ) (parts : List Attached) (text : List ℕ) (fields : List (List ℕ)) (output errors : List ℕ) (eol : Ending)
@@ -76,17 +79,14 @@ pub body_refused : (text : List ℕ) (parts : List Attached) (boundary : List �
     → build_refusal (fields_given (cut text)) parts boundary ≡ Some (refused.BadField (unwrap_or (first_failing is_free_field (fields_in_front (cut text))) (length (fields_in_front (cut text)))))
 body_refused text parts boundary has = rw (has, failing_after is_free_field (fields_in_front (cut text)) [] refl) refl
 
--- without messages the boundary and the message are those of the fields and the parts
-same_boundary : (given : Option (List ℕ)) (fields : List (List ℕ)) (parts : List Attached) → boundary_with given fields parts [] ≡ boundary_for given fields parts
-same_boundary None fields parts = free_own fields parts
-same_boundary (Some boundary) fields parts = refl
-
-pub packed_alone : (m : Manner) (parts : List Attach) (text : List ℕ)
-    → packed_in m parts [] text ≡ packed_as (multipart_with m (boundary_for m.boundary (fields_given (cut text)) (files_in m text parts))) (parts_in m text parts) text
-packed_alone m parts text =
+-- where only a boundary is given, and no message, the message is that of the fields and the parts
+pub packed_plainly : (m : Manner) (boundary : List ℕ) (parts : List Attach) (text : List ℕ) → m ≡ between boundary → packed_in m parts [] text ≡ packed boundary (map attached_of parts) text
+packed_plainly m boundary parts text e =
     let fields = fields_given (cut text) in
-    let files = files_in m text parts in
-    let listed = parts_in m text parts in
-    let boundary = boundary_with m.boundary fields files [] in
-    ap (told (built_as (eol_of (cut text)) fields listed (multipart_with m boundary))) (none_held boundary (refusal_as fields listed (multipart_with m boundary)))
-    ∙ ap (λ b. packed_as (multipart_with m b) listed text) (same_boundary m.boundary fields files)
+    let listed = map attached_of parts in
+    ap (λ (k : Manner). packed_in k parts [] text) e
+    ∙ ap (told (built (eol_of (cut text)) fields listed boundary)) (none_held boundary (build_refusal fields listed boundary))
+
+-- a boundary in the manner where nothing is asked for
+pub between_of : (m : Manner) (boundary : List ℕ) → m ≡ usual_manner → record { utf8_names = m.utf8_names; subtype = m.subtype; charset = m.charset; boundary = Some boundary; turned = m.turned } ≡ between boundary
+between_of m boundary e = ap (λ (k : Manner). record { utf8_names = k.utf8_names; subtype = k.subtype; charset = k.charset; boundary = Some boundary; turned = k.turned }) e

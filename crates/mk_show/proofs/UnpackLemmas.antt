@@ -2,7 +2,7 @@
 use Rattle.std.proofs.Common.{◌≡◌, ◌⊎◌, ◌||◌, if◌then◌else◌, ℕ, Bool, true, false, not, List, [], ◌∷◌, ◌++◌, Option, Ok, Err, refl, sym, ap, ◌∙◌, subst, append_assoc, inl, inr}
 use Rattle.std.proofs.lemmas.List.{append-nil}
 use Rattle.std.specs.Io.KnownBytes.{Appends, IsAtEnd, Keeps}
-use Rattle.std.proofs.KnownBytes.{Appends-trans}
+use Rattle.std.proofs.KnownBytes.{Appends-kept, Appends-trans}
 use Rattle.mk_line.specs.Lines.{is_nil}
 use Rattle.mk_tree.specs.Documents.{Document}
 use Rattle.mk_tree.specs.Sections.{section_at}
@@ -21,8 +21,8 @@ use Rattle.mk_show.specs.Chosen.{Asked, AreAsked, missing_lines}
 use Rattle.mk_show.specs.Unpacking.{Unpacks, UnpacksLeaf, report_line, exists_line}
 use Rattle.mk_transfer.specs.Said.{Said, silence, said_after, shown}
 use Rattle.mk_show.specs.Shown.{extract_line, is_wanting}
-use Rattle.mk_show.specs.UnpackClauses.{Written, written, GetsNext, PutsText, PutsNone, PutsFront, UnpackedAll, UnpackedAllAfter, UnpackedSome, UnpackedSomeAfter, IsUnpacked, IsBrokenOff, Stores, StoresSoFar}
-use Rattle.mk_transfer.proofs.Fronts.{AppendsFront-following, not-is_nil-append, AppendsFront-none}
+use Rattle.mk_show.specs.UnpackClauses.{Written, written, GetsNext, PutsText, PutsNone, PutsFront, UnpackedAll, UnpackedAllAfter, UnpackedSome, UnpackedSomeAfter, IsUnpacked, IsBrokenOff, EndsStored, Stores, StoresSoFar}
+use Rattle.mk_transfer.proofs.Fronts.{AppendsFront-following, not-is_nil-append, AppendsFront-none, AppendsFront-whole}
 
 following-silence : (s : Said) → s ≡ said_after s silence
 following-silence s = rw (append-nil s.output, append-nil s.errors) refl
@@ -279,3 +279,35 @@ Stores-given_up why asked t NoMemory input left out sent err between told old ne
   | inl u ↦ inl (record { cause = NoMemory; status_is = refl; output = u.output; between = between; errors = u.errors; line = line }, u.files)
   | inr h ↦ inr (IsBrokenOff-some why asked t h.leaves NoMemory Memory input left out sent err between told old new h.are_leaves h.some refl (λ r. not_read_either r) line)
 ]
+
+-- all leaves were unpacked, and then a device failed
+pub UnpackedAll-halted : (lines : List ℕ) (manner : Manner) (t : Document) (leaves : List Named) (refused : Bool) (out sent left err told : Option (List ℕ)) (old new : Option Files)
+    → UnpackedAllAfter lines manner t leaves refused (written out err old) (written sent told new) → Keeps sent left → UnpackedSomeAfter lines manner t leaves (written out err old) (written left told new)
+UnpackedAll-halted lines manner t leaves refused out sent left err told old new u k = record {
+  done = leaves;
+  rest = [];
+  leaves_are = sym (append-nil leaves);
+  said = u.said;
+  between = new;
+  unpacks = u.unpacks;
+  next = refl;
+  output = AppendsFront-whole _ _ _ (Appends-kept _ _ _ _ u.output k);
+  errors = AppendsFront-whole _ _ _ u.errors;
+}
+
+-- all leaves were unpacked, and then a call wrote nothing
+pub UnpackedAll-kept : (lines : List ℕ) (manner : Manner) (t : Document) (leaves : List Named) (refused : Bool) (out sent left err told : Option (List ℕ)) (old new : Option Files)
+    → UnpackedAllAfter lines manner t leaves refused (written out err old) (written sent told new) → Keeps sent left → UnpackedAllAfter lines manner t leaves refused (written out err old) (written left told new)
+UnpackedAll-kept lines manner t leaves refused out sent left err told old new u k =
+    record { said = u.said; unpacks = u.unpacks; output = Appends-kept _ _ _ _ u.output k; errors = u.errors; refused_is = u.refused_is }
+
+-- all leaves were unpacked and the output was finished
+pub EndsStored-all : (asked : Asked) (t : Document) (leaves : List Named) (refused : Bool) (status : Status) (input left out sent last err told : Option (List ℕ)) (old new : Option Files)
+    → AreAsked asked t leaves → UnpackedAllAfter (missing_lines t asked.sections) asked.manner t leaves refused (written out err old) (written sent told new) → Keeps sent last → status ≡ (if refused then Refused else Well) → IsAtEnd left
+    → EndsStored asked t status (held input out err) (held left last told) old new
+EndsStored-all asked t leaves true status input left out sent last err told old new are u k e end =
+    subst (λ s. EndsStored asked t s (held input out err) (held left last told) old new) (sym e)
+    (IsUnpacked-all asked t leaves true Refused input left out last err told old new are (UnpackedAll-kept _ _ _ _ _ _ _ _ _ _ _ _ u k) refl end)
+EndsStored-all asked t leaves false status input left out sent last err told old new are u k e end =
+    subst (λ s. EndsStored asked t s (held input out err) (held left last told) old new) (sym e)
+    (IsUnpacked-all asked t leaves false Well input left out last err told old new are (UnpackedAll-kept _ _ _ _ _ _ _ _ _ _ _ _ u k) refl end)

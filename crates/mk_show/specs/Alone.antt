@@ -1,15 +1,16 @@
 -- A part that is printed alone (own).
-use Rattle.std.specs.Prelude.{◌≡◌, if◌then◌else◌, ℕ, Option, None, Some, List, []}
-use Rattle.std.specs.Option.{option_map}
+use Rattle.std.specs.Prelude.{◌≡◌, if◌then◌else◌, ℕ, Option, None, Some, List, [], true}
+use Rattle.std.specs.Option.{option_map, option_map_or}
 use Rattle.mk_line.specs.declared.cutting.Ending.TheVariants.{Lf}
 use Rattle.mk_build.specs.declared.attaching.AttachError.{AttachError}
 use Rattle.mk_build.specs.declared.attaching.AttachError.TheVariants as attach
 use Rattle.mk_build.specs.declared.building.BuildError.{BuildError}
 use Rattle.mk_build.specs.declared.building.BuildError.TheVariants as refused
-use Rattle.mk_build.specs.Building.{Attached, attach_refusal, attached}
-use Rattle.mk_build.specs.Multiparts.{attached_as, is_charset_or_none}
+use Rattle.mk_build.specs.Building.{Attached, attach_refusal}
+use Rattle.mk_build.specs.Multiparts.{attached_as}
 use Rattle.mk_transfer.specs.Said.{Run}
 use Rattle.mk_show.specs.Packing.{told}
+use Rattle.mk_head.specs.Values.{is_token}
 
 -- the input of a run that reads none: it is at its end before and after
 abbrev pub no_input : Option (List ℕ)
@@ -21,23 +22,15 @@ first_refusal attach.BadType = refused.BadType 0
 first_refusal attach.BadName = refused.BadName 0
 first_refusal attach.Memory = refused.Memory
 
--- the part, its lines ended by line feeds, or the reason against it
-abbrev pub alone : Attached → Run
-alone a = told (attached Lf a) (option_map first_refusal (attach_refusal a))
-
--- the same as a fact
-abbrev pub IsAlone : Attached → Run → Type 0
-IsAlone a run = run ≡ alone a
-
 -- why a part with a charset isn't printed: the part first, then the charset
 abbrev pub refusal_with : Option (List ℕ) → Option BuildError → Option BuildError
 refusal_with charset (Some error) = Some error
-refusal_with charset None = if is_charset_or_none charset then None else Some refused.BadCharset
+refusal_with charset None = if option_map_or is_token charset true then None else Some refused.BadCharset
 
--- the part, which names the charset where it is a text, or the reason against it
-abbrev pub alone_as : Option (List ℕ) → Attached → Run
-alone_as charset a = told (attached_as Lf charset a) (refusal_with charset (option_map first_refusal (attach_refusal a)))
+-- the part, its lines ended by line feeds, which names the charset where it is a text; or the reason against it
+abbrev pub alone : Option (List ℕ) → Attached → Run
+alone charset a = told (attached_as Lf charset a) (refusal_with charset (option_map first_refusal (attach_refusal a)))
 
 -- the same as a fact
-abbrev pub IsAloneAs : Option (List ℕ) → Attached → Run → Type 0
-IsAloneAs charset a run = run ≡ alone_as charset a
+abbrev pub IsAlone : Option (List ℕ) → Attached → Run → Type 0
+IsAlone charset a run = run ≡ alone charset a

@@ -1,4 +1,5 @@
 -- Which leaves are unpacked: all that are stored, or those at and below the sections at some paths (own).
+use Rattle.mk_script.specs.ScriptViews.{items_of}
 use Rattle.std.specs.Prelude.{◌≡◌, if◌then◌else◌, ℕ, Bool, nat_eq, is_none, List, [], Option, None, Some, map}
 use Rattle.std.specs.List.{filter, flat_map, list_any, starts_with}
 use Rattle.std.specs.Option.{option_map}
@@ -51,10 +52,6 @@ abbrev pub missing_lines : Document → Option (List (List ℕ)) → List ℕ
 missing_lines t None = []
 missing_lines t (Some sections) = flat_map (missing_line t) sections
 
--- paths in memory as their numbers
-abbrev pub paths_of : List (Vec ℕ) → List (List ℕ)
-paths_of paths = map (λ path. path.items) paths
-
 -- what the options ask for
 abbrev pub asked_of : UnpackOptions → Asked
-asked_of o = record { manner = o.manner; form = o.form; texts = o.texts; sections = option_map (λ paths. paths_of paths.now) o.sections }
+asked_of o = record { manner = o.manner; form = o.form; texts = o.texts; sections = option_map (λ paths. items_of paths.now) o.sections }

@@ -28,16 +28,17 @@ Gets None new name text = ⊤
 Gets (Some old) None name text = ⊥
 Gets (Some old) (Some new) name text = (other : List ℕ) → new other ≡ (if bytes_eq name other then Some text else old other)
 
--- a front of the text stands under the name, where it may be put
-pub record GetsFront (over : Bool) (old new : Option Files) (name text : List ℕ) : Type 0 where
-  pub may : MayPut over old name
+-- a front of the text stands under the name, which no file had
+pub record GetsFront (old new : Option Files) (name text : List ℕ) : Type 0 where
+  pub free : IsFree old name
   pub front : List ℕ
   pub rest : List ℕ
   pub text_is : text ≡ front ++ rest
   pub gets : Gets old new name front
 
--- the text was put under the name; or a file has the name already, and none may be written over; or the folder failed
+-- the text was put under the name; or a file has the name already, and none may be written over; or the folder failed, and each file
+-- that there was stands whole
 abbrev pub Puts : Result Bool Fault → Bool → Option Files → Option Files → List ℕ → List ℕ → Type 0
 Puts (Ok true) over old new name text = MayPut over old name × Gets old new name text
 Puts (Ok false) over old new name text = (over ≡ false) × IsThere old name × (new ≡ old)
-Puts (Err fault) over old new name text = (new ≡ old) ⊎ GetsFront over old new name text
+Puts (Err fault) over old new name text = (new ≡ old) ⊎ GetsFront old new name text

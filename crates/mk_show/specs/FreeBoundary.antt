@@ -25,18 +25,14 @@ first_boundary fields parts messages = codes "=_" ++ take digits_kept (digest_of
 abbrev pub number_mark : ℕ → List ℕ
 number_mark n = if n == 0 then [] else underscore ∷ (decimal n ++ underscore ∷ [])
 
--- the boundary of a number after the first one
-abbrev pub numbered : List ℕ → ℕ → List ℕ
-numbered first n = first ++ number_mark n
-
 -- no line of a message begins with two hyphens and the boundary
 abbrev pub are_clear : List ℕ → List Forwarded → Bool
 are_clear boundary messages = list_all (λ f. is_clear boundary f.text) messages
 
 -- the first that is free from a number on, or where none of so many is, the one after them
 abbrev pub free_from : List ℕ → List Forwarded → ℕ → ℕ → List ℕ
-free_from first messages zero n = numbered first n
-free_from first messages (suc more) n = if are_clear (numbered first n) messages then numbered first n else free_from first messages more (suc n)
+free_from first messages zero n = first ++ number_mark n
+free_from first messages (suc more) n = if are_clear (first ++ number_mark n) messages then (first ++ number_mark n) else free_from first messages more (suc n)
 
 -- the greatest number that is tried
 unfoldable pub last_number : ℕ

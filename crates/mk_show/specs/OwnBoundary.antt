@@ -1,5 +1,5 @@
 -- The boundary that is made of what is packed, where none is given (own).
-use Rattle.std.specs.Prelude.{◌≡◌, ◌++◌, ℕ, true, unwrap_or, List, [], ◌∷◌, codes, decimal, length, take}
+use Rattle.std.specs.Prelude.{◌≡◌, ◌<◌, ◌^◌, ◌++◌, ℕ, true, unwrap_or, List, [], ◌∷◌, codes, decimal, length, take}
 use Rattle.std.specs.List.{flat_map}
 use Rattle.mk_line.specs.Ascii.{colon}
 use Rattle.mk_head.specs.Boundaries.{is_boundary}
@@ -29,3 +29,12 @@ own_boundary fields parts = codes "=_" ++ take digits_kept (digest_of (all_packe
 -- it is always one that may be made
 abbrev pub OwnBoundariesAreBoundaries : Type 0
 OwnBoundariesAreBoundaries = (fields : List (List ℕ)) (parts : List Attached) → is_boundary (own_boundary fields parts) ≡ true
+
+-- texts that a memory can hold
+abbrev pub FitMemory : List (List ℕ) → Type 0
+FitMemory [] = Unit {0}
+FitMemory (x ∷ xs) = (length x < 2 ^ 64) × FitMemory xs
+
+-- no two lists of texts are written alike
+abbrev pub MeasuredListsDiffer : Type 0
+MeasuredListsDiffer = (xs ys : List (List ℕ)) → FitMemory xs → FitMemory ys → flat_map measured xs ≡ flat_map measured ys → xs ≡ ys

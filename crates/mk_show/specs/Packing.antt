@@ -1,27 +1,23 @@
 -- A message packed from fields and files (own).
 use Rattle.std.specs.Option.{option_map}
-use Rattle.std.specs.Prelude.{◌≡◌, ◌++◌, if◌then◌else◌, ℕ, Bool, true, false, Option, None, Some, unwrap_or, List, [], ◌∷◌, codes, decimal, length, map}
+use Rattle.std.specs.Prelude.{◌≡◌, ◌++◌, if◌then◌else◌, ℕ, Bool, true, false, Option, None, Some, unwrap_or, List, [], ◌∷◌, codes, decimal, length, map, not}
 use Rattle.mk_line.specs.Ascii.{line_feed, space}
-use Rattle.mk_line.specs.Lines.{TextLine, cut, eol_of}
+use Rattle.mk_line.specs.Lines.{TextLine, cut, eol_of, is_nil}
 use Rattle.mk_head.specs.Split.{after_head, fields_from}
-use Rattle.mk_head.specs.Splits.{has_line}
 use Rattle.mk_head.specs.Fields.{fields_of}
 use Rattle.mk_line.specs.declared.cutting.Ending.{Ending}
 use Rattle.mk_script.specs.Endings.{turned_to}
 use Rattle.mk_build.specs.declared.attachment.Attach.{Attach}
 use Rattle.mk_build.specs.declared.building.BuildError.{BuildError}
 use Rattle.mk_build.specs.declared.building.BuildError.TheVariants as refused
-use Rattle.mk_build.specs.BuildViews.{attached_of, named_of}
+use Rattle.mk_build.specs.BuildViews.{attached_of, written_in}
 use Rattle.mk_build.specs.Building.{Attached, build_refusal, built, first_failing, is_free_field}
 use Rattle.mk_build.specs.Forwards.{Forwarded, built_with, refusal_with}
-use Rattle.mk_build.specs.Multiparts.{Multipart, built_as, refusal_as}
+use Rattle.mk_build.specs.Multiparts.{Multipart}
 use Rattle.mk_show.specs.declared.packing.PackOptions.{PackOptions}
 use Rattle.mk_show.specs.FreeBoundary.{free_boundary}
-use Rattle.mk_show.specs.OwnBoundary.{own_boundary}
 use Rattle.mk_show.specs.Parts.{is_text}
 use Rattle.mk_transfer.specs.Said.{Run, shown}
-use Rattle.mk_view.specs.declared.text_names.NameForm.{NameForm}
-use Rattle.mk_view.specs.declared.text_names.NameForm.TheVariants.{Plain, Utf8}
 
 -- the fields at the start of lines, each with all its bytes
 abbrev pub fields_in_front : List TextLine → List (List ℕ)
@@ -29,7 +25,7 @@ fields_in_front ls = map (λ f. f.raw) (fields_of (fields_from false ls))
 
 -- more than a separator stands after the fields
 abbrev pub has_body : List TextLine → Bool
-has_body ls = has_line (after_head ls)
+has_body ls = not (is_nil (after_head ls))
 
 -- what lines give for fields: those at the start and, where they have a body, an empty text for it, which is no field
 abbrev pub fields_given : List TextLine → List (List ℕ)
@@ -71,11 +67,6 @@ abbrev pub told : List ℕ → Option BuildError → Run
 told message None = shown message []
 told message (Some error) = shown [] (pack_line error)
 
--- a part with its name in a form
-abbrev pub part_in : NameForm → Attach → Attached
-part_in Plain a = attached_of a
-part_in Utf8 a = named_of a
-
 -- the message of the fields that a text gives and of these parts, with the line ending of the text
 abbrev pub packed : List ℕ → List Attached → List ℕ → Run
 packed boundary parts text =
@@ -86,10 +77,10 @@ packed boundary parts text =
 abbrev pub IsPacked : List ℕ → List Attached → List ℕ → Run → Type 0
 IsPacked boundary parts text run = run ≡ packed boundary parts text
 
--- how a message is packed: the form of its names, the subtype of its multipart, the charset and the boundary where they are given, and
--- whether the lines of texts end as those of the fields do
+-- how a message is packed: whether names in UTF-8 are written a second time as they are, the subtype of its multipart, the charset
+-- and the boundary where they are given, and whether the lines of texts end as those of the fields do
 pub record Manner : Type 0 where
-  pub form : NameForm
+  pub utf8_names : Bool
   pub subtype : List ℕ
   pub charset : Option (List ℕ)
   pub boundary : Option (List ℕ)
@@ -97,7 +88,11 @@ pub record Manner : Type 0 where
 
 -- what is in memory
 abbrev pub manner_of : PackOptions → Manner
-manner_of o = record { form = o.form; subtype = o.subtype.now; charset = option_map (λ c. c.now) o.charset; boundary = option_map (λ b. b.now) o.boundary; turned = o.turned }
+manner_of o = record { utf8_names = o.utf8_names; subtype = o.subtype.now; charset = option_map (λ c. c.now) o.charset; boundary = option_map (λ b. b.now) o.boundary; turned = o.turned }
+
+-- where nothing is asked for: a multipart/mixed with a boundary that is made, and texts as they are
+abbrev pub usual_manner : Manner
+usual_manner = record { utf8_names = false; subtype = codes "mixed"; charset = None; boundary = None; turned = false }
 
 -- a part whose lines, where it is a text, end so (own)
 abbrev pub turned_part : Ending → Attached → Attached
@@ -107,31 +102,16 @@ turned_part eol a = record { media = a.media; name = a.name; said = a.said; text
 abbrev pub turned_parts : Bool → Ending → List Attached → List Attached
 turned_parts turned eol parts = if turned then map (turned_part eol) parts else parts
 
--- the parts that are packed in a manner, after the fields that a text gives: under their names, and in the form of their names
+-- the parts that are packed in a manner, after the fields that a text gives: under their names, and under the names that are written
 abbrev pub files_in : Manner → List ℕ → List Attach → List Attached
 files_in m text parts = turned_parts m.turned (eol_of (cut text)) (map attached_of parts)
 
 abbrev pub parts_in : Manner → List ℕ → List Attach → List Attached
-parts_in m text parts = turned_parts m.turned (eol_of (cut text)) (map (part_in m.form) parts)
-
--- the boundary that is given, or else the one that is made of the fields and the parts
-abbrev pub boundary_for : Option (List ℕ) → List (List ℕ) → List Attached → List ℕ
-boundary_for None fields parts = own_boundary fields parts
-boundary_for (Some boundary) fields parts = boundary
+parts_in m text parts = turned_parts m.turned (eol_of (cut text)) (map (written_in m.utf8_names) parts)
 
 -- the multipart of a manner, with a boundary
 abbrev pub multipart_with : Manner → List ℕ → Multipart
 multipart_with m boundary = record { subtype = m.subtype; charset = m.charset; boundary = boundary }
-
--- the message of the fields that a text gives and of these parts as a multipart, with the line ending of the text
-abbrev pub packed_as : Multipart → List Attached → List ℕ → Run
-packed_as m parts text =
-    let fields = fields_given (cut text) in
-    told (built_as (eol_of (cut text)) fields parts m) (refusal_as fields parts m)
-
--- the message of the fields that a text gives and of these parts, packed in a manner
-abbrev pub IsPackedAs : Manner → List Attach → List ℕ → Run → Type 0
-IsPackedAs m parts text run = run ≡ packed_as (multipart_with m (boundary_for m.boundary (fields_given (cut text)) (files_in m text parts))) (parts_in m text parts) text
 
 -- the boundary that is given, or else one that is made of the fields, the parts and the messages
 abbrev pub boundary_with : Option (List ℕ) → List (List ℕ) → List Attached → List Forwarded → List ℕ

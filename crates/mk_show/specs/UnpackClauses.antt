@@ -14,7 +14,7 @@ use Rattle.mk_transfer.specs.declared.status.Cause.{Cause}
 use Rattle.mk_transfer.specs.declared.status.Cause.TheVariants.{Read}
 use Rattle.mk_show.specs.declared.unpacking.Manner.{Manner}
 use Rattle.mk_show.specs.declared.unpacking.Report.TheVariants.{Nothing, Names}
-use Rattle.mk_show.specs.Folders.{Files, Gets}
+use Rattle.mk_show.specs.Folders.{Files, Gets, IsFree}
 use Rattle.mk_transfer.specs.RunClauses.{Held, IsDone, IsGivenUp, Reason}
 use Rattle.mk_show.specs.Shown.{IsSilent}
 use Rattle.mk_transfer.specs.Said.{shown, Said}
@@ -62,10 +62,11 @@ pub record PutsNone (over : Bool) (old new : Option Files) (name : List ℕ) : T
   pub there : AllThere old name
   pub same : new ≡ old
 
--- a front of a text was put so
+-- a front of a text was put so, under a name that no file had
 pub record PutsFront (over : Bool) (old new : Option Files) (name text : List ℕ) : Type 0 where
   pub target : List ℕ
   pub target_is : IsTarget over old name target
+  pub free : IsFree old target
   pub front : List ℕ
   pub rest : List ℕ
   pub text_is : text ≡ front ++ rest

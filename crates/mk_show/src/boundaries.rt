@@ -5,7 +5,7 @@ ghost use Rattle.std.specs.Option.{option_map};
 ghost use Rattle.std.specs.List.{flat_map};
 ghost use Rattle.mk_build.specs.BuildViews.{attached_of};
 ghost use Rattle.mk_build.specs.ForwardViews.{forwarded_of};
-ghost use Rattle.mk_show.specs.FreeBoundary.{all_packed_with, are_clear as are_all_clear, first_boundary as first_of_all, free_boundary as boundary_of, measured_message, numbered as with_number};
+ghost use Rattle.mk_show.specs.FreeBoundary.{all_packed_with, are_clear as are_all_clear, first_boundary as first_of_all, free_boundary as boundary_of, measured_message, number_mark};
 ghost use Rattle.mk_show.specs.OwnBoundary.{measured, measured_part};
 
 use itoa::Buffer;
@@ -63,7 +63,7 @@ fn first_boundary(
 
 // The boundary of a number after the first one.
 fn numbered(alloc: Global, first: &[u8], number: u64) -> Result<Vec<u8>, AllocError>
-    ensures { IfOk result (λ b. b.items ≡ with_number first.now number) }
+    ensures { IfOk result (λ b. b.items ≡ (first.now ++ number_mark number)) }
 {
     let mut boundary = Vec::from_slice(alloc, first)?;
     if number == 0 {

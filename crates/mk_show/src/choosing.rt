@@ -6,7 +6,8 @@ ghost use Rattle.std.specs.Option.{option_map};
 ghost use Rattle.mk_tree.specs.Documents.{Document, tree};
 ghost use Rattle.mk_view.specs.GivenNames.{AreSafe};
 ghost use Rattle.mk_view.specs.LeafViews.{AreAt, leaf_view};
-ghost use Rattle.mk_show.specs.Chosen.{AreAsked, asked_of, is_within as path_is_within, missing_line, missing_lines as lines_of_missing, paths_of, within as leaves_within};
+ghost use Rattle.mk_show.specs.Chosen.{AreAsked, asked_of, is_within as path_is_within, missing_line, missing_lines as lines_of_missing, within as leaves_within};
+ghost use Rattle.mk_script.specs.ScriptViews.{items_of};
 
 use crate::answers::refusal;
 use crate::unpacking::UnpackOptions;
@@ -37,7 +38,7 @@ fn within<'a>(
     leaves: Vec<Leaf<'a>>,
     sections: &[Vec<u32>],
 ) -> Result<Vec<Leaf<'a>>, AllocError>
-    ensures kept { IfOk result (λ kept. map leaf_view kept.items ≡ leaves_within (paths_of sections.now) (map leaf_view leaves.entry.items)) }
+    ensures kept { IfOk result (λ kept. map leaf_view kept.items ≡ leaves_within (items_of sections.now) (map leaf_view leaves.entry.items)) }
     ensures safe { IfOk result (λ kept. AreSafe (map leaf_view leaves.entry.items) → AreSafe (map leaf_view kept.items)) }
     ensures placed { IfOk result (λ kept. (t : Document) → AreAt t leaves.entry.items → AreAt t kept.items) }
 {
@@ -52,7 +53,7 @@ fn within<'a>(
 
 // Whether one of the sections is at a path, or above it.
 fn is_within(sections: &[Vec<u32>], path: &[u32]) -> bool
-    ensures { result ≡ path_is_within (paths_of sections.now) path.now }
+    ensures { result ≡ path_is_within (items_of sections.now) path.now }
 {
     for section in sections {
         if path.starts_with(section) {
@@ -68,7 +69,7 @@ pub(crate) fn missing_lines(
     doc: &Doc,
     sections: Option<&[Vec<u32>]>,
 ) -> Result<Vec<u8>, AllocError>
-    ensures { IfOk result (λ lines. lines.items ≡ lines_of_missing (tree doc.now) (option_map (λ paths. paths_of paths.now) sections.entry)) }
+    ensures { IfOk result (λ lines. lines.items ≡ lines_of_missing (tree doc.now) (option_map (λ paths. items_of paths.now) sections.entry)) }
 {
     match sections {
         Some(paths) => lines_for(alloc, doc, paths),
@@ -78,7 +79,7 @@ pub(crate) fn missing_lines(
 
 // Those lines for some paths.
 fn lines_for(alloc: Global, doc: &Doc, paths: &[Vec<u32>]) -> Result<Vec<u8>, AllocError>
-    ensures { IfOk result (λ lines. lines.items ≡ flat_map (missing_line (tree doc.now)) (paths_of paths.now)) }
+    ensures { IfOk result (λ lines. lines.items ≡ flat_map (missing_line (tree doc.now)) (items_of paths.now)) }
 {
     let mut lines = Vec::new(alloc);
     for path in paths {

@@ -15,7 +15,7 @@ pub trait Folder {
     ghost failures: { Self → ℕ };
 
     /// Puts a text under a name, which leads to nothing outside the folder, and answers true. If a file has the name and
-    /// `over` is false, it writes nothing and answers false.
+    /// `over` is false, it writes nothing and answers false. If it fails, a file that has the name stays as it was.
     fn put(&mut self, name: &[u8], text: &[u8], over: bool) -> Result<bool, Fault>
         requires { is_safe name.now ≡ true }
         ensures files { Puts result over (files self.old) (files self.new) name.now text.now }

@@ -1,7 +1,7 @@
 //! Laws of runs, over the definitions alone: each a function with an empty body whose clause is the law.
 
 ghost use Rattle.mk_show.specs.FreeBoundary.{FreeBoundariesAreBoundaries, FreeBoundariesAreFree, FreeBoundariesAreOwn};
-ghost use Rattle.mk_show.specs.OwnBoundary.{OwnBoundariesAreBoundaries};
+ghost use Rattle.mk_show.specs.OwnBoundary.{MeasuredListsDiffer, OwnBoundariesAreBoundaries};
 ghost use Rattle.mk_show.specs.Packing.{BodiesAreRefused};
 
 /// A text with a body is never packed: its first field that can't be at the start is named, or else their number.
@@ -28,4 +28,9 @@ pub fn free_boundaries_are_boundaries()
 /// messages have lines would have to fail, and no line fails two of those with numbers.
 pub fn free_boundaries_are_free()
     ensures { FreeBoundariesAreFree }
+{}
+
+/// No two lists of texts are written alike where each text stands after its length, as they do to make a boundary.
+pub fn measured_lists_differ()
+    ensures { MeasuredListsDiffer }
 {}

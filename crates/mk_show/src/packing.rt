@@ -1,33 +1,34 @@
 //! A message packed from fields and files, over any devices.
 
-ghost use Rattle.std.specs.Prelude.{◌≡◌, ◌≢◌, ◌⊎◌, None, true, map, IfOk, IfErr, OnOk};
-ghost use Rattle.mk_build.specs.BuildViews.{attached_of};
-ghost use Rattle.mk_build.specs.ForwardViews.{forwarded_of, IsRefusedWith};
+ghost use Rattle.std.specs.Prelude.{◌≡◌, ◌≢◌, ◌⊎◌, None, true, false, map, IfOk, IfErr, OnErr, OnOk};
+ghost use Rattle.mk_build.specs.BuildViews.{attached_of, written_in};
+ghost use Rattle.mk_build.specs.ForwardViews.{forwarded_of};
 ghost use Rattle.mk_build.specs.Forwards.{built_with, refusal_with};
 ghost use Rattle.mk_build.specs.Multiparts.{multipart_of};
 ghost use Rattle.mk_transfer.specs.RunClauses.{held, counts, reason, IsBlamed, SameFailures, ReadFailed, WriteFailed, ends_itself};
 ghost use Rattle.mk_show.specs.Shown.{LeavesShown, LeavesShownSoFar, run_of_answer};
 ghost use Rattle.mk_line.specs.Lines.{cut as lines_of};
-ghost use Rattle.mk_show.specs.Packing.{IsPacked, IsPackedAs, IsPackedWith, manner_of, multipart_with, part_in, build_name, told, fields_given, fields_in_front as fields_of_front, has_body as has_a_body, index_of as index_named, pack_line, turned_part as turned_so};
+ghost use Rattle.mk_line.specs.Meters.{ticked};
+ghost use Rattle.mk_show.specs.Packing.{IsPacked, IsPackedWith, manner_of, multipart_with, build_name, told, fields_given, fields_in_front as fields_of_front, has_body as has_a_body, index_of as index_named, pack_line, turned_part as turned_so};
 ghost use Rattle.mk_show.specs.inner.PackedFrom.{packed_from};
 
 use crate::answers::Answer;
 use crate::boundaries::free_boundary;
 use crate::parts::is_text;
 use crate::showing::print;
-use mk_build::{Attach, BuildError, Forward, MIXED, Multipart, build_with, build_with_in_utf8};
+use mk_build::{Attach, BuildError, Forward, MIXED, Multipart, build_with};
 use mk_head::{each_field, header};
 use mk_line::{Ending, eol_of};
 use mk_mailbox::{Sink, Source};
 use mk_script::turned;
 use mk_transfer::{Cause, Status, give_up, read_all, reading};
-use mk_view::NameForm;
 use std::alloc::{AllocError, Global};
 
-/// How a message is packed.
+/// How a message is packed. By default it is a multipart/mixed with a boundary that is made, and texts go as they are.
 #[derive(Clone, Copy, Debug)]
 pub struct PackOptions<'a> {
-    pub form: NameForm,
+    /// Whether a name in UTF-8 that isn't printable ASCII is written a second time, as it is (RFC 2231, 4).
+    pub utf8_names: bool,
     /// The subtype of the multipart, such as `mixed`.
     pub subtype: &'a [u8],
     /// The charset that texts name.
@@ -36,6 +37,23 @@ pub struct PackOptions<'a> {
     pub boundary: Option<&'a [u8]>,
     /// Whether the lines of texts end as those of the fields do.
     pub turned: bool,
+}
+
+impl<'a> Default for PackOptions<'a> {
+    ghost use Rattle.std.specs.Prelude.{◌≡◌};
+    ghost use Rattle.mk_show.specs.Packing.{manner_of, usual_manner};
+
+    ghost is_default = { λ options. manner_of options ≡ usual_manner };
+
+    fn default() -> PackOptions<'a> {
+        PackOptions {
+            utf8_names: false,
+            subtype: MIXED,
+            charset: None,
+            boundary: None,
+            turned: false,
+        }
+    }
 }
 
 /// Builds the message of the fields that the input gives and of these parts, and prints it. The fields are read without an
@@ -60,92 +78,22 @@ pub fn run_pack<S: Source, O: Sink, E: Sink>(
     ensures clean { ends_itself result ≡ true → SameFailures
         (counts (S.failures input.old) (S.read_count input.old) (O.failures out.old) (E.failures err.old))
         (counts (S.failures input.new) (S.read_count input.new) (O.failures out.new) (E.failures err.new)) }
+    ensures finished { ends_itself result ≡ true → O.finishes out.new ≡ ticked (O.finishes out.old) }
+    ensures unfinished { ends_itself result ≡ false → O.finishes out.new ≡ O.finishes out.old }
 {
-    match try_pack(alloc, input, out, err, boundary, parts) {
+    let options = PackOptions {
+        boundary: Some(boundary),
+        ..PackOptions::default()
+    };
+    match try_pack(alloc, input, out, err, options, parts, &[]) {
         Ok(status) => status,
         Err(cause) => give_up(err, cause),
     }
 }
 
-/// Does the same, and leaves it to the caller to say why the run is given up.
+/// Builds the message as the options say, with messages that are forwarded after the parts, and prints it. It is left to the
+/// caller to say why the run is given up.
 pub fn try_pack<S: Source, O: Sink, E: Sink>(
-    alloc: Global,
-    input: &mut S,
-    out: &mut O,
-    err: &mut E,
-    boundary: &[u8],
-    parts: &[Attach],
-) -> Result<Status, Cause>
-    ensures leaves { LeavesShownSoFar (IsPacked boundary.now (map attached_of parts.now)) result
-        (held (S.remaining input.old) (O.contents out.old) (E.contents err.old))
-        (held (S.remaining input.new) (O.contents out.new) (E.contents err.new)) }
-    ensures ended { IfOk result (λ status. ends_itself status ≡ true) }
-    ensures blamed { IfErr result (λ cause. IsBlamed cause
-        (counts (S.failures input.old) (S.read_count input.old) (O.failures out.old) (E.failures err.old))
-        (counts (S.failures input.new) (S.read_count input.new) (O.failures out.new) (E.failures err.new))) }
-    ensures clean { OnOk result (SameFailures
-        (counts (S.failures input.old) (S.read_count input.old) (O.failures out.old) (E.failures err.old))
-        (counts (S.failures input.new) (S.read_count input.new) (O.failures out.new) (E.failures err.new))) }
-{
-    try_pack_in(alloc, input, out, err, NameForm::Plain, boundary, parts)
-}
-
-/// Does the same, with names in a form.
-pub fn try_pack_in<S: Source, O: Sink, E: Sink>(
-    alloc: Global,
-    input: &mut S,
-    out: &mut O,
-    err: &mut E,
-    form: NameForm,
-    boundary: &[u8],
-    parts: &[Attach],
-) -> Result<Status, Cause>
-    ensures leaves { LeavesShownSoFar (IsPacked boundary.now (map (part_in form) parts.now)) result
-        (held (S.remaining input.old) (O.contents out.old) (E.contents err.old))
-        (held (S.remaining input.new) (O.contents out.new) (E.contents err.new)) }
-    ensures ended { IfOk result (λ status. ends_itself status ≡ true) }
-    ensures blamed { IfErr result (λ cause. IsBlamed cause
-        (counts (S.failures input.old) (S.read_count input.old) (O.failures out.old) (E.failures err.old))
-        (counts (S.failures input.new) (S.read_count input.new) (O.failures out.new) (E.failures err.new))) }
-    ensures clean { OnOk result (SameFailures
-        (counts (S.failures input.old) (S.read_count input.old) (O.failures out.old) (E.failures err.old))
-        (counts (S.failures input.new) (S.read_count input.new) (O.failures out.new) (E.failures err.new))) }
-{
-    let options = PackOptions {
-        form,
-        subtype: MIXED,
-        charset: None,
-        boundary: Some(boundary),
-        turned: false,
-    };
-    try_pack_with(alloc, input, out, err, options, parts)
-}
-
-/// Does the same as the options say.
-pub fn try_pack_with<S: Source, O: Sink, E: Sink>(
-    alloc: Global,
-    input: &mut S,
-    out: &mut O,
-    err: &mut E,
-    options: PackOptions<'_>,
-    parts: &[Attach],
-) -> Result<Status, Cause>
-    ensures leaves { LeavesShownSoFar (IsPackedAs (manner_of options.entry) parts.now) result
-        (held (S.remaining input.old) (O.contents out.old) (E.contents err.old))
-        (held (S.remaining input.new) (O.contents out.new) (E.contents err.new)) }
-    ensures ended { IfOk result (λ status. ends_itself status ≡ true) }
-    ensures blamed { IfErr result (λ cause. IsBlamed cause
-        (counts (S.failures input.old) (S.read_count input.old) (O.failures out.old) (E.failures err.old))
-        (counts (S.failures input.new) (S.read_count input.new) (O.failures out.new) (E.failures err.new))) }
-    ensures clean { OnOk result (SameFailures
-        (counts (S.failures input.old) (S.read_count input.old) (O.failures out.old) (E.failures err.old))
-        (counts (S.failures input.new) (S.read_count input.new) (O.failures out.new) (E.failures err.new))) }
-{
-    try_pack_with_messages(alloc, input, out, err, options, parts, &[])
-}
-
-/// Does the same, with messages that are forwarded after the parts.
-pub fn try_pack_with_messages<S: Source, O: Sink, E: Sink>(
     alloc: Global,
     input: &mut S,
     out: &mut O,
@@ -164,6 +112,8 @@ pub fn try_pack_with_messages<S: Source, O: Sink, E: Sink>(
     ensures clean { OnOk result (SameFailures
         (counts (S.failures input.old) (S.read_count input.old) (O.failures out.old) (E.failures err.old))
         (counts (S.failures input.new) (S.read_count input.new) (O.failures out.new) (E.failures err.new))) }
+    ensures finished { OnOk result (O.finishes out.new ≡ ticked (O.finishes out.old)) }
+    ensures unfinished { OnErr result (O.finishes out.new ≡ O.finishes out.old) }
 {
     let text = match read_all(alloc, input) {
         Ok(text) => text,
@@ -233,37 +183,37 @@ fn message_of(
     eol: Ending,
 ) -> Result<Answer, AllocError>
     requires { eol ≢ Ending.Missing }
-    ensures { IfOk result (λ a. run_of_answer a ≡ packed_from (manner_of options.entry) eol (map (λ f. f.items) fields.now) (map attached_of parts.now) (map (part_in options.entry.form) parts.now) (map forwarded_of messages.now)) }
+    ensures { IfOk result (λ a. run_of_answer a ≡ packed_from (manner_of options.entry) eol (map (λ f. f.items) fields.now) (map attached_of parts.now) (map (written_in options.entry.utf8_names) parts.now) (map forwarded_of messages.now)) }
 {
-    let form = options.form;
     match options.boundary {
         Some(boundary) => {
             let multipart = multipart(options, boundary);
-            answer(alloc, form, fields, parts, messages, &multipart, eol)
+            answer(alloc, fields, parts, messages, &multipart, eol)
         }
         None => {
             let boundary = free_boundary(alloc, fields, parts, messages)?;
             let multipart = multipart(options, &boundary);
-            answer(alloc, form, fields, parts, messages, &multipart, eol)
+            answer(alloc, fields, parts, messages, &multipart, eol)
         }
     }
 }
 
 // The multipart that the options ask for, with a boundary.
 fn multipart<'a>(options: PackOptions<'a>, boundary: &'a [u8]) -> Multipart<'a>
-    ensures { multipart_of result ≡ multipart_with (manner_of options.entry) boundary.now }
+    ensures kind { multipart_of result ≡ multipart_with (manner_of options.entry) boundary.now }
+    ensures names { result.utf8_names ≡ options.entry.utf8_names }
 {
     Multipart {
         subtype: options.subtype,
         charset: options.charset,
         boundary,
+        utf8_names: options.utf8_names,
     }
 }
 
 // The message of these fields, parts and messages, or the reason against it.
 fn answer(
     alloc: Global,
-    form: NameForm,
     fields: &[Vec<u8>],
     parts: &[Attach],
     messages: &[Forward],
@@ -271,9 +221,9 @@ fn answer(
     eol: Ending,
 ) -> Result<Answer, AllocError>
     requires { eol ≢ Ending.Missing }
-    ensures { IfOk result (λ a. run_of_answer a ≡ told (built_with eol (map (λ f. f.items) fields.now) (map (part_in form) parts.now) (map forwarded_of messages.now) (multipart_of multipart.now)) (refusal_with (map (λ f. f.items) fields.now) (map (part_in form) parts.now) (map forwarded_of messages.now) (multipart_of multipart.now))) }
+    ensures { IfOk result (λ a. run_of_answer a ≡ told (built_with eol (map (λ f. f.items) fields.now) (map (written_in multipart.now.utf8_names) parts.now) (map forwarded_of messages.now) (multipart_of multipart.now)) (refusal_with (map (λ f. f.items) fields.now) (map (written_in multipart.now.utf8_names) parts.now) (map forwarded_of messages.now) (multipart_of multipart.now))) }
 {
-    match build_in(alloc, form, fields, parts, messages, multipart, eol) {
+    match build_with(alloc, fields, parts, messages, multipart, eol) {
         Ok(output) => Ok(Answer {
             output,
             errors: Vec::new(alloc),
@@ -283,26 +233,6 @@ fn answer(
             output: Vec::new(alloc),
             errors: refusal(alloc, reason)?,
         }),
-    }
-}
-
-// The same message, with names in a form.
-fn build_in(
-    alloc: Global,
-    form: NameForm,
-    fields: &[Vec<u8>],
-    parts: &[Attach],
-    messages: &[Forward],
-    multipart: &Multipart<'_>,
-    eol: Ending,
-) -> Result<Vec<u8>, BuildError>
-    requires { eol ≢ Ending.Missing }
-    ensures text { IfOk result (λ text. (refusal_with (map (λ f. f.items) fields.now) (map (part_in form) parts.now) (map forwarded_of messages.now) (multipart_of multipart.now) ≡ None) × (text.items ≡ built_with eol (map (λ f. f.items) fields.now) (map (part_in form) parts.now) (map forwarded_of messages.now) (multipart_of multipart.now))) }
-    ensures refused { IfErr result (λ error. IsRefusedWith (map (λ f. f.items) fields.now) (map (part_in form) parts.now) (map forwarded_of messages.now) (multipart_of multipart.now) error) }
-{
-    match form {
-        NameForm::Plain => build_with(alloc, fields, parts, messages, multipart, eol),
-        NameForm::Utf8 => build_with_in_utf8(alloc, fields, parts, messages, multipart, eol),
     }
 }
 

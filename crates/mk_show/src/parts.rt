@@ -6,7 +6,7 @@ ghost use Rattle.mk_show.specs.Parts.{file_name as name_of_file, is_text as is_o
 
 use mk_build::Attach;
 use mk_script::parted;
-use std::alloc::{AllocError, Global};
+use std::alloc::{AllocError, AllocFailed, Global};
 
 const COLON: u8 = b':';
 
@@ -22,10 +22,10 @@ pub struct Spec<'a> {
 }
 
 impl<'a> Spec<'a> {
-    ghost use Rattle.std.specs.Prelude.{◌≡◌, IfOk};
+    ghost use Rattle.std.specs.Prelude.{◌≡◌, IfErr, IfOk};
     ghost use Rattle.std.specs.Option.{option_map};
     ghost use Rattle.mk_build.specs.BuildViews.{attached_of};
-    ghost use Rattle.mk_show.specs.Parts.{attached_file, inlined_file, is_text as is_of_text, spec_of, spec_view};
+    ghost use Rattle.mk_show.specs.Parts.{attached_file, file_name as name_of_file, inlined_file, is_text as is_of_text, spec_of, spec_view};
 
     /// What a word names, which is cut at its first colon. `None` where it has none.
     pub fn of(word: &'a [u8]) -> Option<Spec<'a>>
@@ -44,31 +44,48 @@ impl<'a> Spec<'a> {
         is_text(self.media)
     }
 
-    /// The part for the file, where it holds these bytes.
-    pub fn attach(&self, alloc: Global, text: Vec<u8>) -> Result<Attach, AllocError>
-        ensures { IfOk result (λ part. attached_of part ≡ attached_file (spec_view self.now) text.items) }
+    /// The part for the file, where it holds these bytes. Out of memory, they come back.
+    pub fn attach(&self, alloc: Global, text: Vec<u8>) -> Result<Attach, AllocFailed<Vec<u8>>>
+        ensures part { IfOk result (λ part. attached_of part ≡ attached_file (spec_view self.now) text.items) }
+        ensures returned { IfErr result (λ failed. failed.value ≡ text) }
     {
+        let Ok((media, name)) = self.described(alloc) else {
+            return Err(AllocFailed { value: text });
+        };
         Ok(Attach {
-            media: Vec::from_slice(alloc, self.media)?,
-            name: Some(Vec::from_slice(alloc, file_name(self.path))?),
+            media,
+            name: Some(name),
             text,
             base64: !is_text(self.media),
         })
     }
 
-    /// The same, to be shown if it is a text: a text has no name then.
-    pub fn inline(&self, alloc: Global, text: Vec<u8>) -> Result<Attach, AllocError>
-        ensures { IfOk result (λ part. attached_of part ≡ inlined_file (spec_view self.now) text.items) }
+    // The media type and the name of the file.
+    fn described(&self, alloc: Global) -> Result<(Vec<u8>, Vec<u8>), AllocError>
+        ensures { IfOk result (λ said. (said.0.items ≡ (spec_view self.now).media) × (said.1.items ≡ name_of_file (spec_view self.now).path)) }
+    {
+        let media = Vec::from_slice(alloc, self.media)?;
+        let name = Vec::from_slice(alloc, file_name(self.path))?;
+        Ok((media, name))
+    }
+
+    /// The same, to be shown if it is a text: a text has no name then. Out of memory, the bytes come back.
+    pub fn inline(&self, alloc: Global, text: Vec<u8>) -> Result<Attach, AllocFailed<Vec<u8>>>
+        ensures part { IfOk result (λ part. attached_of part ≡ inlined_file (spec_view self.now) text.items) }
+        ensures returned { IfErr result (λ failed. failed.value ≡ text) }
     {
         if !is_text(self.media) {
             return self.attach(alloc, text);
         }
-        Ok(Attach {
-            media: Vec::from_slice(alloc, self.media)?,
-            name: None,
-            text,
-            base64: false,
-        })
+        match Vec::from_slice(alloc, self.media) {
+            Ok(media) => Ok(Attach {
+                media,
+                name: None,
+                text,
+                base64: false,
+            }),
+            Err(_) => Err(AllocFailed { value: text }),
+        }
     }
 }
 

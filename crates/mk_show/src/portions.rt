@@ -17,7 +17,7 @@ use std::alloc::{AllocError, Global};
 /// What is given of a section.
 #[derive(Clone, Copy, Debug, PartialEq, Eq)]
 pub enum Portion {
-    /// Its content, decoded where it is a leaf.
+    /// Its content, decoded where it is a leaf. The default.
     Content,
     /// Its content as it is.
     Raw,
@@ -25,6 +25,17 @@ pub enum Portion {
     Head,
     /// Its content; if that is base64 that isn't whole, what can be decoded of it, and the reason too.
     Prefix,
+}
+
+impl Default for Portion {
+    ghost use Rattle.std.specs.Prelude.{◌≡◌};
+    ghost use Rattle.mk_show.specs.declared.portions.Portion.TheVariants.{Content};
+
+    ghost is_default = { λ portion. portion ≡ Content };
+
+    fn default() -> Portion {
+        Self::Content
+    }
 }
 
 /// The portion of the section at a path, or the reason why it isn't given.

@@ -23,8 +23,9 @@ pub(crate) fn say_stored<O: Sink>(
     leaf: &Leaf<'_>,
     target: &[u8],
 ) -> Result<(), Stop>
-    ensures { Sends result (report_line report leaf.now.path.items (Some leaf.now.section) target.now)
+    ensures sends { Sends result (report_line report leaf.now.path.items (Some leaf.now.section) target.now)
         (O.contents out.old) (O.contents out.new) (O.failures out.old) (O.failures out.new) }
+    ensures unfinished { O.finishes out.new ≡ O.finishes out.old }
 {
     match said_of(alloc, report, leaf, target) {
         Ok(line) => send(out, &line),

@@ -1,7 +1,8 @@
 //! Runs that show what a message is, over any devices.
 
-ghost use Rattle.std.specs.Prelude.{◌≡◌, ◌⊎◌, true, List, ℕ, IfOk, IfErr, OnOk, OnErr};
+ghost use Rattle.std.specs.Prelude.{◌≡◌, ◌≤◌, ◌⊎◌, true, false, List, ℕ, IfOk, IfErr, OnOk, OnErr};
 ghost use Rattle.std.specs.Io.KnownBytes.{Appends, Consumes, IsAtEnd};
+ghost use Rattle.mk_line.specs.Meters.{ticked};
 ghost use Rattle.mk_mailbox.specs.Devices.{AppendsFront, Rose, IsLong};
 ghost use Rattle.mk_transfer.specs.RunClauses.{held, counts, reason, IsBlamed, SameFailures, ReadFailed, WriteFailed, ends_itself};
 ghost use Rattle.mk_show.specs.Portions.{IsTakenAs};
@@ -9,8 +10,8 @@ ghost use Rattle.mk_show.specs.Shown.{IsListed, IsTaken, LeavesShown, LeavesShow
 
 use crate::answers::{Answer, sections};
 use crate::portions::{Portion, given};
-use mk_mailbox::{Fault, Sink, Source};
-use mk_transfer::{Cause, Status, Stop, give_up, read_all, reading, write_all};
+use mk_mailbox::{Sink, Source};
+use mk_transfer::{Cause, Status, Stop, finish, give_up, read_all, reading, send};
 use mk_tree::Doc;
 use std::alloc::Global;
 
@@ -33,6 +34,8 @@ pub fn run_sections<S: Source, O: Sink, E: Sink>(
     ensures clean { ends_itself result ≡ true → SameFailures
         (counts (S.failures input.old) (S.read_count input.old) (O.failures out.old) (E.failures err.old))
         (counts (S.failures input.new) (S.read_count input.new) (O.failures out.new) (E.failures err.new)) }
+    ensures finished { ends_itself result ≡ true → O.finishes out.new ≡ ticked (O.finishes out.old) }
+    ensures unfinished { ends_itself result ≡ false → O.finishes out.new ≡ O.finishes out.old }
 {
     match try_sections(alloc, input, out, err) {
         Ok(status) => status,
@@ -57,6 +60,8 @@ pub fn try_sections<S: Source, O: Sink, E: Sink>(
     ensures clean { OnOk result (SameFailures
         (counts (S.failures input.old) (S.read_count input.old) (O.failures out.old) (E.failures err.old))
         (counts (S.failures input.new) (S.read_count input.new) (O.failures out.new) (E.failures err.new))) }
+    ensures finished { OnOk result (O.finishes out.new ≡ ticked (O.finishes out.old)) }
+    ensures unfinished { OnErr result (O.finishes out.new ≡ O.finishes out.old) }
 {
     let doc = match read_doc(alloc, input) {
         Ok(doc) => doc,
@@ -88,38 +93,18 @@ pub fn run_extract<S: Source, O: Sink, E: Sink>(
     ensures clean { ends_itself result ≡ true → SameFailures
         (counts (S.failures input.old) (S.read_count input.old) (O.failures out.old) (E.failures err.old))
         (counts (S.failures input.new) (S.read_count input.new) (O.failures out.new) (E.failures err.new)) }
+    ensures finished { ends_itself result ≡ true → O.finishes out.new ≡ ticked (O.finishes out.old) }
+    ensures unfinished { ends_itself result ≡ false → O.finishes out.new ≡ O.finishes out.old }
 {
-    match try_extract(alloc, input, out, err, path) {
+    match try_extract(alloc, input, out, err, path, Portion::Content) {
         Ok(status) => status,
         Err(cause) => give_up(err, cause),
     }
 }
 
-/// Does the same, and leaves it to the caller to say why the run is given up.
-pub fn try_extract<S: Source, O: Sink, E: Sink>(
-    alloc: Global,
-    input: &mut S,
-    out: &mut O,
-    err: &mut E,
-    path: &[u32],
-) -> Result<Status, Cause>
-    ensures leaves { LeavesShownSoFar (IsTaken path.now) result
-        (held (S.remaining input.old) (O.contents out.old) (E.contents err.old))
-        (held (S.remaining input.new) (O.contents out.new) (E.contents err.new)) }
-    ensures ended { IfOk result (λ status. ends_itself status ≡ true) }
-    ensures blamed { IfErr result (λ cause. IsBlamed cause
-        (counts (S.failures input.old) (S.read_count input.old) (O.failures out.old) (E.failures err.old))
-        (counts (S.failures input.new) (S.read_count input.new) (O.failures out.new) (E.failures err.new))) }
-    ensures clean { OnOk result (SameFailures
-        (counts (S.failures input.old) (S.read_count input.old) (O.failures out.old) (E.failures err.old))
-        (counts (S.failures input.new) (S.read_count input.new) (O.failures out.new) (E.failures err.new))) }
-{
-    try_extract_as(alloc, input, out, err, path, Portion::Content)
-}
-
 /// Gives the portion of the section at a path of the message that the input gives, and leaves it to the caller to say why the
 /// run is given up.
-pub fn try_extract_as<S: Source, O: Sink, E: Sink>(
+pub fn try_extract<S: Source, O: Sink, E: Sink>(
     alloc: Global,
     input: &mut S,
     out: &mut O,
@@ -137,6 +122,8 @@ pub fn try_extract_as<S: Source, O: Sink, E: Sink>(
     ensures clean { OnOk result (SameFailures
         (counts (S.failures input.old) (S.read_count input.old) (O.failures out.old) (E.failures err.old))
         (counts (S.failures input.new) (S.read_count input.new) (O.failures out.new) (E.failures err.new))) }
+    ensures finished { OnOk result (O.finishes out.new ≡ ticked (O.finishes out.old)) }
+    ensures unfinished { OnErr result (O.finishes out.new ≡ O.finishes out.old) }
 {
     let doc = match read_doc(alloc, input) {
         Ok(doc) => doc,
@@ -166,13 +153,16 @@ pub fn read_doc<S: Source>(alloc: Global, input: &mut S) -> Result<Doc, Stop>
     }
 }
 
-/// Writes an answer, and says how the run ends.
+/// Writes an answer, says to the output that all was written, and says how the run ends.
 pub fn print<O: Sink, E: Sink>(out: &mut O, err: &mut E, answer: &Answer) -> Result<Status, Cause>
     ensures written { Writes result (run_of_answer answer.now) (O.contents out.old) (O.contents out.new) (E.contents err.old) (E.contents err.new) }
     ensures only { IfErr result (λ cause. cause ≡ Cause.Write) }
     ensures failed { OnErr result (Rose (O.failures out.old) (O.failures out.new) ⊎ Rose (E.failures err.old) (E.failures err.new)) }
     ensures output_well { OnOk result (O.failures out.new ≡ O.failures out.old) }
     ensures errors_well { OnOk result (E.failures err.new ≡ E.failures err.old) }
+    ensures counted { E.failures err.old ≤ E.failures err.new }
+    ensures finished { OnOk result (O.finishes out.new ≡ ticked (O.finishes out.old)) }
+    ensures unfinished { OnErr result (O.finishes out.new ≡ O.finishes out.old) }
 {
     match write_both(out, err, answer) {
         Ok(()) => Ok(if answer.errors.is_empty() {
@@ -180,19 +170,24 @@ pub fn print<O: Sink, E: Sink>(out: &mut O, err: &mut E, answer: &Answer) -> Res
         } else {
             Status::Refused
         }),
-        Err(Fault) => Err(Cause::Write),
+        Err(_) => Err(Cause::Write),
     }
 }
 
-fn write_both<O: Sink, E: Sink>(out: &mut O, err: &mut E, answer: &Answer) -> Result<(), Fault>
+// Writes the output and then the errors, and finishes the output.
+fn write_both<O: Sink, E: Sink>(out: &mut O, err: &mut E, answer: &Answer) -> Result<(), Stop>
     ensures output { OnOk result (Appends (O.contents out.old) (O.contents out.new) answer.now.output.items) }
     ensures errors { OnOk result (Appends (E.contents err.old) (E.contents err.new) answer.now.errors.items) }
     ensures output_front { OnErr result (AppendsFront (O.contents out.old) (O.contents out.new) answer.now.output.items) }
     ensures errors_front { OnErr result (AppendsFront (E.contents err.old) (E.contents err.new) answer.now.errors.items) }
     ensures output_well { OnOk result (O.failures out.new ≡ O.failures out.old) }
     ensures errors_well { OnOk result (E.failures err.new ≡ E.failures err.old) }
+    ensures counted { E.failures err.old ≤ E.failures err.new }
+    ensures finished { OnOk result (O.finishes out.new ≡ ticked (O.finishes out.old)) }
+    ensures unfinished { OnErr result (O.finishes out.new ≡ O.finishes out.old) }
     ensures fault { OnErr result (Rose (O.failures out.old) (O.failures out.new) ⊎ Rose (E.failures err.old) (E.failures err.new)) }
 {
-    write_all(out, &answer.output)?;
-    write_all(err, &answer.errors)
+    send(out, &answer.output)?;
+    send(err, &answer.errors)?;
+    finish(out)
 }

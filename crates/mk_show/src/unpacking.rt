@@ -1,6 +1,7 @@
 //! A message unpacked into a folder, over any devices.
 
-ghost use Rattle.std.specs.Prelude.{◌≡◌, ◌⊎◌, ◌∷◌, [], if◌then◌else◌, true, map, None, Some, Ok, IfOk, IfErr, IfSome, OnOk, OnErr};
+ghost use Rattle.std.specs.Prelude.{◌≡◌, ◌≤◌, ◌⊎◌, ◌∷◌, [], if◌then◌else◌, true, false, map, None, Some, Ok, IfOk, IfErr, IfSome, OnOk, OnErr};
+ghost use Rattle.mk_line.specs.Meters.{ticked};
 ghost use Rattle.mk_tree.specs.Documents.{Document};
 ghost use Rattle.mk_mailbox.specs.Devices.{Rose};
 ghost use Rattle.mk_view.specs.GivenNames.{AreSafe, is_safe};
@@ -15,7 +16,7 @@ use crate::folder::Folder;
 use crate::saying::{report_exists, report_undecoded, say_stored};
 use crate::showing::read_doc;
 use mk_mailbox::{Fault, Sink, Source};
-use mk_transfer::{Cause, Status, Stop, give_up, reading, send, writing};
+use mk_transfer::{Cause, Status, Stop, finish, give_up, reading, send, writing};
 use mk_view::{ExtractError, Leaf, NameForm, content_in, numbered};
 use std::alloc::{AllocError, Global};
 
@@ -41,7 +42,7 @@ pub struct Manner {
     pub report: Report,
 }
 
-/// What is unpacked, and how.
+/// What is unpacked, and how. By default all leaves but texts without a name, each is told, and no file is overwritten.
 #[derive(Clone, Copy, Debug)]
 pub struct UnpackOptions<'a> {
     pub manner: Manner,
@@ -52,6 +53,27 @@ pub struct UnpackOptions<'a> {
     /// Only the leaves at and below the sections at these paths are stored; `None` means all leaves. Their names are
     /// those that they get among all leaves.
     pub sections: Option<&'a [Vec<u32>]>,
+}
+
+impl<'a> Default for UnpackOptions<'a> {
+    ghost use Rattle.std.specs.Prelude.{◌≡◌, false};
+    ghost use Rattle.mk_view.specs.declared.text_names.NameForm.TheVariants.{Plain};
+    ghost use Rattle.mk_show.specs.Chosen.{asked_of};
+    ghost use Rattle.mk_show.specs.UnpackClauses.{all_leaves, manner_of};
+
+    ghost is_default = { λ options. asked_of options ≡ all_leaves (manner_of false false) Plain false };
+
+    fn default() -> UnpackOptions<'a> {
+        UnpackOptions {
+            manner: Manner {
+                over: false,
+                report: Report::Names,
+            },
+            form: NameForm::Plain,
+            texts: false,
+            sections: None,
+        }
+    }
 }
 
 /// Unpacks the message that the input gives: the content of each leaf is put into the folder under its name, and the name
@@ -82,94 +104,35 @@ pub fn unpack<S: Source, O: Sink, E: Sink, F: Folder>(
         (counts (S.failures input.old) (S.read_count input.old) (O.failures out.old) (E.failures err.old))
         (counts (S.failures input.new) (S.read_count input.new) (O.failures out.new) (E.failures err.new)) }
     ensures folder_clean { ends_itself result ≡ true → F.failures dir.new ≡ F.failures dir.old }
+    ensures finished { ends_itself result ≡ true → O.finishes out.new ≡ ticked (O.finishes out.old) }
+    ensures unfinished { ends_itself result ≡ false → O.finishes out.new ≡ O.finishes out.old }
 {
-    match try_unpack(alloc, input, out, err, dir, texts, over, silent) {
+    let options = UnpackOptions {
+        manner: manner_for(over, silent),
+        texts,
+        ..UnpackOptions::default()
+    };
+    match try_unpack(alloc, input, out, err, dir, options) {
         Ok(status) => status,
         Err(cause) => give_up(err, cause),
     }
 }
 
-/// Does the same, and leaves it to the caller to say why the run is given up.
-pub fn try_unpack<S: Source, O: Sink, E: Sink, F: Folder>(
-    alloc: Global,
-    input: &mut S,
-    out: &mut O,
-    err: &mut E,
-    dir: &mut F,
-    texts: bool,
-    over: bool,
-    silent: bool,
-) -> Result<Status, Cause>
-    ensures leaves { LeavesUnpackedSoFar (manner_of over silent) NameForm.Plain texts result
-        (held (S.remaining input.old) (O.contents out.old) (E.contents err.old))
-        (held (S.remaining input.new) (O.contents out.new) (E.contents err.new))
-        (F.files dir.old) (F.files dir.new) }
-    ensures ended { IfOk result (λ status. ends_itself status ≡ true) }
-    ensures blamed { IfErr result (λ cause. IsBlamedWith cause
-        (counts (S.failures input.old) (S.read_count input.old) (O.failures out.old) (E.failures err.old))
-        (counts (S.failures input.new) (S.read_count input.new) (O.failures out.new) (E.failures err.new))
-        (F.failures dir.old) (F.failures dir.new)) }
-    ensures clean { OnOk result (SameFailures
-        (counts (S.failures input.old) (S.read_count input.old) (O.failures out.old) (E.failures err.old))
-        (counts (S.failures input.new) (S.read_count input.new) (O.failures out.new) (E.failures err.new))) }
-    ensures folder_clean { OnOk result (F.failures dir.new ≡ F.failures dir.old) }
-{
-    try_unpack_in(
-        alloc,
-        input,
-        out,
-        err,
-        dir,
-        NameForm::Plain,
-        texts,
-        over,
-        silent,
-    )
-}
-
-/// Does the same, with names in a form.
-pub fn try_unpack_in<S: Source, O: Sink, E: Sink, F: Folder>(
-    alloc: Global,
-    input: &mut S,
-    out: &mut O,
-    err: &mut E,
-    dir: &mut F,
-    form: NameForm,
-    texts: bool,
-    over: bool,
-    silent: bool,
-) -> Result<Status, Cause>
-    ensures leaves { LeavesUnpackedSoFar (manner_of over silent) form texts result
-        (held (S.remaining input.old) (O.contents out.old) (E.contents err.old))
-        (held (S.remaining input.new) (O.contents out.new) (E.contents err.new))
-        (F.files dir.old) (F.files dir.new) }
-    ensures ended { IfOk result (λ status. ends_itself status ≡ true) }
-    ensures blamed { IfErr result (λ cause. IsBlamedWith cause
-        (counts (S.failures input.old) (S.read_count input.old) (O.failures out.old) (E.failures err.old))
-        (counts (S.failures input.new) (S.read_count input.new) (O.failures out.new) (E.failures err.new))
-        (F.failures dir.old) (F.failures dir.new)) }
-    ensures clean { OnOk result (SameFailures
-        (counts (S.failures input.old) (S.read_count input.old) (O.failures out.old) (E.failures err.old))
-        (counts (S.failures input.new) (S.read_count input.new) (O.failures out.new) (E.failures err.new))) }
-    ensures folder_clean { OnOk result (F.failures dir.new ≡ F.failures dir.old) }
+// How files are put where nothing is told of them, or the name and the type of each.
+fn manner_for(over: bool, silent: bool) -> Manner
+    ensures { result ≡ manner_of over silent }
 {
     let report = if silent {
         Report::Nothing
     } else {
         Report::Names
     };
-    let manner = Manner { over, report };
-    let options = UnpackOptions {
-        manner,
-        form,
-        texts,
-        sections: None,
-    };
-    try_unpack_with(alloc, input, out, err, dir, options)
+    Manner { over, report }
 }
 
-/// Does the same, as the options say. Paths that lead to no section are reported first, in the order given.
-pub fn try_unpack_with<S: Source, O: Sink, E: Sink, F: Folder>(
+/// Does the same, as the options say, and leaves it to the caller to say why the run is given up. Paths that lead to no section
+/// are reported first, in the order given.
+pub fn try_unpack<S: Source, O: Sink, E: Sink, F: Folder>(
     alloc: Global,
     input: &mut S,
     out: &mut O,
@@ -190,6 +153,8 @@ pub fn try_unpack_with<S: Source, O: Sink, E: Sink, F: Folder>(
         (counts (S.failures input.old) (S.read_count input.old) (O.failures out.old) (E.failures err.old))
         (counts (S.failures input.new) (S.read_count input.new) (O.failures out.new) (E.failures err.new))) }
     ensures folder_clean { OnOk result (F.failures dir.new ≡ F.failures dir.old) }
+    ensures finished { OnOk result (O.finishes out.new ≡ ticked (O.finishes out.old)) }
+    ensures unfinished { OnErr result (O.finishes out.new ≡ O.finishes out.old) }
 {
     let doc = match read_doc(alloc, input) {
         Ok(doc) => doc,
@@ -201,9 +166,16 @@ pub fn try_unpack_with<S: Source, O: Sink, E: Sink, F: Folder>(
     let Ok(missing) = missing_lines(alloc, &doc, options.sections) else {
         return Err(Cause::Memory);
     };
-    match unpack_after(alloc, &missing, options.manner, leaves, out, err, dir) {
-        Ok(true) => Ok(Status::Refused),
-        Ok(false) => Ok(Status::Well),
+    let refused = match unpack_after(alloc, &missing, options.manner, leaves, out, err, dir) {
+        Ok(refused) => refused,
+        Err(stop) => return Err(writing(stop)),
+    };
+    match finish(out) {
+        Ok(()) => Ok(if refused {
+            Status::Refused
+        } else {
+            Status::Well
+        }),
         Err(stop) => Err(writing(stop)),
     }
 }
@@ -234,6 +206,8 @@ fn unpack_after<O: Sink, E: Sink, F: Folder>(
     ensures well { OnOk result (NoneFailed
         (failures (O.failures out.old) (E.failures err.old) (F.failures dir.old))
         (failures (O.failures out.new) (E.failures err.new) (F.failures dir.new))) }
+    ensures counted { E.failures err.old ≤ E.failures err.new }
+    ensures unfinished { O.finishes out.new ≡ O.finishes out.old }
 {
     send(err, lines)?;
     let refused = unpack_all(alloc, manner, leaves, out, err, dir)?;
@@ -265,6 +239,8 @@ fn unpack_all<O: Sink, E: Sink, F: Folder>(
     ensures well { OnOk result (NoneFailed
         (failures (O.failures out.old) (E.failures err.old) (F.failures dir.old))
         (failures (O.failures out.new) (E.failures err.new) (F.failures dir.new))) }
+    ensures counted { E.failures err.old ≤ E.failures err.new }
+    ensures unfinished { O.finishes out.new ≡ O.finishes out.old }
 {
     let mut refused = false;
     let mut memory = Vec::new(alloc);
@@ -300,6 +276,8 @@ fn unpack_leaf<O: Sink, E: Sink, F: Folder>(
     ensures well { OnOk result (NoneFailed
         (failures (O.failures out.old) (E.failures err.old) (F.failures dir.old))
         (failures (O.failures out.new) (E.failures err.new) (F.failures dir.new))) }
+    ensures counted { E.failures err.old ≤ E.failures err.new }
+    ensures unfinished { O.finishes out.new ≡ O.finishes out.old }
 {
     match content_in(memory, &leaf.section) {
         Ok(()) => {}

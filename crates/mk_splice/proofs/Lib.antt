@@ -15,3 +15,4 @@ pub mod Prints
 pub mod Readings
 pub mod Fronts
 pub mod Ways
+pub mod KnownDigests

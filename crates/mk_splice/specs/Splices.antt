@@ -16,7 +16,7 @@ pub record Stands (place : ℕ) (bytes text : List ℕ) : Type 0 where
   pub within : place + length bytes ≤ length text
   pub same : spliced place (length bytes) bytes text ≡ text
 
--- a splice made, and taken back
+-- a splice made: its new bytes in the place of its old ones
 abbrev pub forth_one : Splice → List ℕ → List ℕ
 forth_one s text = spliced s.place (length s.old) s.new text
 

@@ -1,7 +1,7 @@
 //! Laws of steps and journals, over the definitions alone: each a function with an empty body whose clauses are the law.
-ghost use Rattle.std.specs.Prelude.{◌≡◌, ◌++◌, Ok, Err, codes, IsOk};
+ghost use Rattle.std.specs.Prelude.{◌≡◌, ◌++◌, [], Ok, Err, codes, IsOk};
 ghost use Rattle.mk_splice.specs.Misfits.{FitsAreTold};
-ghost use Rattle.mk_splice.specs.Journals.{journal};
+ghost use Rattle.mk_splice.specs.Journals.{digest_of, journal};
 ghost use Rattle.mk_splice.specs.JournalLaws.{abc_digest, empty_digest, FoundIsSpelled, OffsetIsLongest, PrintedIsRead, PrintedOfTextIsRead, SpelledIsFound};
 
 /// Steps fit a text exactly where none is named that doesn't.
@@ -35,4 +35,10 @@ pub fn known_journals()
     ensures step_of_no_entries { IsOk (journal (codes "mimejournal 2\n" ++ (empty_digest ++ codes "\n1 0\n0\n"))) }
     ensures capital_digit { journal (codes "mimejournal 2\nE3b0c44298fc1c149afbf4c8996fb92427ae41e4649b934ca495991b7852b855\n1 0\n0\n") ≡ Err 14 }
     ensures step_of_one_entry { IsOk (journal (codes "mimejournal 2\n" ++ (abc_digest ++ codes "\n1 0\n1\n0 0 3\nabc\n"))) }
+{}
+
+/// The digest of the empty text, and that of `abc`, the example of FIPS 180-4.
+pub fn known_digests()
+    ensures empty { digest_of [] ≡ empty_digest }
+    ensures abc { digest_of (codes "abc") ≡ abc_digest }
 {}

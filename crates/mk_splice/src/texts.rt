@@ -99,6 +99,7 @@ impl Text {
         requires { length self.old.bytes ≤ size }
         ensures same { self.new.bytes ≡ self.old.bytes }
         ensures room { OnOk result (size ≤ self.new.capacity) }
+        ensures small { OnOk result (size < 2 ^ 63) }
         ensures succeeds { size ≤ self.old.capacity → IsOk result }
         ensures most { self.new.capacity ≤ max self.old.capacity size }
         ensures given_back { (self.old.capacity ≤ self.new.capacity) ⊎ (2 * (size + 65_536) < self.old.capacity) }

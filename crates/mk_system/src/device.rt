@@ -109,7 +109,7 @@ pub trait MaybePipe: Sink {
 pub struct Output<W: Write> {
     writer: W,
     faults: u64,
-    is_finished: bool,
+    finishes: u64,
     /// Whether the reader of the pipe is there, as far as a write has told.
     has_reader: bool,
 }
@@ -124,7 +124,7 @@ impl<W: Write + Drop> Output<W> {
         Output {
             writer,
             faults: 0,
-            is_finished: false,
+            finishes: 0,
             has_reader: true,
         }
     }
@@ -132,7 +132,7 @@ impl<W: Write + Drop> Output<W> {
     // Counts a failure.
     fn fail(&mut self, error: &io::Error) -> Fault
         ensures counted { self.new.faults ≡ ticked self.old.faults }
-        ensures unfinished { self.new.is_finished ≡ self.old.is_finished }
+        ensures unfinished { self.new.finishes ≡ self.old.finishes }
         ensures kept { self.new.writer ≡ self.old.writer }
     {
         self.faults = self.faults.saturating_add(1);
@@ -156,7 +156,7 @@ impl<W: Write + Drop> Sink for Output<W> {
 
     ghost failures = { λ s. s.faults };
 
-    ghost finished = { λ s. s.is_finished };
+    ghost finishes = { λ s. s.finishes };
 
     fn write(&mut self, piece: &[u8]) -> Result<usize, Fault> {
         match self.writer.write(piece) {
@@ -173,7 +173,7 @@ impl<W: Write + Drop> Sink for Output<W> {
     fn finish(&mut self) -> Result<(), Fault> {
         match self.writer.flush() {
             Ok(()) => {
-                self.is_finished = true;
+                self.finishes = self.finishes.saturating_add(1);
                 Ok(())
             }
             Err(error) => Err(self.fail(&error)),

@@ -42,7 +42,7 @@ pub struct EditedFile<'a, R: Files<File = File> + AllocGlobal> {
     state: State,
     error: Option<io::Error>,
     faults: u64,
-    is_finished: bool,
+    finishes: u64,
 }
 
 impl<'a, R: Files<File = File> + Clock + AllocGlobal> EditedFile<'a, R> {
@@ -72,7 +72,7 @@ impl<'a, R: Files<File = File> + Clock + AllocGlobal> EditedFile<'a, R> {
             state: State::Same { length: 0 },
             error: None,
             faults: 0,
-            is_finished: false,
+            finishes: 0,
         };
         Ok((edited, message))
     }
@@ -90,7 +90,7 @@ impl<R: Files<File = File> + AllocGlobal> EditedFile<'_, R> {
     // Writes the start of the piece.
     fn write_some(&mut self, piece: &[u8]) -> io::Result<usize>
         ensures counted { self.new.faults ≡ self.old.faults }
-        ensures unfinished { self.new.is_finished ≡ self.old.is_finished }
+        ensures unfinished { self.new.finishes ≡ self.old.finishes }
         ensures bound { IfOk result (λ n. n ≤ length piece.now) }
     {
         if let State::Same { length } = self.state {
@@ -113,7 +113,7 @@ impl<R: Files<File = File> + AllocGlobal> EditedFile<'_, R> {
     #[inline(never)]
     fn same_bytes(&mut self, piece: &[u8]) -> io::Result<usize>
         ensures counted { self.new.faults ≡ self.old.faults }
-        ensures unfinished { self.new.is_finished ≡ self.old.is_finished }
+        ensures unfinished { self.new.finishes ≡ self.old.finishes }
         ensures bound { IfOk result (λ n. n ≤ length piece.now) }
     {
         let mut buffer = [0u8; CHUNK_BYTES];
@@ -129,7 +129,7 @@ impl<R: Files<File = File> + AllocGlobal> EditedFile<'_, R> {
     // Makes the fresh file, which begins with as many bytes of the old one.
     fn begin(&mut self, length: u64) -> io::Result<()>
         ensures counted { self.new.faults ≡ self.old.faults }
-        ensures unfinished { self.new.is_finished ≡ self.old.is_finished }
+        ensures unfinished { self.new.finishes ≡ self.old.finishes }
     {
         self.lock.check()?;
         let mut new = Replacement::beside(self.rt, &self.path)?;
@@ -144,7 +144,7 @@ impl<R: Files<File = File> + AllocGlobal> EditedFile<'_, R> {
     // Puts what was written in the place of the old file, if it differs from that.
     fn end(&mut self) -> io::Result<()>
         ensures counted { self.new.faults ≡ self.old.faults }
-        ensures unfinished { self.new.is_finished ≡ self.old.is_finished }
+        ensures unfinished { self.new.finishes ≡ self.old.finishes }
     {
         if let State::Same { length } = self.state {
             if length == self.found.length {
@@ -167,7 +167,7 @@ impl<R: Files<File = File> + AllocGlobal> EditedFile<'_, R> {
     // Counts a failure, and removes the fresh file.
     fn fail(&mut self, error: io::Error) -> Fault
         ensures counted { self.new.faults ≡ ticked self.old.faults }
-        ensures unfinished { self.new.is_finished ≡ self.old.is_finished }
+        ensures unfinished { self.new.finishes ≡ self.old.finishes }
     {
         self.faults = self.faults.saturating_add(1);
         if let State::Beside(new) = &self.state {
@@ -184,7 +184,7 @@ impl<R: Files<File = File> + AllocGlobal> Sink for EditedFile<'_, R> {
 
     ghost failures = { λ s. s.faults };
 
-    ghost finished = { λ s. s.is_finished };
+    ghost finishes = { λ s. s.finishes };
 
     fn write(&mut self, piece: &[u8]) -> Result<usize, Fault> {
         match self.write_some(piece) {
@@ -198,7 +198,7 @@ impl<R: Files<File = File> + AllocGlobal> Sink for EditedFile<'_, R> {
         match self.end() {
             Ok(()) => {
                 self.state = State::Ended;
-                self.is_finished = true;
+                self.finishes = self.finishes.saturating_add(1);
                 Ok(())
             }
             Err(error) => Err(self.fail(error)),

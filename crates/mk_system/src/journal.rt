@@ -44,7 +44,7 @@ pub struct JournalFile<'a, R: Files<File = File> + AllocGlobal> {
     state: State,
     error: Option<io::Error>,
     faults: u64,
-    is_finished: bool,
+    finishes: u64,
 }
 
 impl<'a, R: Files<File = File> + Clock + AllocGlobal> JournalFile<'a, R> {
@@ -78,7 +78,7 @@ impl<'a, R: Files<File = File> + Clock + AllocGlobal> JournalFile<'a, R> {
             state: State::Unwritten,
             error: None,
             faults: 0,
-            is_finished: false,
+            finishes: 0,
         };
         Ok((journal, text))
     }
@@ -96,7 +96,7 @@ impl<R: Files<File = File> + AllocGlobal> JournalFile<'_, R> {
     // Begins to write, at the first byte.
     fn begin(&mut self) -> io::Result<()>
         ensures counted { self.new.faults ≡ self.old.faults }
-        ensures unfinished { self.new.is_finished ≡ self.old.is_finished }
+        ensures unfinished { self.new.finishes ≡ self.old.finishes }
     {
         if let Found::Special = self.found {
             let file = OpenOptions::new()
@@ -120,7 +120,7 @@ impl<R: Files<File = File> + AllocGlobal> JournalFile<'_, R> {
     // Writes the start of the piece.
     fn write_some(&mut self, piece: &[u8]) -> io::Result<usize>
         ensures counted { self.new.faults ≡ self.old.faults }
-        ensures unfinished { self.new.is_finished ≡ self.old.is_finished }
+        ensures unfinished { self.new.finishes ≡ self.old.finishes }
         ensures bound { IfOk result (λ n. n ≤ length piece.now) }
     {
         if let State::Unwritten = self.state {
@@ -150,7 +150,7 @@ impl<R: Files<File = File> + AllocGlobal> JournalFile<'_, R> {
     // Counts a failure, and removes the fresh file, if it has no other name yet.
     fn fail(&mut self, error: io::Error) -> Fault
         ensures counted { self.new.faults ≡ ticked self.old.faults }
-        ensures unfinished { self.new.is_finished ≡ self.old.is_finished }
+        ensures unfinished { self.new.finishes ≡ self.old.finishes }
     {
         self.faults = self.faults.saturating_add(1);
         if let State::Beside(new) = &self.state {
@@ -188,7 +188,7 @@ impl<R: Files<File = File> + AllocGlobal> Sink for JournalFile<'_, R> {
 
     ghost failures = { λ s. s.faults };
 
-    ghost finished = { λ s. s.is_finished };
+    ghost finishes = { λ s. s.finishes };
 
     fn write(&mut self, piece: &[u8]) -> Result<usize, Fault> {
         match self.write_some(piece) {
@@ -202,7 +202,7 @@ impl<R: Files<File = File> + AllocGlobal> Sink for JournalFile<'_, R> {
         match self.end() {
             Ok(()) => {
                 self.state = State::Ended;
-                self.is_finished = true;
+                self.finishes = self.finishes.saturating_add(1);
                 Ok(())
             }
             Err(error) => Err(self.fail(error)),

@@ -10,8 +10,8 @@ use mk_mail::{FromLines, NameForm, Sink, Source};
 use mk_messages::InMemory;
 use mk_run::{
     Cause, FieldFilter, FieldForm, Manner, Portion, Report, Status, Stop, UnpackOptions, ValueForm,
-    letters_of_rounds, read_doc, rounds, rounds_of_words, try_extract_as, try_field, try_sections,
-    try_unpack_with, write_all,
+    letters_of_rounds, read_doc, rounds, rounds_of_words, try_extract, try_field, try_sections,
+    try_unpack, write_all,
 };
 use mk_script::numbers;
 use mk_system::Directory;
@@ -99,7 +99,7 @@ fn sections<R: AllocGlobal, S: Source, O: Sink, E: Sink>(
         Err(Stop::Memory) => return Err(Problem::Stopped(Cause::Memory)),
     };
     let listing = mk_json::list_in(alloc, &doc, name_form(matches))?;
-    if write_all(out, &listing).is_ok() {
+    if write_all(out, &listing).is_ok() && out.finish().is_ok() {
         Ok(Status::Well)
     } else {
         Err(Problem::Stopped(Cause::Write))
@@ -117,7 +117,7 @@ fn extract<R: AllocGlobal, S: Source, O: Sink, E: Sink>(
     let alloc = rt.alloc();
     let word = matches.get_str(PATH).unwrap_or("");
     match numbers(alloc, word.as_bytes())? {
-        Some(path) => Ok(try_extract_as(alloc, input, out, err, &path, portion(matches))?),
+        Some(path) => Ok(try_extract(alloc, input, out, err, &path, portion(matches))?),
         None => Ok(usage(err)),
     }
 }
@@ -159,7 +159,7 @@ fn unpack<R: Files<File = File> + AllocGlobal, S: Source, O: Sink, E: Sink>(
         sections: (!sections.is_empty()).then_some(sections.as_slice()),
     };
     let mut dir = Directory::new(rt, path);
-    let done = try_unpack_with(alloc, input, out, err, &mut dir, options);
+    let done = try_unpack(alloc, input, out, err, &mut dir, options);
     let unwritten = dir.close();
     match (done, unwritten) {
         (Ok(status), _) => Ok(status),

@@ -17,7 +17,7 @@ pub struct Explained<'a, E: Sink> {
     // Whether a line has begun.
     is_inside: bool,
     faults: u64,
-    is_finished: bool,
+    finishes: u64,
 }
 
 impl<'a, E: Sink> Explained<'a, E> {
@@ -28,14 +28,14 @@ impl<'a, E: Sink> Explained<'a, E> {
             err,
             is_inside: false,
             faults: 0,
-            is_finished: false,
+            finishes: 0,
         }
     }
 
     // Says what a line means, if it names a reason. A failed write is passed over: the line itself is tried next.
     fn tell(&mut self, line: &[u8])
         ensures counted { self.new.faults ≡ self.old.faults }
-        ensures unfinished { self.new.is_finished ≡ self.old.is_finished }
+        ensures unfinished { self.new.finishes ≡ self.old.finishes }
     {
         if let Some((about, sentence)) = told(self.command, line) {
             let _ = write_all(self.err, about);
@@ -47,7 +47,7 @@ impl<'a, E: Sink> Explained<'a, E> {
     // Counts a failure.
     fn fail(&mut self) -> Fault
         ensures counted { self.new.faults ≡ ticked self.old.faults }
-        ensures unfinished { self.new.is_finished ≡ self.old.is_finished }
+        ensures unfinished { self.new.finishes ≡ self.old.finishes }
     {
         self.faults = self.faults.saturating_add(1);
         Fault
@@ -72,7 +72,7 @@ impl<E: Sink> Sink for Explained<'_, E> {
 
     ghost failures = { λ s. s.faults };
 
-    ghost finished = { λ s. s.is_finished };
+    ghost finishes = { λ s. s.finishes };
 
     fn write(&mut self, piece: &[u8]) -> Result<usize, Fault> {
         let line = first_line(piece);
@@ -92,7 +92,7 @@ impl<E: Sink> Sink for Explained<'_, E> {
     fn finish(&mut self) -> Result<(), Fault> {
         match self.err.finish() {
             Ok(()) => {
-                self.is_finished = true;
+                self.finishes = self.finishes.saturating_add(1);
                 Ok(())
             }
             Err(_) => Err(self.fail()),

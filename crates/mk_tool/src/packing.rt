@@ -5,9 +5,9 @@ use crate::faults::{Problem, usage};
 use crate::files::{attachments, forwards};
 use clap::ArgMatches;
 use mk_line::Ending;
-use mk_mail::{Sink, Source};
+use mk_mail::{NameForm, Sink, Source};
 use mk_run::Status;
-use mk_show::{MIXED, PackOptions, try_pack_with_messages, try_part_with, turned_parts};
+use mk_show::{AttachOptions, MIXED, PackOptions, try_pack, try_part, turned_parts};
 use mk_words::options::{BOUNDARY, CHARSET, EOL, FORWARD, INLINE, PART, SPEC, SUBTYPE};
 use std::rt::Files;
 
@@ -20,7 +20,7 @@ pub fn pack<R: Files + AllocGlobal, S: Source, O: Sink, E: Sink>(
     err: &mut E,
 ) -> Result<Status, Problem> {
     let alloc = rt.alloc();
-    let form = name_form(matches);
+    let utf8_names = name_form(matches) == NameForm::Utf8;
     let charset = matches.get_str(CHARSET).map(|word| word.as_bytes());
     let inline = matches.get_flag(INLINE);
     let turned = matches.get_flag(EOL);
@@ -29,21 +29,25 @@ pub fn pack<R: Files + AllocGlobal, S: Source, O: Sink, E: Sink>(
         if turned {
             parts = turned_parts(alloc, &parts, Ending::Lf)?;
         }
+        let options = AttachOptions {
+            charset,
+            utf8_names,
+        };
         return match parts.first() {
-            Some(part) => Ok(try_part_with(alloc, out, err, form, charset, part)?),
+            Some(part) => Ok(try_part(alloc, out, err, options, part)?),
             None => Ok(usage(err)),
         };
     }
     let parts = attachments(rt, matches.get_strs(SPEC).unwrap_or(&[]), inline)?;
     let messages = forwards(rt, matches.get_strs(FORWARD).unwrap_or(&[]), inline)?;
     let options = PackOptions {
-        form,
+        utf8_names,
         subtype: subtype(matches),
         charset,
         boundary: matches.get_str(BOUNDARY).map(|word| word.as_bytes()),
         turned,
     };
-    Ok(try_pack_with_messages(alloc, input, out, err, options, &parts, &messages)?)
+    Ok(try_pack(alloc, input, out, err, options, &parts, &messages)?)
 }
 
 // -m SUBTYPE

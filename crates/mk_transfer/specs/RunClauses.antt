@@ -52,10 +52,17 @@ pub record InputFailed (before after : Counts) : Type 0 where
   pub output : after.output ≡ before.output
   pub errors : after.errors ≡ before.errors
 
--- the output or the errors failed, and the input didn't
+-- the output or the errors failed, and the input didn't; no failure of the errors was forgotten
 pub record OutputFailed (before after : Counts) : Type 0 where
   pub failed : WriteFailed before after
   pub input : after.input ≡ before.input
+  pub errors : before.errors ≤ after.errors
+
+-- the same, or a device more failed
+pub record MoreFailed (before after : Counts) (more left : ℕ) : Type 0 where
+  pub failed : WriteFailed before after ⊎ Rose more left
+  pub input : after.input ≡ before.input
+  pub errors : before.errors ≤ after.errors
 
 -- the bytes of the output and of the errors went out whole
 pub record WritesAll (run : Run) (before after : Held) : Type 0 where
@@ -116,28 +123,30 @@ IsBlamed NoMemory = SameFailures
 -- the same for a run that writes to one device more, with the failures that this one counts
 abbrev pub IsBlamedWith : Cause → Counts → Counts → ℕ → ℕ → Type 0
 IsBlamedWith Read before after more left = InputFailed before after × (left ≡ more)
-IsBlamedWith Write before after more left = (WriteFailed before after ⊎ Rose more left) × (after.input ≡ before.input)
+IsBlamedWith Write before after more left = MoreFailed before after more left
 IsBlamedWith NoMemory before after more left = SameFailures before after × (left ≡ more)
 
 -- a cause to give up, and what the errors hold before and after the line that says so
 abbrev pub Reason : Type 1
 Reason = Cause → Option (List ℕ) → Option (List ℕ) → Type 0
 
--- the devices bear the cause out, by the failures that the errors had counted before the line; and the line goes out whole, unless
--- the errors fail then
-pub record GivesUp (IsBorne : Cause → ℕ → Type 0) (failed : ℕ) (cause : Cause) (between left : Option (List ℕ)) : Type 0 where
+-- the devices bear the cause out, by the failures that the errors had counted before the line, which are those counted before the
+-- run or more; and the line goes out whole, unless the errors fail then
+pub record GivesUp (IsBorne : Cause → ℕ → Type 0) (counted failed : ℕ) (cause : Cause) (between left : Option (List ℕ)) : Type 0 where
   pub told : ℕ
+  pub least : counted ≤ told
+  pub most : told ≤ failed
   pub borne : IsBorne cause told
   pub front : AppendsFront between left (cause_line cause)
   pub whole : Appends between left (cause_line cause) ⊎ Rose told failed
 
 -- the reason of a run, by the counts of its devices
 abbrev pub reason : Counts → Counts → Reason
-reason before after = GivesUp (λ cause told. IsBlamed cause before (record after { errors = told })) after.errors
+reason before after = GivesUp (λ cause told. IsBlamed cause before (record after { errors = told })) before.errors after.errors
 
 -- the same with one device more
 abbrev pub reason_with : Counts → Counts → ℕ → ℕ → Reason
-reason_with before after more left = GivesUp (λ cause told. IsBlamedWith cause before (record after { errors = told }) more left) after.errors
+reason_with before after more left = GivesUp (λ cause told. IsBlamedWith cause before (record after { errors = told }) more left) before.errors after.errors
 
 -- a front of the output and of the errors went out, and then the line that says why the run was given up; where reading failed
 -- nothing went to the output

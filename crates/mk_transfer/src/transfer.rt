@@ -130,7 +130,7 @@ pub fn write_all<O: Sink>(out: &mut O, bytes: &[u8]) -> Result<(), Fault>
     ensures front { OnErr result (AppendsFront (O.contents out.old) (O.contents out.new) bytes.now) }
     ensures fault { OnErr result (Rose (O.failures out.old) (O.failures out.new)) }
     ensures counted { O.failures out.old ≤ O.failures out.new }
-    ensures unfinished { O.finished out.new ≡ O.finished out.old }
+    ensures unfinished { O.finishes out.new ≡ O.finishes out.old }
 {
     let mut rest = bytes;
     while !rest.is_empty() {
@@ -148,7 +148,7 @@ pub fn send<O: Sink>(out: &mut O, bytes: &[u8]) -> Result<(), Stop>
     ensures sends { Sends result bytes.now
         (O.contents out.old) (O.contents out.new) (O.failures out.old) (O.failures out.new) }
     ensures only { IfErr result (λ stop. stop ≡ Stop.Fault) }
-    ensures unfinished { O.finished out.new ≡ O.finished out.old }
+    ensures unfinished { O.finishes out.new ≡ O.finishes out.old }
 {
     match write_all(out, bytes) {
         Ok(()) => Ok(()),
@@ -159,11 +159,11 @@ pub fn send<O: Sink>(out: &mut O, bytes: &[u8]) -> Result<(), Stop>
 /// Says to a device that all was written.
 pub fn finish<O: Sink>(out: &mut O) -> Result<(), Stop>
     ensures kept { Keeps (O.contents out.old) (O.contents out.new) }
-    ensures stands { OnOk result (O.finished out.new ≡ true) }
+    ensures stands { OnOk result (O.finishes out.new ≡ ticked (O.finishes out.old)) }
     ensures well { OnOk result (O.failures out.new ≡ O.failures out.old) }
     ensures fault { OnErr result (Rose (O.failures out.old) (O.failures out.new)) }
     ensures only { IfErr result (λ stop. stop ≡ Stop.Fault) }
-    ensures unfinished { OnErr result (O.finished out.new ≡ O.finished out.old) }
+    ensures unfinished { OnErr result (O.finishes out.new ≡ O.finishes out.old) }
 {
     match out.finish() {
         Ok(()) => Ok(()),

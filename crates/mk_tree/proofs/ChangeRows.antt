@@ -4,7 +4,8 @@ use Rattle.mk_line.specs.Lines.{TextLine, text_line, cut, text_of}
 use Rattle.mk_line.specs.declared.cutting.Ending.TheVariants.{Missing}
 use Rattle.std.proofs.lemmas.Slice.Eq.{bytes_eq-Decides}
 use Rattle.std.specs.Str.{bytes_eq}
-use Rattle.mk_head.specs.Split.{head_lines, option_line}
+use Rattle.mk_head.specs.Split.{head_lines}
+use Rattle.std.specs.Option.{option_to_list}
 use Rattle.mk_tree.specs.Kinds.{kind}
 use Rattle.mk_tree.specs.Tree.{Entity, leaf, message, multi, Parts, no_parts, part, print, entity_head, field_lines, with_fields}
 use Rattle.mk_tree.specs.Documents.{IsStable, tree, printed}
@@ -70,7 +71,7 @@ bytes_same xs ys h = (bytes_eq-Decides xs ys).0 h
 
 -- the text of a document without an envelope
 root_text : (new : List ℕ) → (tree new).envelope ≡ None → text_of (print (tree new).root) ≡ new
-root_text new e = ap (λ o. text_of (option_line o ++ print (tree new).root)) (sym e) ∙ text_kept new
+root_text new e = ap (λ o. text_of (option_to_list o ++ print (tree new).root)) (sym e) ∙ text_kept new
 
 body_becomes : (old new front body text : List ℕ) → (tree old).envelope ≡ None → (tree new).envelope ≡ None → bytes_eq (text_of (head_lines (entity_head (tree old).root))) front ≡ true → new ≡ front ++ body → text ≡ body → SectionBecomes (1 ∷ []) (HasBody text) (tree old) (tree new)
 body_becomes old new front body text e f h n t =

@@ -4,7 +4,8 @@ use Rattle.std.proofs.lemmas.List.{take_at, drop_at, take-append-le, drop-append
 use Rattle.std.proofs.Math.Seq.{take-append-add, drop-append-add}
 use Rattle.mk_line.specs.Lines.{TextLine, AreLines, text_of, cut}
 use Rattle.mk_line.proofs.Cuts.{text_append, cut_text, lines_cut, lines_following}
-use Rattle.mk_head.specs.Split.{fields_from, option_line}
+use Rattle.mk_head.specs.Split.{fields_from}
+use Rattle.std.specs.Option.{option_to_list}
 use Rattle.mk_head.specs.Splits.{IsRun}
 use Rattle.mk_tree.specs.Cutting.{tail_lines}
 use Rattle.mk_tree.specs.Tree.{Entity, leaf, message, multi, print, print_parts, field_lines, entity_head, with_fields}
@@ -28,26 +29,26 @@ run_again inside (l ∷ ls) h = rw h.0 (ap (λ xs. l ∷ xs) (run_again true ls 
 
 -- what follows the fields in the lines of an entity
 abbrev pub after_fields : Entity → List TextLine
-after_fields e = option_line (entity_head e).separator ++ body_lines e
+after_fields e = option_to_list (entity_head e).separator ++ body_lines e
 
 pub entity_lines : (e : Entity) → print e ≡ field_lines e ++ after_fields e
-entity_lines (leaf h ls) = append_assoc h.fields (option_line h.separator) ls
-entity_lines (message h e) = append_assoc h.fields (option_line h.separator) (print e)
-entity_lines (multi h b pre ps t) = append_assoc h.fields (option_line h.separator) (pre ++ (print_parts ps ++ tail_lines t))
+entity_lines (leaf h ls) = append_assoc h.fields (option_to_list h.separator) ls
+entity_lines (message h e) = append_assoc h.fields (option_to_list h.separator) (print e)
+entity_lines (multi h b pre ps t) = append_assoc h.fields (option_to_list h.separator) (pre ++ (print_parts ps ++ tail_lines t))
 
 pub changed_lines : (fields : List TextLine) (e : Entity) → print (with_fields fields e) ≡ fields ++ after_fields e
-changed_lines fields (leaf h ls) = append_assoc fields (option_line h.separator) ls
-changed_lines fields (message h e) = append_assoc fields (option_line h.separator) (print e)
-changed_lines fields (multi h b pre ps t) = append_assoc fields (option_line h.separator) (pre ++ (print_parts ps ++ tail_lines t))
+changed_lines fields (leaf h ls) = append_assoc fields (option_to_list h.separator) ls
+changed_lines fields (message h e) = append_assoc fields (option_to_list h.separator) (print e)
+changed_lines fields (multi h b pre ps t) = append_assoc fields (option_to_list h.separator) (pre ++ (print_parts ps ++ tail_lines t))
 
 -- all lines of a document, parted around the fields of a section
 pub apart : (envelope : Option TextLine) (fs : List Frame) (e : Entity) (fields rest : List TextLine) → print e ≡ fields ++ rest
-    → document_lines (put envelope fs e) ≡ (option_line envelope ++ lines_before fs) ++ (fields ++ (rest ++ lines_after fs))
+    → document_lines (put envelope fs e) ≡ (option_to_list envelope ++ lines_before fs) ++ (fields ++ (rest ++ lines_after fs))
 apart envelope fs e fields rest p =
-    ap (λ ls. option_line envelope ++ ls) (print_plug fs e)
-    ∙ (ap (λ ls. option_line envelope ++ (lines_before fs ++ (ls ++ lines_after fs))) p
-    ∙ (sym (append_assoc (option_line envelope) (lines_before fs) ((fields ++ rest) ++ lines_after fs))
-    ∙ ap (λ ls. (option_line envelope ++ lines_before fs) ++ ls) (append_assoc fields rest (lines_after fs))))
+    ap (λ ls. option_to_list envelope ++ ls) (print_plug fs e)
+    ∙ (ap (λ ls. option_to_list envelope ++ (lines_before fs ++ (ls ++ lines_after fs))) p
+    ∙ (sym (append_assoc (option_to_list envelope) (lines_before fs) ((fields ++ rest) ++ lines_after fs))
+    ∙ ap (λ ls. (option_to_list envelope ++ lines_before fs) ++ ls) (append_assoc fields rest (lines_after fs))))
 
 pub text_apart : (xs ys zs : List TextLine) → text_of (xs ++ (ys ++ zs)) ≡ text_of xs ++ (text_of ys ++ text_of zs)
 text_apart xs ys zs = text_append xs (ys ++ zs) ∙ ap (λ t. text_of xs ++ t) (text_append ys zs)
@@ -73,7 +74,7 @@ same_after a y z e = sym (drop_at a y (length a) refl) ∙ (ap (drop (length a))
 pub head_after : (t : Document) (path : List ℕ) (place count : ℕ) (new : List ℕ) (c : ChangesFields path place count new t)
     → spliced (place - (placed t.envelope c.around c.section).start) count new (text_of (field_lines c.section)) ≡ text_of c.fields
 head_after t path place count new c =
-    let front = option_line t.envelope ++ lines_before c.around in
+    let front = option_to_list t.envelope ++ lines_before c.around in
     let h = text_of (field_lines c.section) in
     let rest = after_fields c.section ++ lines_after c.around in
     let before : printed t ≡ text_of front ++ (h ++ text_of rest) =
@@ -99,7 +100,7 @@ pub fields_after : (t : Document) (path : List ℕ) (place count : ℕ) (new : L
     → fields_from false (cut (spliced (place - (placed t.envelope c.around c.section).start) count new (text_of (field_lines c.section)))) ≡ c.fields
 fields_after t path place count new c =
     let u = put t.envelope c.around (with_fields c.fields c.section) in
-    let front = option_line t.envelope ++ lines_before c.around in
+    let front = option_to_list t.envelope ++ lines_before c.around in
     let rest = after_fields c.section ++ lines_after c.around in
     let lines : AreLines (front ++ (c.fields ++ rest)) =
     subst AreLines ((stable_kept u c.stable).lines ∙ apart t.envelope c.around (with_fields c.fields c.section) c.fields (after_fields c.section) (changed_lines c.fields c.section)) (lines_cut (printed u)) in

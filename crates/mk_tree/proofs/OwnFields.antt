@@ -2,7 +2,8 @@
 use Rattle.std.proofs.Common.{◌≡◌, ◌≤◌, ◌+◌, ◌-◌, ◌++◌, ◌&&◌, if◌then◌else◌, ℕ, zero, suc, Bool, true, false, Option, None, Some, List, [], ◌∷◌, refl, ap, sym, ◌∙◌, subst, arith, codes}
 use Rattle.mk_line.specs.Lines.{TextLine}
 use Rattle.mk_head.specs.declared.encodings.Encoding.{Encoding}
-use Rattle.mk_head.specs.Split.{head_lines, option_line}
+use Rattle.mk_head.specs.Split.{head_lines}
+use Rattle.std.specs.Option.{option_to_list}
 use Rattle.mk_head.specs.Types.{field_value, type_by, header_encoding}
 use Rattle.mk_tree.specs.Cutting.{tail_lines}
 use Rattle.mk_tree.specs.Kinds.{Kind, Leaf, Message, Multi, kind, kind_of, kind_at, is_identity, is_digest}
@@ -46,18 +47,18 @@ mutual
   entity_alike n g k m (message h e) v w = refl
   entity_alike n g k m (multi h b pre ps t) v w =
       let d = digest_same n h.fields g k b (digest_below g h) (digest_below k h) v.1 w.1 in
-      λ i. span m (size h.fields) (size (option_line h.separator)) (size (print (multi h b pre ps t))) (multi_form b (d i) (size pre) (tail_sizes t)) (spans_of (d i) ps)
+      λ i. span m (size h.fields) (size (option_to_list h.separator)) (size (print (multi h b pre ps t))) (multi_form b (d i) (size pre) (tail_sizes t)) (spans_of (d i) ps)
 
   pub parts_alike : (n : ℕ) (g k : Bool) (b : List ℕ) (ps : Parts) → AreWellRead n g b ps → AreWellRead n k b ps → spans_of g ps ≡ spans_of k ps
   parts_alike n g k b no_parts v w = refl
   parts_alike n g k b (part l e ps) v w = λ i. more_spans (entity_alike n g k (size (l ∷ [])) e v.2 w.2 i) (parts_alike n g k b ps v.3 w.3 i)
 
-pub size_entity : (e : Entity) → size (print e) ≡ size (field_lines e) + (size (option_line (entity_head e).separator) + size (body_lines e))
-size_entity (leaf h ls) = omega (arith, size_append (head_lines h) ls, size_append h.fields (option_line h.separator))
-size_entity (message h e) = omega (arith, size_append (head_lines h) (print e), size_append h.fields (option_line h.separator))
-size_entity (multi h b pre ps t) = omega (arith, size_append (head_lines h) (pre ++ (print_parts ps ++ tail_lines t)), size_append h.fields (option_line h.separator))
+pub size_entity : (e : Entity) → size (print e) ≡ size (field_lines e) + (size (option_to_list (entity_head e).separator) + size (body_lines e))
+size_entity (leaf h ls) = omega (arith, size_append (head_lines h) ls, size_append h.fields (option_to_list h.separator))
+size_entity (message h e) = omega (arith, size_append (head_lines h) (print e), size_append h.fields (option_to_list h.separator))
+size_entity (multi h b pre ps t) = omega (arith, size_append (head_lines h) (pre ++ (print_parts ps ++ tail_lines t)), size_append h.fields (option_to_list h.separator))
 
-pub rest_same : (fields : List TextLine) (e : Entity) → size (option_line (entity_head (with_fields fields e)).separator) + size (body_lines (with_fields fields e)) ≡ size (option_line (entity_head e).separator) + size (body_lines e)
+pub rest_same : (fields : List TextLine) (e : Entity) → size (option_to_list (entity_head (with_fields fields e)).separator) + size (body_lines (with_fields fields e)) ≡ size (option_to_list (entity_head e).separator) + size (body_lines e)
 rest_same fields (leaf h ls) = refl
 rest_same fields (message h e) = refl
 rest_same fields (multi h b pre ps t) = refl
@@ -77,14 +78,14 @@ pub own_fields : (n : ℕ) (d g : Bool) (count added : ℕ) (fields : List TextL
     → IsDigestOf g d fields e → IsWellRead n d e → IsWellRead n d (with_fields fields e) → (m : ℕ) → own_changed (own.Fields g) count added (span_of d m e) ≡ span_of d m (with_fields fields e)
 own_fields n d g count added fields (leaf h ls) c s q v w m =
     let longer = (fields_grow count added fields (leaf h ls) c s).longer in
-    λ i. span m (sym s i) (size (option_line h.separator)) (sym longer i) leaf_form no_spans
+    λ i. span m (sym s i) (size (option_to_list h.separator)) (sym longer i) leaf_form no_spans
 own_fields n d g count added fields (message h e) c s q v w m =
     let longer = (fields_grow count added fields (message h e) c s).longer in
-    λ i. span m (sym s i) (size (option_line h.separator)) (sym longer i) message_form (more_spans (span_of false 0 e) no_spans)
+    λ i. span m (sym s i) (size (option_to_list h.separator)) (sym longer i) message_form (more_spans (span_of false 0 e) no_spans)
 own_fields n d g count added fields (multi h b pre ps t) c s q v w m =
     let longer = (fields_grow count added fields (multi h b pre ps t) c s).longer in
     let parts : spans_of (digest_below d h) ps ≡ spans_of (is_digest (kind fields d)) ps = parts_alike (below n) (digest_below d h) (is_digest (kind fields d)) b ps v.2 w.2 in
-    λ i. span m (sym s i) (size (option_line h.separator)) (sym longer i) (multi_form b (q i) (size pre) (tail_sizes t)) (parts i)
+    λ i. span m (sym s i) (size (option_to_list h.separator)) (sym longer i) (multi_form b (q i) (size pre) (tail_sizes t)) (parts i)
 
 pub fields_fit : (d g : Bool) (count : ℕ) (e : Entity) → count ≤ size (field_lines e) → (m : ℕ) → FitsOwn (own.Fields g) count (span_of d m e)
 fields_fit d g count (leaf h ls) c m = (c, omega (arith, size_entity (leaf h ls)))

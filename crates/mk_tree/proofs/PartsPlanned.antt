@@ -2,7 +2,8 @@
 use Rattle.std.proofs.Common.{◌≡◌, ◌≤◌, ◌<◌, ◌+◌, ◌-◌, ◌++◌, ℕ, zero, suc, Bool, Option, List, [], ◌∷◌, refl, ap, sym, ◌∙◌, subst, length, arith}
 use Rattle.mk_line.specs.Lines.{TextLine, AreLines, cut, text_of}
 use Rattle.mk_line.proofs.Cuts.{text_append, cut_text, lines_following}
-use Rattle.mk_head.specs.Split.{Head, head_lines, option_line}
+use Rattle.mk_head.specs.Split.{Head, head_lines}
+use Rattle.std.specs.Option.{option_to_list}
 use Rattle.mk_tree.specs.declared.changing.Own.TheVariants as own
 use Rattle.mk_tree.specs.declared.node.Node.{Node}
 use Rattle.mk_tree.specs.Tree.{Entity, multi, Parts, no_parts, part, read, print, print_parts}
@@ -44,7 +45,7 @@ part_read left digest g k new rest s e b q following lines well =
     )
 
 abbrev multi_span : Bool → ℕ → Head → List ℕ → List TextLine → Option (TextLine × List TextLine) → ℕ → Spans → Span
-multi_span digest n h b pre t whole spans = span n (size h.fields) (size (option_line h.separator)) whole (multi_form b (digest_below digest h) (size pre) (tail_sizes t)) spans
+multi_span digest n h b pre t whole spans = span n (size h.fields) (size (option_to_list h.separator)) whole (multi_form b (digest_below digest h) (size pre) (tail_sizes t)) spans
 
 pub makes_part : (p : Placed) (left deeper k place delimiter : ℕ) (g : Bool) (new rest : List ℕ) (node : Node) → IsBehindParts p k place → node_span node ≡ span_of g delimiter (read deeper g (cut rest)) → deeper ≡ left - 1 → g ≡ form_digest (form_in p.digest p.entity)
     → ((l : TextLine) (ls : List TextLine) → cut new ≡ l ∷ ls → cut rest ≡ ls) → delimiter ≡ length new - length rest

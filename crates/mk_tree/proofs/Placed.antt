@@ -1,9 +1,9 @@
 -- The section that is found at numbers is the one that the frames around it say, and put back there it gives the tree.
 use Rattle.std.proofs.Common.{◌≡◌, ◌+◌, ◌++◌, ◌||◌, ℕ, zero, suc, Bool, true, false, Option, None, Some, List, [], ◌∷◌, refl, ap, sym, ◌∙◌, arith, append_assoc, subst, option_and_then}
-use Rattle.std.specs.Option.{option_map}
-use Rattle.mk_line.specs.Lines.{TextLine}
-use Rattle.mk_head.specs.Split.{Head, head_lines, option_line}
-use Rattle.mk_head.specs.Splits.{has_line}
+use Rattle.std.specs.Option.{option_map, option_to_list}
+use Rattle.mk_line.specs.Lines.{TextLine, is_nil}
+use Rattle.mk_head.specs.Split.{Head, head_lines}
+use Rattle.std.specs.Prelude.{not}
 use Rattle.mk_head.specs.Fields.{counted}
 use Rattle.mk_tree.specs.Cutting.{tail_lines}
 use Rattle.mk_tree.specs.Tree.{Entity, leaf, message, multi, Parts, no_parts, part, print, print_parts}
@@ -22,7 +22,7 @@ or_regroup : (a b c : Bool) → (a || (b || c)) ≡ ((a || b) || c)
 or_regroup true b c = refl
 or_regroup false b c = refl
 
-line_append : (xs ys : List TextLine) → has_line (xs ++ ys) ≡ (has_line xs || has_line ys)
+line_append : (xs ys : List TextLine) → not (is_nil (xs ++ ys)) ≡ (not (is_nil xs) || not (is_nil ys))
 line_append [] ys = refl
 line_append (x ∷ xs) ys = refl
 
@@ -38,7 +38,7 @@ map_same f g e (Some a) = ap (λ x. Some x) (e a)
 abbrev pub placed_in : Placed → List Frame → Entity → Placed
 placed_in p fs s = record {
   start = p.start + size (lines_before fs);
-  followed = has_line (lines_after fs) || p.followed;
+  followed = not (is_nil (lines_after fs)) || p.followed;
   digest = default_at p.digest fs;
   entity = s;
 }
@@ -59,10 +59,10 @@ start_join start f fs =
     let e : size (lines_before (f ∷ fs)) ≡ size (lines_before (f ∷ [])) + size (lines_before fs) = ap size (before_join f fs) ∙ size_append (lines_before (f ∷ [])) (lines_before fs) in
     omega (arith, e)
 
-followed_join : (followed : Bool) (f : Frame) (fs : List Frame) → (has_line (lines_after fs) || (has_line (lines_after (f ∷ [])) || followed)) ≡ (has_line (lines_after (f ∷ fs)) || followed)
+followed_join : (followed : Bool) (f : Frame) (fs : List Frame) → (not (is_nil (lines_after fs)) || (not (is_nil (lines_after (f ∷ []))) || followed)) ≡ (not (is_nil (lines_after (f ∷ fs))) || followed)
 followed_join followed f fs =
-    or_regroup (has_line (lines_after fs)) (has_line (lines_after (f ∷ []))) followed
-    ∙ ap (λ a. a || followed) (sym (ap has_line (after_join f fs) ∙ line_append (lines_after fs) (lines_after (f ∷ []))))
+    or_regroup (not (is_nil (lines_after fs))) (not (is_nil (lines_after (f ∷ [])))) followed
+    ∙ ap (λ a. a || followed) (sym (ap (λ ls. not (is_nil ls)) (after_join f fs) ∙ line_append (lines_after fs) (lines_after (f ∷ []))))
 
 placed_join : (p : Placed) (f : Frame) (x : Entity) (fs : List Frame) (s : Entity) → placed_in (placed_in p (f ∷ []) x) fs s ≡ placed_in p (f ∷ fs) s
 placed_join p f x fs s = λ i. record {
@@ -96,11 +96,11 @@ part_counted (suc (suc k)) place followed digest (part l e ps) =
     part_counted (suc k) (place + size (l ∷ []) + size (print e)) followed digest ps
     ∙ map_map (part_placed (place + size (l ∷ []) + size (print e)) followed digest) (part_placed place followed digest) (λ q. (part l e q.0, q.1, q.2, q.3)) (part_later place followed digest l e) (part_at (suc k) ps)
 
-line_parts : (ps : Parts) → has_line (print_parts ps) ≡ has_part ps
+line_parts : (ps : Parts) → not (is_nil (print_parts ps)) ≡ has_part ps
 line_parts no_parts = refl
 line_parts (part l e ps) = refl
 
-line_tail : (t : Option (TextLine × List TextLine)) → has_line (tail_lines t) ≡ has_tail t
+line_tail : (t : Option (TextLine × List TextLine)) → not (is_nil (tail_lines t)) ≡ has_tail t
 line_tail None = refl
 line_tail (Some p) = refl
 
@@ -109,7 +109,7 @@ part_in p h b pre t q =
     let a : size (head_lines h ++ (pre ++ (print_parts q.0 ++ (q.1 ∷ [])))) ≡ size (head_lines h) + size (pre ++ (print_parts q.0 ++ (q.1 ∷ []))) = size_append (head_lines h) (pre ++ (print_parts q.0 ++ (q.1 ∷ []))) in
     let c : size (pre ++ (print_parts q.0 ++ (q.1 ∷ []))) ≡ size pre + size (print_parts q.0 ++ (q.1 ∷ [])) = size_append pre (print_parts q.0 ++ (q.1 ∷ [])) in
     let start : (p.start + size (head_lines h) + size pre) + size (print_parts q.0 ++ (q.1 ∷ [])) ≡ p.start + size (head_lines h ++ (pre ++ (print_parts q.0 ++ (q.1 ∷ [])))) = omega (arith, a, c) in
-    let followed : (has_part q.3 || (has_tail t || p.followed)) ≡ (has_line (print_parts q.3 ++ tail_lines t) || p.followed) =
+    let followed : (has_part q.3 || (has_tail t || p.followed)) ≡ (not (is_nil (print_parts q.3 ++ tail_lines t)) || p.followed) =
     rw (line_append (print_parts q.3) (tail_lines t), line_parts q.3, line_tail t) (or_regroup (has_part q.3) (has_tail t) p.followed) in
     λ i. record { start = start i; followed = followed i; digest = digest_below p.digest h; entity = q.2 }
 
@@ -143,8 +143,8 @@ section_placed (k ∷ ks) p = ap (λ o. option_and_then (section_below ks) o) (s
 
 root_placed : (t : Document) (fs : List Frame) (s : Entity) → placed_in (root_of t) fs s ≡ placed t.envelope fs s
 root_placed t fs s = λ i. record {
-  start = sym (size_append (option_line t.envelope) (lines_before fs)) i;
-  followed = or_end (has_line (lines_after fs)) i;
+  start = sym (size_append (option_to_list t.envelope) (lines_before fs)) i;
+  followed = or_end (not (is_nil (lines_after fs))) i;
   digest = default_at false fs;
   entity = s;
 }

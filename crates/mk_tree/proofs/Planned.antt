@@ -3,7 +3,8 @@ use Rattle.std.proofs.Common.{◌≡◌, ◌≤◌, ◌<◌, ◌+◌, ◌-◌, �
 use Rattle.std.proofs.lemmas.List.{take_at, drop_at}
 use Rattle.mk_line.specs.Lines.{TextLine, AreLines, cut, text_of}
 use Rattle.mk_line.proofs.Cuts.{text_append, cut_text}
-use Rattle.mk_head.specs.Split.{Head, head_lines, option_line}
+use Rattle.mk_head.specs.Split.{Head, head_lines}
+use Rattle.std.specs.Option.{option_to_list}
 use Rattle.mk_head.specs.Fields.{counted}
 use Rattle.mk_tree.specs.declared.changing.Own.TheVariants as own
 use Rattle.mk_tree.specs.declared.node.Node.{Node}
@@ -92,7 +93,7 @@ makes_entity p left new place count node q m n = λ e b l w.
 
 head_apart : (e : Entity) → print e ≡ head_lines (entity_head e) ++ (body_lines e ++ [])
 head_apart e =
-    print_apart e ∙ (sym (append_assoc (entity_head e).fields (option_line (entity_head e).separator) (body_lines e)) ∙ ap (λ ls. head_lines (entity_head e) ++ ls) (sym (lines_end (body_lines e))))
+    print_apart e ∙ (sym (append_assoc (entity_head e).fields (option_to_list (entity_head e).separator) (body_lines e)) ∙ ap (λ ls. head_lines (entity_head e) ++ ls) (sym (lines_end (body_lines e))))
 
 pub makes_body : (p : Placed) (left : ℕ) (new whole : List ℕ) (place count : ℕ) (node : Node) → place ≡ p.start + size (head_lines (entity_head p.entity)) → count ≡ size (body_lines p.entity)
     → whole ≡ text_of (head_lines (entity_head p.entity)) ++ new → node_span node ≡ span_of p.digest 0 (read left p.digest (cut whole))

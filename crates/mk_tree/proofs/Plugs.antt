@@ -1,9 +1,10 @@
 -- An entity at a place: its lines among the others, what its place says of it, and another entity there.
 use Rattle.std.proofs.Common.{◌≡◌, ◌&&◌, ◌++◌, ℕ, zero, suc, Bool, false, Option, None, Some, List, [], ◌∷◌, refl, ap, sym, ◌∙◌, subst, append_assoc}
 use Rattle.std.proofs.lemmas.Bool.{or_parts}
-use Rattle.mk_line.specs.Lines.{TextLine}
+use Rattle.mk_line.specs.Lines.{TextLine, is_nil}
 use Rattle.mk_head.specs.Split.{Head, is_start, is_more, head_of, head_lines, after_head, belongs}
-use Rattle.mk_head.specs.Splits.{IsRun, has_line, Stops, Follows, IsSplit}
+use Rattle.mk_head.specs.Splits.{IsRun, Stops, Follows, IsSplit}
+use Rattle.std.specs.Prelude.{not}
 use Rattle.mk_head.proofs.Apart.{splits_read, reads_split}
 use Rattle.mk_tree.specs.Cutting.{tail_lines, Unmarked}
 use Rattle.mk_tree.specs.Kinds.{Leaf, Message, Multi, kind, kind_at}
@@ -126,14 +127,14 @@ pub of_ends : (fields ls : List TextLine) → Ends fields ls → IsSplit (open_h
 of_ends fields ls h = subst (λ k. IsSplit k ls) h.head (subst (IsSplit (head_of (fields ++ ls))) h.body (reads_split (fields ++ ls)))
 
 -- an entity that is read back after a head of a message continues it
-pub continues_of : (n : ℕ) (d : Bool) (fields : List TextLine) (o : Option TextLine) (e : Entity) → IsRun false fields → Follows (has_line fields) o (print e) → IsWellRead n d e → Continues fields o e
+pub continues_of : (n : ℕ) (d : Bool) (fields : List TextLine) (o : Option TextLine) (e : Entity) → IsRun false fields → Follows (not (is_nil fields)) o (print e) → IsWellRead n d e → Continues fields o e
 continues_of n d fields (Some l) e r h w = tt
 continues_of n d fields None e r h w =
-    (bare (has_line fields) n d e h w, ends_of fields (first_line (print e)) (record { run = r; next = stops_first (has_line fields) (print e) h }))
+    (bare (not (is_nil fields)) n d e h w, ends_of fields (first_line (print e)) (record { run = r; next = stops_first (not (is_nil fields)) (print e) h }))
 
-continues_follows : (fields : List TextLine) (o : Option TextLine) (s e : Entity) → Follows (has_line fields) o (print s) → Continues fields o e → Follows (has_line fields) o (print e)
+continues_follows : (fields : List TextLine) (o : Option TextLine) (s e : Entity) → Follows (not (is_nil fields)) o (print s) → Continues fields o e → Follows (not (is_nil fields)) o (print e)
 continues_follows fields (Some l) s e h c = h
-continues_follows fields None s e h c = first_stops (has_line fields) (print e) (of_ends fields (first_line (print e)) c.1).next
+continues_follows fields None s e h c = first_stops (not (is_nil fields)) (print e) (of_ends fields (first_line (print e)) c.1).next
 
 pub fits_in_of : (n : ℕ) (d : Bool) (fs : List Frame) (e : Entity) → IsWellRead n d (plug fs e) → FitsIn fs e
 fits_in_of n d [] e w = tt
@@ -152,9 +153,9 @@ deeper_follows n inside (Some l) f fs s e h w = h
 deeper_follows n inside None f fs s e h w = absurd (nothing_deeper inside n f fs s h w)
 
 -- what a message's head is followed by, with another entity at a place below it
-message_follows : (n : ℕ) (h : Head) (fs : List Frame) (s e : Entity) → Follows (has_line h.fields) h.separator (print (plug fs s)) → IsWellRead n false (plug fs s) → FitsIn (in_message h ∷ fs) e → Follows (has_line h.fields) h.separator (print (plug fs e))
+message_follows : (n : ℕ) (h : Head) (fs : List Frame) (s e : Entity) → Follows (not (is_nil h.fields)) h.separator (print (plug fs s)) → IsWellRead n false (plug fs s) → FitsIn (in_message h ∷ fs) e → Follows (not (is_nil h.fields)) h.separator (print (plug fs e))
 message_follows n h [] s e p w j = continues_follows h.fields h.separator s e p j
-message_follows n h (f ∷ fs) s e p w j = deeper_follows n (has_line h.fields) h.separator f fs s e p w
+message_follows n h (f ∷ fs) s e p w j = deeper_follows n (not (is_nil h.fields)) h.separator f fs s e p w
 
 -- the first line of a multipart's body is never inside a part
 pub stops_same : (inside : Bool) (pre : List TextLine) (before : Parts) (l : TextLine) (s e : Entity) (after : Parts) (rest : List TextLine) → Stops inside (pre ++ (print_parts (append_parts before (part l s after)) ++ rest)) → Stops inside (pre ++ (print_parts (append_parts before (part l e after)) ++ rest))
@@ -181,7 +182,7 @@ put_back n d (in_message h ∷ fs) s e w u o j = (
 put_back n d (in_multi h b pre before l after t ∷ fs) s e w u o j =
     let g = digest_below d h in
     let p = part_is (below n) g b before l (plug fs s) after w.2 in (
-      record { run = w.0.run; next = multi_follows (has_line h.fields) h.separator pre before l (plug fs s) (plug fs e) after (tail_lines t) w.0.next },
+      record { run = w.0.run; next = multi_follows (not (is_nil h.fields)) h.separator pre before l (plug fs s) (plug fs e) after (tail_lines t) w.0.next },
       w.1,
       part_put (below n) g b before l (plug fs s) (plug fs e) after w.2 (unmarked_replaced b fs s e p.0 u.0) (put_back (below n) g fs s e p.1 u.1 o (tail_fits (in_multi h b pre before l after t) fs e j)),
       w.3,

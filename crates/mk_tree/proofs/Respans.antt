@@ -1,8 +1,8 @@
 -- The lengths of a tree where one entity is another.
 use Rattle.std.proofs.Common.{◌≡◌, ◌≤◌, ◌+◌, ◌-◌, ◌++◌, ℕ, zero, suc, Bool, Option, None, Some, List, [], ◌∷◌, ap, sym, ◌∙◌, subst, arith, option_and_then}
-use Rattle.std.specs.Option.{option_map}
+use Rattle.std.specs.Option.{option_map, option_to_list}
 use Rattle.mk_line.specs.Lines.{TextLine}
-use Rattle.mk_head.specs.Split.{Head, head_lines, option_line}
+use Rattle.mk_head.specs.Split.{Head, head_lines}
 use Rattle.mk_tree.specs.Cutting.{tail_lines}
 use Rattle.mk_tree.specs.Tree.{Entity, leaf, message, multi, Parts, no_parts, part, print, print_parts}
 use Rattle.mk_tree.specs.Spans.{size, tail_sizes, message_form, multi_form, Span, span, no_spans, more_spans, span_of, spans_of, digest_below}
@@ -76,7 +76,7 @@ StepChanges k e (Some r) =
 message_changes : (h : Head) (x : Entity) → StepChanges 1 (message h x) (Some (in_message h, x))
 message_changes h x ks count added own d t w r n =
     let longer = (grows_one count added (in_message h) x t w).longer in
-    λ i. span n (size h.fields) (size (option_line h.separator)) (sym longer i) message_form (more_spans (r 0 i) no_spans)
+    λ i. span n (size h.fields) (size (option_to_list h.separator)) (sym longer i) message_form (more_spans (r 0 i) no_spans)
 
 multi_changes : (k : ℕ) (h : Head) (b : List ℕ) (pre : List TextLine) (ps : Parts) (tail : Option (TextLine × List TextLine)) (o : Option (Parts × TextLine × Entity × Parts)) → MakesParts ps o → PartChanges k ps o
     → StepChanges k (multi h b pre ps tail) (option_map (λ q. (in_multi h b pre q.0 q.1 q.3 tail, q.2)) o)
@@ -84,7 +84,7 @@ multi_changes k h b pre ps tail None m p = tt
 multi_changes k h b pre ps tail (Some q) m p = λ ks count added own d t w r n.
     let longer : size (print (multi h b pre (append_parts q.0 (part q.1 t q.3)) tail)) ≡ size (print (multi h b pre ps tail)) - count + added =
     (grows_one count added (in_multi h b pre q.0 q.1 q.3 tail) q.2 t w).longer ∙ ap (λ qs. size (print (multi h b pre qs tail)) - count + added) m in
-    λ i. span n (size h.fields) (size (option_line h.separator)) (sym longer i) (multi_form b (digest_below d h) (size pre) (tail_sizes tail)) (p (digest_below d h) (respan ks count added own) t r i)
+    λ i. span n (size h.fields) (size (option_to_list h.separator)) (sym longer i) (multi_form b (digest_below d h) (size pre) (tail_sizes tail)) (p (digest_below d h) (respan ks count added own) t r i)
 
 step_changes : (k : ℕ) (e : Entity) → StepChanges k e (step_to k e)
 step_changes k (leaf h ls) = tt

@@ -3,7 +3,7 @@ use Rattle.std.proofs.Common.{◌≡◌, ◌≤◌, ℕ, Bool, true, false, List
 use Rattle.mk_line.specs.Lines.{TextLine, cut}
 use Rattle.mk_line.specs.Kinds.{is_from_line}
 use Rattle.mk_line.proofs.Cuts.{cut_rest}
-use Rattle.mk_head.specs.Split.{option_line}
+use Rattle.std.specs.Option.{option_to_list}
 use Rattle.mk_tree.specs.Tree.{read, print}
 use Rattle.mk_tree.specs.Spans.{Span, size, span_of}
 use Rattle.mk_tree.specs.Documents.{Document, levels, enveloped, document_of, tree}
@@ -13,7 +13,7 @@ use Rattle.mk_tree.proofs.Slices.{front_within}
 use Rattle.mk_tree.proofs.Below.{delimiter_span}
 
 abbrev envelope_size : Document → ℕ
-envelope_size t = size (option_line t.envelope)
+envelope_size t = size (option_to_list t.envelope)
 
 after_envelope : (test : Bool) (l : TextLine) (ls : List TextLine) (text : List ℕ) → cut text ≡ l ∷ ls → read levels false (cut (drop (envelope_size (enveloped test l ls)) text)) ≡ (enveloped test l ls).root
 after_envelope true l ls text e = ap (read levels false) (cut_rest text (l ∷ []) ls e)
@@ -24,7 +24,7 @@ root_after [] text e = ap (read levels false) e
 root_after (l ∷ ls) text e = after_envelope (is_from_line l.content) l ls text e
 
 pub envelope_within : (text : List ℕ) (n : ℕ) → n ≡ envelope_size (tree text) → n ≤ length text
-envelope_within text n p = omega (arith, p, front_within text (option_line (tree text).envelope) (print (tree text).root) (sym (lines_kept text)))
+envelope_within text n p = omega (arith, p, front_within text (option_to_list (tree text).envelope) (print (tree text).root) (sym (lines_kept text)))
 
 pub root_read : (text raw : List ℕ) (n : ℕ) → n ≡ envelope_size (tree text) → raw ≡ drop n text → read levels false (cut raw) ≡ (tree text).root
 root_read text raw n p e = ap (λ xs. read levels false (cut xs)) (e ∙ ap (λ k. drop k text) p) ∙ root_after (cut text) text refl

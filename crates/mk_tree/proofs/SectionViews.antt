@@ -4,7 +4,8 @@ use Rattle.mk_line.specs.Lines.{TextLine, cut, text_of}
 use Rattle.std.proofs.lemmas.List.{take_at}
 use Rattle.mk_line.proofs.Cuts.{text_append, text_cut, drop_lines}
 use Rattle.std.proofs.lemmas.Bool.{cases_Bool}
-use Rattle.mk_head.specs.Split.{Head, head_of, head_lines, after_head, option_line, belongs, fields_from}
+use Rattle.mk_head.specs.Split.{Head, head_of, head_lines, after_head, belongs, fields_from}
+use Rattle.std.specs.Option.{option_to_list}
 use Rattle.mk_head.specs.Fields.{fields_of}
 use Rattle.mk_tree.specs.Cutting.{tail_lines}
 use Rattle.mk_tree.specs.Documents.{levels, tree}
@@ -48,7 +49,7 @@ fields_span d n (leaf h ls) = refl
 fields_span d n (message h e) = refl
 fields_span d n (multi h b pre ps t) = refl
 
-separator_span : (d : Bool) (n : ℕ) (e : Entity) → separator_part (span_of d n e) ≡ size (option_line (entity_head e).separator)
+separator_span : (d : Bool) (n : ℕ) (e : Entity) → separator_part (span_of d n e) ≡ size (option_to_list (entity_head e).separator)
 separator_span d n (leaf h ls) = refl
 separator_span d n (message h e) = refl
 separator_span d n (multi h b pre ps t) = refl
@@ -66,7 +67,7 @@ spans_span d n (multi h b pre ps t) = refl
 -- what a node keeps of an entity, field by field
 pub record Keeps (node : Node) (digest : Bool) (e : Entity) : Type 0 where
   pub fields : (out-Node node).fields ≡ size (entity_head e).fields
-  pub separator : (out-Node node).separator ≡ size (option_line (entity_head e).separator)
+  pub separator : (out-Node node).separator ≡ size (option_to_list (entity_head e).separator)
   pub form : form_of (out-Node node).shape ≡ form_in digest e
   pub spans : map node_span (out-Node node).parts.items ≡ span_list (spans_in digest e)
 
@@ -91,10 +92,10 @@ pub section_keeps : (node : Node) (raw : List ℕ) (start : ℕ) (digest : Bool)
 section_keeps node raw start digest left h = keeps node digest (delimiter_of (node_span node)) (read left digest (cut raw)) h.lengths
 
 -- the lines of an entity: its fields, its separator, its body
-pub print_apart : (e : Entity) → print e ≡ (entity_head e).fields ++ (option_line (entity_head e).separator ++ body_lines e)
-print_apart (leaf h ls) = append_assoc h.fields (option_line h.separator) ls
-print_apart (message h e) = append_assoc h.fields (option_line h.separator) (print e)
-print_apart (multi h b pre ps t) = append_assoc h.fields (option_line h.separator) (pre ++ (print_parts ps ++ tail_lines t))
+pub print_apart : (e : Entity) → print e ≡ (entity_head e).fields ++ (option_to_list (entity_head e).separator ++ body_lines e)
+print_apart (leaf h ls) = append_assoc h.fields (option_to_list h.separator) ls
+print_apart (message h e) = append_assoc h.fields (option_to_list h.separator) (print e)
+print_apart (multi h b pre ps t) = append_assoc h.fields (option_to_list h.separator) (pre ++ (print_parts ps ++ tail_lines t))
 
 pub raw_lines : (raw : List ℕ) (left : ℕ) (digest : Bool) → cut raw ≡ print (read left digest (cut raw))
 raw_lines raw left digest = sym (print_read left digest (cut raw))
@@ -103,7 +104,7 @@ abbrev fields_in : Entity → List TextLine
 fields_in e = (entity_head e).fields
 
 abbrev separator_in : Entity → List TextLine
-separator_in e = option_line (entity_head e).separator
+separator_in e = option_to_list (entity_head e).separator
 
 pub raw_apart : (raw : List ℕ) (left : ℕ) (digest : Bool) → cut raw ≡ fields_in (read left digest (cut raw)) ++ (separator_in (read left digest (cut raw)) ++ body_lines (read left digest (cut raw)))
 raw_apart raw left digest = raw_lines raw left digest ∙ print_apart (read left digest (cut raw))
@@ -114,8 +115,8 @@ raw_head raw left digest =
     raw_apart raw left digest
     ∙ sym (append_assoc (fields_in (read left digest (cut raw))) (separator_in (read left digest (cut raw))) (body_lines (read left digest (cut raw))))
 
-pub head_size : (h : Head) → size (head_lines h) ≡ size h.fields + size (option_line h.separator)
-head_size h = size_append h.fields (option_line h.separator)
+pub head_size : (h : Head) → size (head_lines h) ≡ size h.fields + size (option_to_list h.separator)
+head_size h = size_append h.fields (option_to_list h.separator)
 
 -- the slices of a section
 pub raw_is : (raw : List ℕ) (left : ℕ) (digest : Bool) → raw ≡ text_of (print (read left digest (cut raw)))

@@ -2,10 +2,9 @@
 use Rattle.std.proofs.Common.{◌≡◌, ◌≤◌, ◌<◌, ◌+◌, ◌-◌, ◌^◌, ◌++◌, ℕ, zero, suc, Bool, false, Option, None, Some, List, [], ◌∷◌, refl, ap, sym, ◌∙◌, subst, length, take, drop, arith, length-append, option_and_then}
 use Rattle.std.proofs.Math.Seq.{take-length}
 use Rattle.std.proofs.lemmas.List.{take_at, drop_at}
-use Rattle.std.specs.Option.{option_map}
+use Rattle.std.specs.Option.{option_map, option_to_list}
 use Rattle.mk_line.specs.Lines.{TextLine, AreLines, text_of}
 use Rattle.mk_line.proofs.Cuts.{lines_cut, lines_following, text_append}
-use Rattle.mk_head.specs.Split.{option_line}
 use Rattle.mk_tree.specs.declared.changing.Own.TheVariants as own
 use Rattle.mk_tree.specs.declared.planning.Plan.{Plan}
 use Rattle.mk_tree.specs.Tree.{Entity, print, field_lines, with_fields}
@@ -66,14 +65,14 @@ rest_numbers path numbers k e =
 pub around_is : (t : Document) (numbers : List ℕ) (fs : List Frame) (s : Entity) → place_at numbers t.root ≡ Some (fs, s) → put t.envelope fs s ≡ t
 around_is t numbers fs s f = λ i. record { envelope = t.envelope; root = place_plug numbers t.root fs s f i }
 
-put_text : (envelope : Option TextLine) (fs : List Frame) (e : Entity) → printed (put envelope fs e) ≡ text_of (option_line envelope ++ lines_before fs) ++ (text_of (print e) ++ text_of (lines_after fs))
+put_text : (envelope : Option TextLine) (fs : List Frame) (e : Entity) → printed (put envelope fs e) ≡ text_of (option_to_list envelope ++ lines_before fs) ++ (text_of (print e) ++ text_of (lines_after fs))
 put_text envelope fs e =
-    ap text_of (apart envelope fs e (print e) [] (sym (lines_end (print e)))) ∙ text_apart (option_line envelope ++ lines_before fs) (print e) (lines_after fs)
+    ap text_of (apart envelope fs e (print e) [] (sym (lines_end (print e)))) ∙ text_apart (option_to_list envelope ++ lines_before fs) (print e) (lines_after fs)
 
 -- what the plan makes is the document's text
 pub made_text : (t : Document) (numbers : List ℕ) (fs : List Frame) (s e : Entity) (new : List ℕ) (q : Plan) → place_at numbers t.root ≡ Some (fs, s) → Makes (placed t.envelope fs s) e new q → spliced q.place q.count new (printed t) ≡ printed (put t.envelope fs e)
 made_text t numbers fs s e new q f m =
-    let front = text_of (option_line t.envelope ++ lines_before fs) in
+    let front = text_of (option_to_list t.envelope ++ lines_before fs) in
     let rest = text_of (lines_after fs) in
     ap (λ d. spliced q.place q.count new (printed d)) (sym (around_is t numbers fs s f))
     ∙ (ap (spliced q.place q.count new) (put_text t.envelope fs s)
@@ -89,8 +88,8 @@ pub puts : (t : Document) (path numbers : List ℕ) (fs : List Frame) (s e : Ent
 puts t path numbers fs s e new q p f k m =
     let grows = made_grows (placed t.envelope fs s) e new q m in
     let text = made_text t numbers fs s e new q f m in
-    let before : length (printed t) ≡ size (option_line t.envelope) + (size (lines_before fs) + (size (print s) + size (lines_after fs))) = ap (λ d. length (printed d)) (sym (around_is t numbers fs s f)) ∙ size_put t.envelope fs s in
-    let start = size_append (option_line t.envelope) (lines_before fs) in
+    let before : length (printed t) ≡ size (option_to_list t.envelope) + (size (lines_before fs) + (size (print s) + size (lines_after fs))) = ap (λ d. length (printed d)) (sym (around_is t numbers fs s f)) ∙ size_put t.envelope fs s in
+    let start = size_append (option_to_list t.envelope) (lines_before fs) in
     let within : q.place + q.count ≤ length (printed t) = omega (arith, m.ends, start, before) in
     record {
       numbers = numbers;
@@ -101,7 +100,7 @@ puts t path numbers fs s e new q p f k m =
       envelope = refl;
       leads = λ l.
           (leads_place numbers t.root fs s f).1 q.count (length new) (FitsOwn q.own q.count) false grows.room
-          (omega (arith, l, ap length text, length-spliced q.place q.count new (printed t) within, m.begins, m.ends, start, size_append (option_line t.envelope) (print t.root), grows.room, (leads_place numbers t.root fs s f).0))
+          (omega (arith, l, ap length text, length-spliced q.place q.count new (printed t) within, m.begins, m.ends, start, size_append (option_to_list t.envelope) (print t.root), grows.room, (leads_place numbers t.root fs s f).0))
           m.fits 0;
       lengths = (respan_place numbers t.root fs s f q.count (length new) (own_changed q.own q.count (length new)) false e grows m.lengths).1 0;
     }
@@ -176,7 +175,7 @@ made t u path P new left q o p b e s l m =
     let deep : left ≡ left_at levels b.around =
     omega (arith, l, ap length b.path_is, subst (AsLong b.numbers) b.found (as_long b.numbers t.root), left_less levels b.around) in
     let well : IsWellRead (left_at levels b.around) (default_at false b.around) b.new = own_of levels false b.around b.new (stable_well t.envelope b.around b.new stable) in
-    let front = option_line t.envelope ++ lines_before b.around in
+    let front = option_to_list t.envelope ++ lines_before b.around in
     let lines : AreLines (print b.new) =
     lines_front (print b.new) (lines_after b.around)
     (lines_following front (print b.new ++ lines_after b.around)
@@ -204,12 +203,12 @@ not_missing t u path P o b e s = none_same (placed t.envelope b.around b.section
 pub record AreChanged (path new after : List ℕ) (q : Plan) (root : Span) (envelope : ℕ) : Type 0 where
   pub leads : LeadsTo (take (length path - 1) (drop 1 path)) q.count (length new) (FitsOwn q.own q.count) root
   pub lengths : respan (take (length path - 1) (drop 1 path)) q.count (length new) (own_changed q.own q.count (length new)) root ≡ span_of false 0 (tree after).root
-  pub front : envelope ≡ size (option_line (tree after).envelope)
+  pub front : envelope ≡ size (option_to_list (tree after).envelope)
 
 pub put_within : (path new old : List ℕ) (q : Plan) → Puts path new (tree old) q → q.place + q.count ≤ length old
 put_within path new old q h = omega (arith, h.within, ap length (text_kept old))
 
-pub put_changed : (path new old after : List ℕ) (q : Plan) (root : Span) (envelope : ℕ) → Puts path new (tree old) q → root ≡ span_of false 0 (tree old).root → envelope ≡ size (option_line (tree old).envelope) → after ≡ spliced q.place q.count new old
+pub put_changed : (path new old after : List ℕ) (q : Plan) (root : Span) (envelope : ℕ) → Puts path new (tree old) q → root ≡ span_of false 0 (tree old).root → envelope ≡ size (option_to_list (tree old).envelope) → after ≡ spliced q.place q.count new old
     → length old + (length new - q.count) < 2 ^ 64 → AreChanged path new after q root envelope
 put_changed path new old after q root envelope h r f e l =
     let numbers = rest_numbers path h.numbers 1 h.path_is in
@@ -221,7 +220,7 @@ put_changed path new old after q root envelope h r f e l =
       leads =
           subst (λ ks. LeadsTo ks q.count (length new) (FitsOwn q.own q.count) root) (sym numbers) (subst (LeadsTo h.numbers q.count (length new) (FitsOwn q.own q.count)) (sym r) (h.leads room));
       lengths = ap (λ ks. respan ks q.count (length new) all root) numbers ∙ (ap (respan h.numbers q.count (length new) all) r ∙ (h.lengths ∙ ap (λ (d : Document). span_of false 0 d.root) tree_is));
-      front = f ∙ (ap (λ o. size (option_line o)) (sym h.envelope) ∙ ap (λ (d : Document). size (option_line d.envelope)) tree_is);
+      front = f ∙ (ap (λ o. size (option_to_list o)) (sym h.envelope) ∙ ap (λ (d : Document). size (option_to_list d.envelope)) tree_is);
     }
 
 -- paths by their last number

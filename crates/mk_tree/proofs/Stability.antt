@@ -3,7 +3,7 @@
 use Rattle.std.proofs.Common.{◌≡◌, ◌↔◌, ◌++◌, ℕ, Bool, true, false, Option, None, Some, List, [], ◌∷◌, refl, ap, sym, ◌∙◌}
 use Rattle.mk_line.specs.Lines.{TextLine, cut}
 use Rattle.mk_line.specs.Kinds.{is_from_line}
-use Rattle.mk_head.specs.Split.{option_line}
+use Rattle.std.specs.Option.{option_to_list}
 use Rattle.mk_tree.specs.Cutting.{tail_lines}
 use Rattle.mk_tree.specs.Tree.{Entity, part, read, print, print_parts}
 use Rattle.mk_tree.specs.Documents.{Document, levels, enveloped, document_of, tree, document_lines, printed, IsStable}
@@ -47,12 +47,12 @@ enveloped_some : (t : Bool) (l : TextLine) (ls : List TextLine) (r : Entity) →
 enveloped_some true l ls r e h = (e, ap (λ d. d.root) h)
 enveloped_some false l ls r e h = absurd (some_none l (sym (ap (λ d. d.envelope) h)))
 
-pub parts_read : (envelope : Option TextLine) (ls : List TextLine) (r : Entity) → document_of (option_line envelope ++ ls) ≡ record { envelope = envelope; root = r } → BeginsWell envelope ls × (read levels false ls ≡ r)
+pub parts_read : (envelope : Option TextLine) (ls : List TextLine) (r : Entity) → document_of (option_to_list envelope ++ ls) ≡ record { envelope = envelope; root = r } → BeginsWell envelope ls × (read levels false ls ≡ r)
 parts_read (Some l) ls r h = enveloped_some (is_from_line l.content) l ls r refl h
 parts_read None [] r h = (tt, ap (λ d. d.root) h)
 parts_read None (l ∷ ls) r h = enveloped_none (is_from_line l.content) l ls r refl h
 
-pub read_parts : (envelope : Option TextLine) (ls : List TextLine) (r : Entity) → BeginsWell envelope ls → read levels false ls ≡ r → document_of (option_line envelope ++ ls) ≡ record { envelope = envelope; root = r }
+pub read_parts : (envelope : Option TextLine) (ls : List TextLine) (r : Entity) → BeginsWell envelope ls → read levels false ls ≡ r → document_of (option_to_list envelope ++ ls) ≡ record { envelope = envelope; root = r }
 read_parts (Some l) ls r b h = ap (λ t. enveloped t l ls) b ∙ (λ i. record { envelope = Some l; root = h i })
 read_parts None [] r b h = λ i. record { envelope = None; root = h i }
 read_parts None (l ∷ ls) r b h = ap (λ t. enveloped t l ls) b ∙ (λ i. record { envelope = None; root = h i })
@@ -63,8 +63,8 @@ fields_plain [] rest other more h p = absurd (h refl)
 fields_plain (l ∷ ls) rest other more h p = p
 
 plain_same : (n : ℕ) (f : Frame) (fs : List Frame) (s e : Entity) → IsWellRead n false (plug (f ∷ fs) s) → BeginsPlain (print (plug (f ∷ fs) s)) → BeginsPlain (print (plug (f ∷ fs) e))
-plain_same n (in_message h) fs s e w p = fields_plain h.fields (option_line h.separator) (print (plug fs s)) (print (plug fs e)) (has_fields n (in_message h) fs s w) p
-plain_same n (in_multi h b pre before l after t) fs s e w p = fields_plain h.fields (option_line h.separator) (pre ++ (print_parts (append_parts before (part l (plug fs s) after)) ++ tail_lines t)) (pre ++ (print_parts (append_parts before (part l (plug fs e) after)) ++ tail_lines t)) (has_fields n (in_multi h b pre before l after t) fs s w) p
+plain_same n (in_message h) fs s e w p = fields_plain h.fields (option_to_list h.separator) (print (plug fs s)) (print (plug fs e)) (has_fields n (in_message h) fs s w) p
+plain_same n (in_multi h b pre before l after t) fs s e w p = fields_plain h.fields (option_to_list h.separator) (pre ++ (print_parts (append_parts before (part l (plug fs s) after)) ++ tail_lines t)) (pre ++ (print_parts (append_parts before (part l (plug fs e) after)) ++ tail_lines t)) (has_fields n (in_multi h b pre before l after t) fs s w) p
 
 first_of_root : (envelope : Option TextLine) (fs : List Frame) (e : Entity) → BeginsWell envelope (print (plug fs e)) → RootFits envelope fs e
 first_of_root (Some l) fs e b = tt

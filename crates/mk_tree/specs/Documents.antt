@@ -2,7 +2,7 @@
 use Rattle.std.specs.Prelude.{◌≡◌, ◌++◌, ℕ, Bool, true, false, Option, None, Some, List, [], ◌∷◌}
 use Rattle.mk_line.specs.Lines.{TextLine, cut, text_of}
 use Rattle.mk_line.specs.Kinds.{is_from_line}
-use Rattle.mk_head.specs.Split.{option_line}
+use Rattle.std.specs.Option.{option_to_list}
 use Rattle.mk_tree.specs.Tree.{Entity, read, print}
 
 -- a message as a tree, and the From-line that a mailbox puts before it, where there is one
@@ -30,7 +30,7 @@ tree text = document_of (cut text)
 
 -- all lines of a document, in order
 abbrev pub document_lines : Document → List TextLine
-document_lines t = option_line t.envelope ++ print t.root
+document_lines t = option_to_list t.envelope ++ print t.root
 
 -- the text of a document
 abbrev pub printed : Document → List ℕ

@@ -1,7 +1,7 @@
 -- How nodes lie over a text: each over the bytes of its entity, and the nodes of parts one after another.
 use Rattle.std.specs.Prelude.{◌≡◌, ◌+◌, ◌≤◌, ◌<◌, ◌^◌, ◌||◌, ℕ, Bool, true, false, List, [], ◌∷◌, length, map, take, drop}
 use Rattle.mk_line.specs.Lines.{cut}
-use Rattle.mk_head.specs.Split.{option_line}
+use Rattle.std.specs.Option.{option_to_list}
 use Rattle.mk_tree.specs.Spans.{Span, span, size, span_of}
 use Rattle.mk_tree.specs.Tree.{read}
 use Rattle.mk_tree.specs.Documents.{tree}
@@ -64,4 +64,4 @@ pub record AreNodesOver (nodes : List Node) (text : List ℕ) (start : ℕ) (dig
 -- a document's nodes: the root's, and the length of the envelope
 pub record IsTreeOver (root : Node) (envelope : ℕ) (text : List ℕ) : Type 0 where
   pub lengths : node_span root ≡ span_of false 0 (tree text).root
-  pub front : envelope ≡ size (option_line (tree text).envelope)
+  pub front : envelope ≡ size (option_to_list (tree text).envelope)

@@ -1,9 +1,8 @@
 -- Places in a tree: an entity, and what stands around it, level by level (own).
-use Rattle.std.specs.Prelude.{◌++◌, ℕ, zero, suc, Bool, false, Option, None, Some, List, [], ◌∷◌, option_and_then}
-use Rattle.std.specs.Option.{option_map}
-use Rattle.mk_line.specs.Lines.{TextLine}
-use Rattle.mk_head.specs.Split.{Head, head_lines, option_line}
-use Rattle.mk_head.specs.Splits.{has_line}
+use Rattle.std.specs.Prelude.{◌++◌, ℕ, zero, suc, Bool, false, Option, None, Some, List, [], ◌∷◌, option_and_then, not}
+use Rattle.std.specs.Option.{option_map, option_to_list}
+use Rattle.mk_line.specs.Lines.{TextLine, is_nil}
+use Rattle.mk_head.specs.Split.{Head, head_lines}
 use Rattle.mk_head.specs.Fields.{counted}
 use Rattle.mk_tree.specs.Cutting.{tail_lines}
 use Rattle.mk_tree.specs.Tree.{Entity, leaf, message, multi, Parts, no_parts, part, print_parts}
@@ -93,8 +92,8 @@ put envelope fs e = record { envelope = envelope; root = plug fs e }
 -- the section that an entity is at a place of a document
 abbrev pub placed : Option TextLine → List Frame → Entity → Placed
 placed envelope fs e = record {
-  start = size (option_line envelope ++ lines_before fs);
-  followed = has_line (lines_after fs);
+  start = size (option_to_list envelope ++ lines_before fs);
+  followed = not (is_nil (lines_after fs));
   digest = default_at false fs;
   entity = e;
 }

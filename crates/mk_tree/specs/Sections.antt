@@ -2,7 +2,8 @@
 use Rattle.std.specs.Prelude.{◌==◌, ◌+◌, ◌++◌, ◌||◌, if◌then◌else◌, ℕ, Bool, true, false, Option, None, Some, List, [], ◌∷◌, option_and_then}
 use Rattle.mk_line.specs.Lines.{TextLine, text_of, text_line}
 use Rattle.mk_line.specs.declared.cutting.Ending.TheVariants.{Missing}
-use Rattle.mk_head.specs.Split.{head_lines, option_line}
+use Rattle.mk_head.specs.Split.{head_lines}
+use Rattle.std.specs.Option.{option_to_list}
 use Rattle.mk_head.specs.Fields.{FieldText, fields_of, counted}
 use Rattle.mk_tree.specs.Cutting.{tail_lines}
 use Rattle.mk_tree.specs.Tree.{Entity, leaf, message, multi, Parts, no_parts, part, print, print_parts, entity_head}
@@ -45,7 +46,7 @@ children p = children_of p p.entity
 
 -- the root of a document
 abbrev pub root_of : Document → Placed
-root_of t = record { start = size (option_line t.envelope); followed = false; digest = false; entity = t.root }
+root_of t = record { start = size (option_to_list t.envelope); followed = false; digest = false; entity = t.root }
 
 -- the section at the numbers after a section's own; each counts from 1
 abbrev pub section_below : List ℕ → Placed → Option Placed

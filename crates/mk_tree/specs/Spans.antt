@@ -1,8 +1,8 @@
 -- What is kept of an entity beside the text: lengths in bytes, and no place (own).
 use Rattle.std.specs.Prelude.{ℕ, Bool, false, Option, List, [], ◌∷◌, length}
-use Rattle.std.specs.Option.{option_map}
+use Rattle.std.specs.Option.{option_map, option_to_list}
 use Rattle.mk_line.specs.Lines.{TextLine, text_of}
-use Rattle.mk_head.specs.Split.{Head, option_line}
+use Rattle.mk_head.specs.Split.{Head}
 use Rattle.mk_tree.specs.Kinds.{kind, is_digest}
 use Rattle.mk_tree.specs.Tree.{Entity, leaf, message, multi, Parts, no_parts, part, print}
 
@@ -37,11 +37,11 @@ abbrev mutual
   -- of an entity after a delimiter of a length, in a digest or not
   pub span_of : Bool → ℕ → Entity → Span
   span_of digest delimiter (leaf h ls) =
-      span delimiter (size h.fields) (size (option_line h.separator)) (size (print (leaf h ls))) leaf_form no_spans
+      span delimiter (size h.fields) (size (option_to_list h.separator)) (size (print (leaf h ls))) leaf_form no_spans
   span_of digest delimiter (message h e) =
-      span delimiter (size h.fields) (size (option_line h.separator)) (size (print (message h e))) message_form (more_spans (span_of false 0 e) no_spans)
+      span delimiter (size h.fields) (size (option_to_list h.separator)) (size (print (message h e))) message_form (more_spans (span_of false 0 e) no_spans)
   span_of digest delimiter (multi h b pre ps t) =
-      span delimiter (size h.fields) (size (option_line h.separator)) (size (print (multi h b pre ps t))) (multi_form b (digest_below digest h) (size pre) (tail_sizes t)) (spans_of (digest_below digest h) ps)
+      span delimiter (size h.fields) (size (option_to_list h.separator)) (size (print (multi h b pre ps t))) (multi_form b (digest_below digest h) (size pre) (tail_sizes t)) (spans_of (digest_below digest h) ps)
 
   pub spans_of : Bool → Parts → Spans
   spans_of digest no_parts = no_spans

@@ -1,16 +1,18 @@
 //! What fields say of a body (RFC 2045, 5.1, 5.2 and 6; RFC 2046, 5.1 and 5.2.1).
 ghost use Rattle.std.specs.Prelude.{◌≡◌, ◌∷◌, List, None, codes, false, true, not, IfOk, IfNone, IfSome};
-ghost use Rattle.std.specs.Option.{option_map};
+ghost use Rattle.std.specs.Option.{option_map, option_map_or};
 ghost use Rattle.mk_line.specs.Lines.{cut as lines_of};
 ghost use Rattle.mk_head.specs.Split.{fields_from};
 ghost use Rattle.mk_head.specs.Fields.{FieldText};
-ghost use Rattle.mk_head.specs.Types.{boundary_of, encoding_by as encoding_of_value, field_value, header_encoding};
+ghost use Rattle.mk_head.specs.Types.{boundary_of, field_value, header_encoding};
 ghost use Rattle.mk_head.specs.ValueViews.{media_type_of};
 ghost use Rattle.mk_head.specs.Values.{unled};
 ghost use Rattle.mk_head.specs.Views.{field_view};
 ghost use Rattle.mk_tree.specs.Kinds.{kind, kind_of, has_boundary, has_return as holds_return, holds_message as is_message, is_identity as identity};
 ghost use Rattle.mk_tree.specs.Steps.{kind_described};
 ghost use Rattle.mk_tree.specs.inner.Said.{begins_leaf, value_said, said_first};
+ghost use Rattle.mk_head.specs.Encodings.{encoding_of};
+ghost use Rattle.mk_head.specs.declared.encodings.Encoding.TheVariants.{Identity};
 
 use mk_head::{ContentType, Encoding, Field, content_type, each_field, encoding, unfold};
 use mk_line::{leading_blanks, trimmed};
@@ -206,7 +208,7 @@ fn first_named<'a>(found: Option<Field<'a>>, next: Field<'a>, name: &[u8]) -> Op
 
 // The transfer encoding that a field says, and 7bit where there is none.
 fn encoding_by(alloc: Global, said: Option<Field<'_>>) -> Result<Encoding, AllocError>
-    ensures { IfOk result (λ e. e ≡ encoding_of_value (value_said said.entry)) }
+    ensures { IfOk result (λ e. e ≡ option_map_or encoding_of (value_said said.entry) Identity) }
 {
     match said {
         Some(field) => Ok(encoding(&unfold(alloc, &field)?)),

@@ -3,7 +3,8 @@ ghost use Rattle.std.specs.Prelude.{◌≡◌, ◌+◌, false, length, IfOk};
 ghost use Rattle.mk_tree.specs.Layouts.{IsTreeOver};
 ghost use Rattle.mk_line.specs.Lines.{cut as lines_of};
 ghost use Rattle.mk_head.specs.Fields.{fields_of};
-ghost use Rattle.mk_head.specs.Split.{fields_from, option_line};
+ghost use Rattle.mk_head.specs.Split.{fields_from};
+ghost use Rattle.std.specs.Option.{option_to_list};
 ghost use Rattle.mk_tree.specs.Spans.{size};
 ghost use Rattle.mk_tree.specs.Documents.{levels, tree};
 ghost use Rattle.mk_tree.specs.Sections.{root_of, section_fields};
@@ -126,7 +127,7 @@ pub fn after_envelope(text: &[u8]) -> &[u8]
 
 // What follows the line that a mailbox puts before a message, where it is there.
 fn skip_envelope(text: &[u8]) -> &[u8]
-    ensures envelope { length text.now ≡ size (option_line (tree text.now).envelope) + length result.now }
+    ensures envelope { length text.now ≡ size (option_to_list (tree text.now).envelope) + length result.now }
     ensures message { (tree text.now).root ≡ read levels false (lines_of result.now) }
 {
     match first_line(text) {

@@ -3,7 +3,8 @@ ghost use Rattle.std.specs.Prelude.{◌≡◌, ◌<◌, ◌+◌, ◌++◌, ◌�
 ghost use Rattle.mk_line.specs.Lines.{cut as lines_of};
 ghost use Rattle.mk_line.specs.Views.{line_of};
 ghost use Rattle.mk_line.specs.Marks.{mark};
-ghost use Rattle.mk_head.specs.Split.{separator_of, body_of, option_line};
+ghost use Rattle.mk_head.specs.Split.{separator_of, body_of};
+ghost use Rattle.std.specs.Option.{option_to_list};
 ghost use Rattle.mk_tree.specs.Upto.{is_mark as marks, is_marked as marked, upto, beyond, fields_until, rest_until};
 ghost use Rattle.mk_tree.specs.Spans.{size};
 ghost use Rattle.mk_tree.specs.Nodes.{tail_of};
@@ -89,7 +90,7 @@ pub(crate) fn skip_fields<'a>(text: &'a [u8], opened: &[&[u8]]) -> &'a [u8]
 
 /// What follows the empty line at the start, if there is one.
 pub(crate) fn skip_separator(text: &[u8]) -> &[u8]
-    ensures separator { length text.now ≡ size (option_line (separator_of (lines_of text.now))) + length result.now }
+    ensures separator { length text.now ≡ size (option_to_list (separator_of (lines_of text.now))) + length result.now }
     ensures body { body_of (lines_of text.now) ≡ lines_of result.now }
 {
     match first_line(text) {

@@ -9,7 +9,8 @@ use Rattle.mk_decide.specs.EditSplices.{splices_of}
 use Rattle.mk_decide.specs.Outcomes.{edited}
 use Rattle.mk_edit.specs.Groups.{Together, together}
 use Rattle.mk_edit.specs.History.{History}
-use Rattle.mk_edit.specs.Histories.{IsHistory, edited_by, grouped_by, left_by, started, step, text_now, with_step}
+use Rattle.mk_edit.specs.Histories.{IsHistory, edited_by, grouped_by, started, step, text_now, with_step}
+use Rattle.std.specs.Result.{result_unwrap_or}
 use Rattle.mk_edit.specs.Laws.{HistoriesStay, TextsStart}
 use Rattle.mk_edit.specs.Saving.{SavedIsLoaded, loaded}
 use Rattle.mk_uses.specs.Uses.{KeepsEdits, ShowsEdit}
@@ -60,8 +61,8 @@ group_undone message es g f made back =
 -- what was kept of a message is loaded again
 kept_loads : TextsStart → HistoriesStay → SavedIsLoaded → (message text journal : List ℕ) (es : List PlainEdit) → (k : KeepsEdits message text journal es) → loaded text journal ≡ Ok k.history
 kept_loads starts stays loads message text journal es k =
-    let made : IsHistory (left_by (started message) (step (Group es) (started message))) = stays (started message) (Group es ∷ []) (starts message).0 in
-    let history : IsHistory k.history = subst (λ r. IsHistory (left_by (started message) r)) k.made made in
+    let made : IsHistory (result_unwrap_or (step (Group es) (started message)) (started message)) = stays (started message) (Group es ∷ []) (starts message).0 in
+    let history : IsHistory k.history = subst (λ r. IsHistory (result_unwrap_or r (started message))) k.made made in
     ap (λ t. loaded t journal) k.now ∙ ap (loaded (text_now k.history)) k.written ∙ loads k.history history k.small
 
 -- taking back what was kept gives the message

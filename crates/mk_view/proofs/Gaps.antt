@@ -3,7 +3,8 @@ use Rattle.std.proofs.Common.{◌≡◌, ◌<◌, ◌≤◌, ◌+◌, ◌-◌, �
 use Rattle.std.proofs.lemmas.List.{drop_at, take_at}
 use Rattle.mk_line.specs.Lines.{AreLines, TextLine, cut, text_of}
 use Rattle.mk_line.proofs.Cuts.{cut_text, length_cut, lines_following, lines_cut, text_append}
-use Rattle.mk_head.specs.Split.{head_lines, option_line}
+use Rattle.mk_head.specs.Split.{head_lines}
+use Rattle.std.specs.Option.{option_to_list}
 use Rattle.mk_tree.specs.Cutting.{tail_lines}
 use Rattle.mk_tree.specs.Documents.{tree}
 use Rattle.mk_tree.specs.Sections.{Placed, body_lines, body_text, children, children_of, has_tail, parts_placed}
@@ -131,9 +132,9 @@ next_one total place count rest q all qs w e =
 pub root_lines : (text : List ℕ) → AreLines (body_lines (tree text).root)
 root_lines text =
     let t = tree text in
-    let all : AreLines (option_line t.envelope ++ (head_lines (entity_head t.root) ++ body_lines t.root)) =
-    subst AreLines (sym (lines_kept text) ∙ ap (λ ls. option_line t.envelope ++ ls) (head_and_body t.root)) (lines_cut text) in
-    lines_following (head_lines (entity_head t.root)) (body_lines t.root) (lines_following (option_line t.envelope) (head_lines (entity_head t.root) ++ body_lines t.root) all)
+    let all : AreLines (option_to_list t.envelope ++ (head_lines (entity_head t.root) ++ body_lines t.root)) =
+    subst AreLines (sym (lines_kept text) ∙ ap (λ ls. option_to_list t.envelope ++ ls) (head_and_body t.root)) (lines_cut text) in
+    lines_following (head_lines (entity_head t.root)) (body_lines t.root) (lines_following (option_to_list t.envelope) (head_lines (entity_head t.root) ++ body_lines t.root) all)
 
 -- what is left after the next section, by what was counted of it and where it begins and ends
 lines_counted : (place begin lines start : ℕ) (rest front : List ℕ) → begin ≡ start → front ≡ take (begin - place) rest → lines ≡ length (cut front) → lines ≡ length (cut (take (start - place) rest))

@@ -1,4 +1,5 @@
 -- The names under which the leaves of a document are stored as files (own).
+use Rattle.std.specs.Option.{option_or}
 use Rattle.std.specs.Prelude.{◌==◌, ◌++◌, ◌||◌, if◌then◌else◌, ℕ, Bool, true, not, Option, None, Some, List, [], ◌∷◌, codes, map, take}
 use Rattle.std.specs.Char.{is_ascii_alphanumeric}
 use Rattle.std.specs.List.{flat_map}
@@ -23,14 +24,9 @@ abbrev pub disposed_name : Option (List ℕ) → Option (List ℕ)
 disposed_name None = None
 disposed_name (Some value) = param_of (codes "filename") (content_type_of value).params
 
--- the first name, or the other where that is missing
-abbrev pub first_some : Option (List ℕ) → Option (List ℕ) → Option (List ℕ)
-first_some None other = other
-first_some (Some name) other = Some name
-
 -- the name that a section's fields say: `filename` of Content-Disposition, else `name` of Content-Type
 abbrev pub raw_name : Placed → Option (List ℕ)
-raw_name p = first_some (disposed_name (field_value (codes "Content-Disposition") (field_lines p.entity))) (param_of (codes "name") (type_of p).params)
+raw_name p = option_or (disposed_name (field_value (codes "Content-Disposition") (field_lines p.entity))) (param_of (codes "name") (type_of p).params)
 
 -- a slash or a backslash
 abbrev pub is_divider : ℕ → Bool

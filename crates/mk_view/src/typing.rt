@@ -1,5 +1,5 @@
 //! What the fields of a section say of it (RFC 2045, 5.1, 5.2 and 6).
-ghost use Rattle.std.specs.Prelude.{◌≡◌, ◌++◌, [], IfOk, OnOk};
+ghost use Rattle.std.specs.Prelude.{◌≡◌, ◌++◌, [], IfOk, OnOk, OnErr};
 ghost use Rattle.std.specs.Option.{option_map};
 ghost use Rattle.mk_head.specs.Types.{default_type as type_by_default, type_by};
 ghost use Rattle.mk_head.specs.ValueViews.{media_type_of};
@@ -9,9 +9,11 @@ use mk_head::{ContentType, content_type, push_media_type};
 use mk_tree::Section;
 use std::alloc::{AllocError, Global};
 
-/// Writes the content type of a section after a text, as `text/plain`; without a field that says it that of its place.
+/// Writes the content type of a section after a text, as `text/plain`; without a field that says it that of its place. After
+/// an error the text is as before.
 pub fn push_type(alloc: Global, text: &mut Vec<u8>, section: &Section<'_>) -> Result<(), AllocError>
-    ensures { OnOk result (text.new.items ≡ text.old.items ++ type_text (type_of section.now)) }
+    ensures appended { OnOk result (text.new.items ≡ text.old.items ++ type_text (type_of section.now)) }
+    ensures unchanged { OnErr result (text.new.items ≡ text.old.items) }
 {
     let value = section.value(alloc, b"Content-Type")?;
     push_said_type(text, value, section.default_message())
@@ -24,7 +26,8 @@ pub(crate) fn push_said_type(
     value: Option<Vec<u8>>,
     digest: bool,
 ) -> Result<(), AllocError>
-    ensures { OnOk result (text.new.items ≡ text.old.items ++ type_text (type_by digest (option_map (λ bytes. bytes.items) value))) }
+    ensures appended { OnOk result (text.new.items ≡ text.old.items ++ type_text (type_by digest (option_map (λ bytes. bytes.items) value))) }
+    ensures unchanged { OnErr result (text.new.items ≡ text.old.items) }
 {
     match value {
         Some(value) => push_media_type(text, &value),

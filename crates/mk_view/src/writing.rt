@@ -1,6 +1,7 @@
 //! Numbers, paths and columns, written after a text.
-ghost use Rattle.std.specs.Prelude.{◌≡◌, ◌++◌, decimal, OnOk};
-ghost use Rattle.mk_view.specs.Listing.{column, path_text};
+ghost use Rattle.std.specs.Prelude.{◌≡◌, ◌++◌, decimal, OnErr, OnOk};
+ghost use Rattle.mk_line.specs.inner.Kept.{IsKept};
+ghost use Rattle.mk_view.specs.Listing.{column, dotted, path_text};
 
 use itoa::Buffer;
 use std::alloc::AllocError;
@@ -9,23 +10,46 @@ const DOT: u8 = b'.';
 
 const SPACE: u8 = b' ';
 
-/// Writes a path: its numbers, joined by dots.
+/// Writes a path after a text: its numbers, joined by dots. After an error the text is as before.
 pub fn push_path(text: &mut Vec<u8>, path: &[u32]) -> Result<(), AllocError>
-    ensures { OnOk result (text.new.items ≡ text.old.items ++ path_text path.now) }
+    ensures appended { OnOk result (text.new.items ≡ text.old.items ++ path_text path.now) }
+    ensures unchanged { OnErr result (text.new.items ≡ text.old.items) }
+{
+    let size = text.len();
+    let pushed = push_numbers(text, path);
+    if pushed.is_err() {
+        text.truncate(size);
+    }
+    pushed
+}
+
+// The same; after an error some of it may follow the text.
+fn push_numbers(text: &mut Vec<u8>, path: &[u32]) -> Result<(), AllocError>
+    ensures appended { OnOk result (text.new.items ≡ text.old.items ++ path_text path.now) }
+    ensures kept { IsKept text.old.items text.new.items }
 {
     if let Some((first, others)) = path.split_first() {
         push_number(text, u64::from(*first))?;
         for number in others {
-            text.push(DOT)?;
-            push_number(text, u64::from(*number))?;
+            push_dotted(text, *number)?;
         }
     }
     Ok(())
 }
 
-/// Writes a number.
+// Writes a number after a dot.
+fn push_dotted(text: &mut Vec<u8>, number: u32) -> Result<(), AllocError>
+    ensures appended { OnOk result (text.new.items ≡ text.old.items ++ dotted number) }
+    ensures kept { IsKept text.old.items text.new.items }
+{
+    text.push(DOT)?;
+    push_number(text, u64::from(number))
+}
+
+/// Writes a number after a text. After an error the text is as before.
 pub(crate) fn push_number(text: &mut Vec<u8>, number: u64) -> Result<(), AllocError>
-    ensures { OnOk result (text.new.items ≡ text.old.items ++ decimal number) }
+    ensures appended { OnOk result (text.new.items ≡ text.old.items ++ decimal number) }
+    ensures unchanged { OnErr result (text.new.items ≡ text.old.items) }
 {
     let mut buffer = Buffer::new();
     text.extend_from_slice(buffer.format(number).as_bytes())

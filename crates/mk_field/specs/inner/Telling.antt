@@ -77,12 +77,13 @@ abbrev pub GathersSoFar : (Cause → Type 0) → Result Bool Cause → Said → 
 GathersSoFar IsKnown (Ok refused) said gathered before after = AreAllGathered said refused gathered before after
 GathersSoFar IsKnown (Err cause) said gathered before after = IsCutOff IsKnown cause said gathered before after
 
--- where reading fails nothing is gathered, and all messages that are known to be whole went out, unless reading was given up
-abbrev pub known_gathered : PlainFilter → Type 0 → List ℕ → List ℕ → Option (List ℕ) → Option (List ℕ) → Cause → Type 0
-known_gathered f spent text gathered out out_after cause = cause ≡ Read → ((gathered ≡ []) × GivesKnown f text out out_after) ⊎ spent
+-- where reading fails nothing is gathered, and all messages that are known to be whole went out with their lines, unless reading was
+-- given up
+abbrev pub known_gathered : PlainFilter → Type 0 → List ℕ → List ℕ → Option (List ℕ) → Option (List ℕ) → Option (List ℕ) → Option (List ℕ) → Cause → Type 0
+known_gathered f spent text gathered out out_after err err_after cause = cause ≡ Read → ((gathered ≡ []) × GivesKnown f text out out_after err err_after) ⊎ spent
 
 -- the same for the bytes that were read
 abbrev pub LeavesGathered : Type 0 → PlainFilter → Result Bool Cause → List ℕ → Held → Held → Type 0
 LeavesGathered spent f result gathered before after =
     (text : List ℕ) × Consumes before.input after.input text
-    × GathersSoFar (known_gathered f spent text gathered before.output after.output) result (said_from true f 1 (mailbox_pieces f.from_lines text)) gathered before after
+    × GathersSoFar (known_gathered f spent text gathered before.output after.output before.errors after.errors) result (said_from true f 1 (mailbox_pieces f.from_lines text)) gathered before after

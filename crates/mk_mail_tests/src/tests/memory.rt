@@ -3,8 +3,8 @@
 use super::calls::read;
 use mk_line::Ending;
 use mk_mail::{
-    Attach, AttachError, BuildError, ExtractError, NameForm, attach, build, build_in_utf8, content,
-    content_in, extract, leaves_in, list, names, numbered, push_path, push_type,
+    Attach, AttachError, BuildError, ExtractError, Multipart, NameForm, attach, build, build_with,
+    content, content_in, extract, leaves_in, list, names, numbered, push_path, push_type,
 };
 use mk_tree::Doc;
 use mk_view::{media_type, said_name, text_name};
@@ -284,8 +284,14 @@ fn memory_build_in_utf8(rt: HostRuntime) {
         return;
     };
     let (fields, parts) = ([field], [note]);
-    let message = match build_in_utf8(alloc, &fields, &parts, b"b", Ending::Lf) {
-        Err(BuildError::Memory) => build_in_utf8(alloc, &fields, &parts, b"b", Ending::Lf),
+    let multipart = Multipart {
+        utf8_names: true,
+        ..Multipart::mixed(b"b")
+    };
+    let message = match build_with(alloc, &fields, &parts, &[], &multipart, Ending::Lf) {
+        Err(BuildError::Memory) => {
+            build_with(alloc, &fields, &parts, &[], &multipart, Ending::Lf)
+        }
         message => message,
     };
     match message {

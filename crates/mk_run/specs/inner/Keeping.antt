@@ -1,13 +1,7 @@
--- A journal that is kept, in memory, and errors that speak of one.
-use Rattle.std.specs.Prelude.{[], ℕ, Bool, true, false, List, Option, None, Some}
-use Rattle.std.specs.Global.{Vec}
+-- Errors that speak of a journal that is kept.
+use Rattle.std.specs.Prelude.{Bool, true, false}
 use Rattle.mk_edit.specs.declared.errors.LoadError.{LoadError}
 use Rattle.mk_edit.specs.declared.errors.LoadError.TheVariants.{JournalSyntax, JournalOther, JournalMismatch, Memory}
-
--- the bytes of a journal, where one is kept
-abbrev pub bytes_kept : Option (Vec ℕ) → List ℕ
-bytes_kept None = []
-bytes_kept (Some v) = v.items
 
 -- whether an error says that there is no memory
 abbrev pub says_memory : LoadError → Bool

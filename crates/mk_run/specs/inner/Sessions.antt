@@ -19,14 +19,14 @@ abbrev pub sunk : Option (List ℕ) → Option (List ℕ) → Option (List ℕ) 
 sunk output errors journal = record { output = output; errors = errors; journal = journal }
 
 -- all went out, and the run ends as defined
-pub record WritesWhole (status : Status) (script : ScriptRun) (before after : Sunk) (finished : Bool) : Type 0 where
+pub record WritesWhole (status : Status) (script : ScriptRun) (before after : Sunk) (was finished : ℕ) : Type 0 where
   pub status_is : status ≡ script.run.status
   pub output : Appends before.output after.output script.run.output
   pub errors : Appends before.errors after.errors script.run.errors
-  pub journal : WritesJournal script before.journal after.journal finished
+  pub journal : WritesJournal script before.journal after.journal was finished
 
 -- fronts went out, and of the journal nothing before the whole output
-pub record WritesPart (cause : Cause) (script : ScriptRun) (before after : Sunk) (finished : Bool) : Type 0 where
+pub record WritesPart (cause : Cause) (script : ScriptRun) (before after : Sunk) (was finished : ℕ) : Type 0 where
   pub unread : cause ≡ Read → ⊥
   pub output : AppendsFront before.output after.output script.run.output
   pub errors : AppendsFront before.errors after.errors script.run.errors
@@ -34,6 +34,6 @@ pub record WritesPart (cause : Cause) (script : ScriptRun) (before after : Sunk)
   pub later : Keeps before.journal after.journal ⊎ Appends before.output after.output script.run.output
 
 -- what the steps leave, and whether they were given up
-abbrev pub LeavesSession : Result Status Cause → ScriptRun → Sunk → Sunk → Bool → Type 0
+abbrev pub LeavesSession : Result Status Cause → ScriptRun → Sunk → Sunk → ℕ → ℕ → Type 0
 LeavesSession (Ok status) = WritesWhole status
 LeavesSession (Err cause) = WritesPart cause

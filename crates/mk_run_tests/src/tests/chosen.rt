@@ -7,7 +7,7 @@ use super::shelf::{Shelf, Slot};
 use super::unpacked::{check_files, fill};
 use mk_mail::NameForm;
 use mk_rows::{Row, rows};
-use mk_run::{Cause, Manner, Report, Status, UnpackOptions, try_unpack_with};
+use mk_run::{Cause, Manner, Report, Status, UnpackOptions, try_unpack};
 use mk_script::numbers;
 use std::alloc::{AllocError, Global};
 use std::process::Abort;
@@ -132,7 +132,7 @@ fn check_row(rt: &impl Abort, alloc: Global, row: &Row) -> Result<(), Fail> {
         let mut err = Page::new(alloc, size)?;
         let mut dir = Shelf::new(alloc);
         fill(&mut dir, row)?;
-        let done = try_unpack_with(alloc, &mut input, &mut out, &mut err, &mut dir, options);
+        let done = try_unpack(alloc, &mut input, &mut out, &mut err, &mut dir, options);
         check_left(
             rt,
             alloc,
@@ -201,7 +201,7 @@ fn is_put(
         texts: true,
         sections: Some(sections),
     };
-    let done = try_unpack_with(alloc, &mut input, &mut out, &mut err, &mut dir, options);
+    let done = try_unpack(alloc, &mut input, &mut out, &mut err, &mut dir, options);
     if done == Err(Cause::Memory) {
         assert_eq!(rt; out.bytes(), b"".as_slice());
         assert!(rt; b"1.3: NoSuchSection\n".starts_with(err.bytes()));

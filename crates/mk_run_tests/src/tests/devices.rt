@@ -112,7 +112,7 @@ pub struct Page {
     failing: Failing,
     calls: u64,
     faults: u64,
-    is_finished: bool,
+    finishes: u64,
 }
 
 impl Page {
@@ -135,7 +135,7 @@ impl Page {
             failing,
             calls: 0,
             faults: 0,
-            is_finished: false,
+            finishes: 0,
         })
     }
 
@@ -144,9 +144,9 @@ impl Page {
         &self.held
     }
 
-    /// Whether it was told that all was written.
-    pub fn is_finished(&self) -> bool {
-        self.is_finished
+    /// How many times it was told that all was written.
+    pub fn finishes(&self) -> u64 {
+        self.finishes
     }
 }
 
@@ -155,7 +155,7 @@ impl Sink for Page {
 
     ghost failures = { λ s. s.faults };
 
-    ghost finished = { λ s. s.is_finished };
+    ghost finishes = { λ s. s.finishes };
 
     fn write(&mut self, piece: &[u8]) -> Result<usize, Fault> {
         let count = self.size.min(piece.len());
@@ -180,7 +180,7 @@ impl Sink for Page {
             self.faults = self.faults.saturating_add(1);
             return Err(Fault);
         }
-        self.is_finished = true;
+        self.finishes = self.finishes.saturating_add(1);
         Ok(())
     }
 

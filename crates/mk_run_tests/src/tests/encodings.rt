@@ -137,6 +137,20 @@ piece: a\nb\r\nc
 output: A: 1\r\n\r\na\r\nb\r\nc
 status: Well
 
+== carriage returns before a line feed go, in a message with line feeds
+message: A: 1\n\nx\n
+script: body 1 1\n
+piece: one\r\r\ntwo\rthree\r\r\r\n\r\n\r
+output: A: 1\n\none\ntwo\rthree\n\n\r
+status: Well
+
+== they stay in a message with CR LF
+message: A: 1\r\n\r\nx\r\n
+script: body 1 1\n
+piece: one\r\r\n
+output: A: 1\r\n\r\none\r\r\n
+status: Well
+
 == a folded field, in a message with line feeds
 message: A: 1\n\nx\n
 script: put-piece 1 1\n

@@ -70,7 +70,7 @@ fn a_word_stands_for_edits(rt: HostRuntime) -> Result<(), Fail> {
     let path = Vec::from_slice(alloc, &[1])?;
     let name = Vec::from_slice(alloc, b"A:")?;
     let word = Word::DropAll { path, name };
-    let edits = edits_for(alloc, word, &doc, Pieces::as_given(&[]), Ending::Lf)?;
+    let edits = edits_for(alloc, &word, &doc, Pieces::as_given(&[]), Ending::Lf)?;
     assert_eq!(rt; edits.len(), 2);
     Ok(())
 }

@@ -55,8 +55,8 @@ fn check_output(rt: &impl Abort, row: &Row, on: &Devices<'_>) {
     if on.out.bytes() != output {
         assert_eq!(rt; on.jout.bytes(), b"".as_slice(), "{shows}");
     }
-    assert!(rt; !on.out.is_finished() || on.jout.faults() > 0, "{shows}");
-    assert!(rt; !on.jout.is_finished(), "{shows}");
+    assert!(rt; on.out.finishes() == 0 || on.jout.faults() > 0, "{shows}");
+    assert!(rt; on.jout.finishes() == 0, "{shows}");
 }
 
 // The errors are a prefix of those of the run, and then the line that says what failed, unless they failed again.

@@ -4,10 +4,10 @@
 use super::devices::{Page, Text};
 use super::packed_kinds::{options, parts};
 use super::{SIZES, check_left};
-use mk_mail::{NameForm, Sink};
+use mk_mail::Sink;
 use mk_rows::{Row, rows};
 use mk_run::{Cause, Status};
-use mk_show::{Forward, MIXED, PackOptions, try_pack_with_messages};
+use mk_show::{Forward, PackOptions, try_pack};
 use std::alloc::{AllocError, Global};
 use std::process::Abort;
 use std::test::Fail;
@@ -182,7 +182,7 @@ fn check_row(rt: &impl Abort, alloc: Global, row: &Row) -> Result<(), Fail> {
         let mut input = Text::new(row.bytes("fields"), size);
         let mut out = Page::new(alloc, size)?;
         let mut err = Page::new(alloc, size)?;
-        let status = try_pack_with_messages(
+        let status = try_pack(
             alloc,
             &mut input,
             &mut out,
@@ -232,13 +232,10 @@ fn memory_for_forwarding(rt: HostRuntime) {
 fn check_memory(rt: &impl Abort, alloc: Global, mut out: Page, mut err: Page, message: Forward) {
     let mut input = Text::new(b"A: b", SIZE);
     let options = PackOptions {
-        form: NameForm::Utf8,
-        subtype: MIXED,
-        charset: None,
-        boundary: None,
-        turned: false,
+        utf8_names: true,
+        ..PackOptions::default()
     };
-    match try_pack_with_messages(
+    match try_pack(
         alloc,
         &mut input,
         &mut out,

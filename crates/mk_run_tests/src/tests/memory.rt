@@ -164,14 +164,14 @@ fn check_run(
     if status == Status::Memory {
         assert_eq!(rt; out.bytes(), b"".as_slice());
         assert_eq!(rt; jout.bytes(), b"".as_slice());
-        assert!(rt; !out.is_finished());
+        assert_eq!(rt; out.finishes(), 0);
         assert!(rt; err.bytes().ends_with(b"mimetool: memory\n"));
     } else {
         assert_eq!(rt; status, Status::Refused);
         assert_eq!(rt; out.bytes(), case.output);
         assert_eq!(rt; err.bytes(), case.errors);
-        assert!(rt; out.is_finished());
-        assert!(rt; jout.is_finished());
+        assert_eq!(rt; out.finishes(), 1);
+        assert_eq!(rt; jout.finishes(), 1);
     }
     status
 }

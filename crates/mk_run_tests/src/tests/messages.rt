@@ -24,7 +24,7 @@ fn messages_are_listed(rt: HostRuntime) -> Result<(), Fail> {
         let done = try_messages(rt.alloc(), &mut input, &mut out, FromLines::Any);
         assert!(rt; done.is_ok());
         assert_eq!(rt; out.bytes(), LINES);
-        assert!(rt; out.is_finished());
+        assert_eq!(rt; out.finishes(), 1);
     }
     Ok(())
 }

@@ -3,10 +3,10 @@
 use super::devices::{Page, Text};
 use super::packed::parts;
 use super::{SIZES, check_left};
-use mk_mail::{Attach, NameForm, Sink};
+use mk_mail::{Attach, Sink};
 use mk_rows::{Row, rows};
 use mk_run::{Cause, Spec, Status};
-use mk_show::{MIXED, PackOptions, try_pack_with};
+use mk_show::{PackOptions, try_pack};
 use std::alloc::Global;
 use std::process::Abort;
 use std::test::Fail;
@@ -69,23 +69,15 @@ status: Refused
 fn check_row(rt: &impl Abort, alloc: Global, row: &Row) -> Result<(), Fail> {
     let parts = parts(rt, alloc, row)?;
     let options = PackOptions {
-        form: if row.get("form").is_some() {
-            NameForm::Utf8
-        } else {
-            NameForm::Plain
-        },
-        subtype: MIXED,
-        charset: None,
-        boundary: None,
-        turned: false,
+        utf8_names: row.get("form").is_some(),
+        ..PackOptions::default()
     };
     for size in SIZES {
         let mut input = Text::new(row.bytes("fields"), size);
         let mut out = Page::new(alloc, size)?;
         let mut err = Page::new(alloc, size)?;
-        let status = try_pack_with(alloc, &mut input, &mut out, &mut err, options, &parts).expect(
-            rt, "no fault",
-        );
+        let done = try_pack(alloc, &mut input, &mut out, &mut err, options, &parts, &[]);
+        let status = done.expect(rt, "no fault");
         check_left(rt, alloc, row, status, &out, &err)?;
     }
     Ok(())
@@ -119,14 +111,8 @@ fn memory_for_a_boundary_of_its_own(rt: HostRuntime) {
 // The message goes out, or the run is given up when memory runs out.
 fn check_memory(rt: &impl Abort, alloc: Global, mut out: Page, mut err: Page, parts: &[Attach]) {
     let mut input = Text::new(b"A: b", SIZE);
-    let options = PackOptions {
-        form: NameForm::Plain,
-        subtype: MIXED,
-        charset: None,
-        boundary: None,
-        turned: false,
-    };
-    match try_pack_with(alloc, &mut input, &mut out, &mut err, options, parts) {
+    let options = PackOptions::default();
+    match try_pack(alloc, &mut input, &mut out, &mut err, options, parts, &[]) {
         Ok(status) => {
             assert_eq!(rt; status, Status::Well);
             assert!(rt; out.bytes().ends_with(b"--\n"));

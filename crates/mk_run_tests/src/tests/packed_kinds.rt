@@ -3,10 +3,10 @@
 
 use super::devices::{Page, Text};
 use super::{SIZES, check_left};
-use mk_mail::{Attach, NameForm, Sink};
+use mk_mail::{Attach, Sink};
 use mk_rows::{Cell, Row, rows};
 use mk_run::Spec;
-use mk_show::{MIXED, PackOptions, try_pack_with, try_part_with};
+use mk_show::{AttachOptions, MIXED, PackOptions, try_pack, try_part};
 use std::alloc::Global;
 use std::process::Abort;
 use std::test::Fail;
@@ -217,7 +217,7 @@ fn part(
 /// The options of a row.
 pub fn options(row: &Row) -> PackOptions<'_> {
     PackOptions {
-        form: NameForm::Plain,
+        utf8_names: false,
         subtype: bytes(row.get("subtype")).unwrap_or(MIXED),
         charset: bytes(row.get("charset")),
         boundary: bytes(row.get("boundary")),
@@ -231,14 +231,16 @@ fn check_message(rt: &impl Abort, alloc: Global, row: &Row) -> Result<(), Fail> 
         let mut input = Text::new(row.bytes("fields"), size);
         let mut out = Page::new(alloc, size)?;
         let mut err = Page::new(alloc, size)?;
-        let status = try_pack_with(
+        let status = try_pack(
             alloc,
             &mut input,
             &mut out,
             &mut err,
             options(row),
             &parts,
-        ).expect(rt, "no fault");
+            &[],
+        )
+        .expect(rt, "no fault");
         check_left(rt, alloc, row, status, &out, &err)?;
     }
     Ok(())
@@ -247,18 +249,14 @@ fn check_message(rt: &impl Abort, alloc: Global, row: &Row) -> Result<(), Fail> 
 fn check_part(rt: &impl Abort, alloc: Global, row: &Row) -> Result<(), Fail> {
     let parts = parts(rt, alloc, row)?;
     let part = parts.first().expect(rt, "a part");
-    let charset = bytes(row.get("charset"));
+    let options = AttachOptions {
+        charset: bytes(row.get("charset")),
+        utf8_names: false,
+    };
     for size in SIZES {
         let mut out = Page::new(alloc, size)?;
         let mut err = Page::new(alloc, size)?;
-        let status = try_part_with(
-            alloc,
-            &mut out,
-            &mut err,
-            NameForm::Plain,
-            charset,
-            part,
-        ).expect(rt, "no fault");
+        let status = try_part(alloc, &mut out, &mut err, options, part).expect(rt, "no fault");
         check_left(rt, alloc, row, status, &out, &err)?;
     }
     Ok(())

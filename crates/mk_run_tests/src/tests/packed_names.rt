@@ -6,7 +6,8 @@ use super::packed::parts;
 use super::shelf::Shelf;
 use mk_mail::{NameForm, Sink};
 use mk_rows::{Row, rows};
-use mk_run::{Folder, Status, try_pack_in, try_unpack_in};
+use mk_run::{Folder, Status, UnpackOptions, try_unpack};
+use mk_show::{PackOptions, try_pack};
 use std::alloc::Global;
 use std::process::Abort;
 use std::test::Fail;
@@ -134,14 +135,16 @@ const SIZES: [usize; 2] = [1, 1_000];
 // Packs what a row has with names in UTF-8, and unpacks what came out where the row says a name for that.
 fn check_row(rt: &impl Abort, alloc: Global, row: &Row) -> Result<(), Fail> {
     let parts = parts(rt, alloc, row)?;
-    let (form, boundary) = (NameForm::Utf8, row.bytes("boundary"));
+    let options = PackOptions {
+        utf8_names: true,
+        boundary: Some(row.bytes("boundary")),
+        ..PackOptions::default()
+    };
     for size in SIZES {
         let mut input = Text::new(row.bytes("fields"), size);
         let mut out = Page::new(alloc, size)?;
         let mut err = Page::new(alloc, size)?;
-        let done = try_pack_in(
-            alloc, &mut input, &mut out, &mut err, form, boundary, &parts,
-        );
+        let done = try_pack(alloc, &mut input, &mut out, &mut err, options, &parts, &[]);
         let status = done.unwrap_or(Status::Fault);
         check_left(rt, alloc, row, status, &out, &err)?;
         if let Some(name) = row.get("unpacked") {
@@ -163,10 +166,11 @@ fn check_unpacked(
     let mut out = Page::new(alloc, 1_000)?;
     let mut err = Page::new(alloc, 1_000)?;
     let mut dir = Shelf::new(alloc);
-    let form = NameForm::Utf8;
-    let done = try_unpack_in(
-        alloc, &mut input, &mut out, &mut err, &mut dir, form, false, false, false,
-    );
+    let options = UnpackOptions {
+        form: NameForm::Utf8,
+        ..UnpackOptions::default()
+    };
+    let done = try_unpack(alloc, &mut input, &mut out, &mut err, &mut dir, options);
     assert!(rt; done == Ok(Status::Well), "{}", row.shows);
     assert_eq!(rt; dir.text(name), Some(row.bytes("holds")), "{}", row.shows);
     assert_eq!(rt; dir.count(), 1, "{}", row.shows);

@@ -3,10 +3,10 @@
 use super::devices::Page;
 use super::packed::parts;
 use super::{SIZES, check_left};
-use mk_mail::{Attach, NameForm, Sink};
+use mk_mail::{Attach, Sink};
 use mk_rows::{Row, rows};
 use mk_run::{Cause, Spec, Status};
-use mk_show::try_part;
+use mk_show::{AttachOptions, try_part};
 use std::alloc::Global;
 use std::process::Abort;
 use std::test::Fail;
@@ -53,10 +53,10 @@ errors: pack: BadType 0\n
 status: Refused
 "#;
 
-fn form(row: &Row) -> NameForm {
-    match row.get("form") {
-        Some(_) => NameForm::Utf8,
-        None => NameForm::Plain,
+fn options(row: &Row) -> AttachOptions<'_> {
+    AttachOptions {
+        charset: None,
+        utf8_names: row.get("form").is_some(),
     }
 }
 
@@ -66,7 +66,8 @@ fn check_row(rt: &impl Abort, alloc: Global, row: &Row) -> Result<(), Fail> {
     for size in SIZES {
         let mut out = Page::new(alloc, size)?;
         let mut err = Page::new(alloc, size)?;
-        let status = try_part(alloc, &mut out, &mut err, form(row), part).expect(rt, "no fault");
+        let done = try_part(alloc, &mut out, &mut err, options(row), part);
+        let status = done.expect(rt, "no fault");
         check_left(rt, alloc, row, status, &out, &err)?;
     }
     Ok(())
@@ -87,7 +88,7 @@ fn a_failing_output_is_a_write_fault(rt: HostRuntime) -> Result<(), Fail> {
     let part: Attach = spec.attach(alloc, Vec::from_slice(alloc, b"hi")?)?;
     let mut out = Page::failing(alloc, 7, 2)?;
     let mut err = Page::new(alloc, 7)?;
-    let found = try_part(alloc, &mut out, &mut err, NameForm::Plain, &part);
+    let found = try_part(alloc, &mut out, &mut err, AttachOptions::default(), &part);
     assert!(rt; matches!(&found, Err(Cause::Write)));
     assert_eq!(rt; out.bytes(), b"Content-Type: ".as_slice());
     assert_eq!(rt; err.bytes(), b"".as_slice());
@@ -109,7 +110,7 @@ fn memory_for_a_part_alone(rt: HostRuntime) {
         assert!(rt; spec.attach(alloc, Vec::new(alloc)).is_ok());
         return;
     };
-    match try_part(alloc, &mut out, &mut err, NameForm::Plain, &part) {
+    match try_part(alloc, &mut out, &mut err, AttachOptions::default(), &part) {
         Ok(status) => {
             assert_eq!(rt; status, Status::Well);
             assert!(rt; out.bytes().ends_with(b"base64\n\n"));

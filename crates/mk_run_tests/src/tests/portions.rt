@@ -5,7 +5,7 @@ use super::devices::{Page, Text};
 use super::memory::page;
 use super::{SIZES, check_left};
 use mk_rows::{Row, rows};
-use mk_run::{Cause, Portion, Status, try_extract_as};
+use mk_run::{Cause, Portion, Status, try_extract};
 use std::alloc::Global;
 use std::process::Abort;
 use std::test::Fail;
@@ -197,7 +197,7 @@ fn check_portion(rt: &impl Abort, alloc: Global, row: &Row) -> Result<(), Fail> 
         let mut input = Text::new(row.bytes("message"), size);
         let mut out = Page::new(alloc, size)?;
         let mut err = Page::new(alloc, size)?;
-        let done = try_extract_as(alloc, &mut input, &mut out, &mut err, &path, wanted(row));
+        let done = try_extract(alloc, &mut input, &mut out, &mut err, &path, wanted(row));
         check_left(
             rt,
             alloc,
@@ -235,7 +235,7 @@ fn memory_for_a_prefix(rt: HostRuntime) {
 // Whether what decodes went out, rather than that memory ran out before anything did.
 fn is_given(rt: &impl Abort, alloc: Global, mut out: Page, mut err: Page) -> bool {
     let mut input = Text::new(CUT, 100);
-    let done = try_extract_as(alloc, &mut input, &mut out, &mut err, &[1], Portion::Prefix);
+    let done = try_extract(alloc, &mut input, &mut out, &mut err, &[1], Portion::Prefix);
     if done == Err(Cause::Memory) {
         assert_eq!(rt; out.bytes(), b"".as_slice());
         assert_eq!(rt; err.bytes(), b"".as_slice());

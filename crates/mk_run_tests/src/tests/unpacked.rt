@@ -5,7 +5,7 @@ use super::devices::{Page, Text};
 use super::shelf::Shelf;
 use mk_mail::{NameForm, Sink};
 use mk_rows::{Row, rows};
-use mk_run::{Folder, Status, try_unpack_in, unpack};
+use mk_run::{Folder, Status, UnpackOptions, try_unpack, unpack};
 use std::alloc::Global;
 use std::process::Abort;
 use std::test::Fail;
@@ -247,10 +247,11 @@ fn is_put_in_utf8(alloc: Global, said: &[u8], name: &[u8]) -> Result<bool, Fail>
     let mut out = Page::new(alloc, 1_000)?;
     let mut err = Page::new(alloc, 1_000)?;
     let mut dir = Shelf::new(alloc);
-    let form = NameForm::Utf8;
-    let done = try_unpack_in(
-        alloc, &mut input, &mut out, &mut err, &mut dir, form, false, false, false,
-    );
+    let options = UnpackOptions {
+        form: NameForm::Utf8,
+        ..UnpackOptions::default()
+    };
+    let done = try_unpack(alloc, &mut input, &mut out, &mut err, &mut dir, options);
     Ok(done == Ok(Status::Well) && dir.count() == 1 && dir.text(name) == Some(b"x".as_slice()))
 }
 

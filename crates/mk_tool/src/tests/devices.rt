@@ -11,7 +11,7 @@ use std::alloc::Global;
 pub struct Page {
     held: Vec<u8>,
     faults: u64,
-    is_finished: bool,
+    finishes: u64,
 }
 
 impl Page {
@@ -20,7 +20,7 @@ impl Page {
         Page {
             held: Vec::new(alloc),
             faults: 0,
-            is_finished: false,
+            finishes: 0,
         }
     }
 
@@ -35,7 +35,7 @@ impl Sink for Page {
 
     ghost failures = { λ s. s.faults };
 
-    ghost finished = { λ s. s.is_finished };
+    ghost finishes = { λ s. s.finishes };
 
     fn write(&mut self, piece: &[u8]) -> Result<usize, Fault> {
         if self.held.extend_from_slice(piece).is_err() {
@@ -46,7 +46,7 @@ impl Sink for Page {
     }
 
     fn finish(&mut self) -> Result<(), Fault> {
-        self.is_finished = true;
+        self.finishes = self.finishes.saturating_add(1);
         Ok(())
     }
 
@@ -115,7 +115,7 @@ impl Sink for Broken {
 
     ghost failures = { λ s. s.faults };
 
-    ghost finished = { λ _. false };
+    ghost finishes = { λ _. 0 };
 
     fn write(&mut self, _piece: &[u8]) -> Result<usize, Fault> {
         self.faults = self.faults.saturating_add(1);

@@ -7,7 +7,7 @@ use Rattle.mk_build.proofs.attaching.push_said.Goals as goal
 
 pub returns-in_ok-extend_from_slice-in-Some : goal.returns-in_ok-extend_from_slice-in-Some
 returns-in_ok-extend_from_slice-in-Some c =
-    on_ok c.push_percent.result _ _ c.push_percent.ensures
+    on_ok c.push_percent.result _ _ c.push_percent.ensures.appended
     (λ h.
     joined c.args.text.now.items (codes "; filename*=utf-8''") (percent_encoded c.in-Some.said.now) c.extend_from_slice.new.self.items c.push_percent.new.text.items c.in_ok-extend_from_slice-in-Some.ensures.items h
     ∙ ap (λ o. c.args.text.now.items ++ said_param (option_map (λ v. v.now) o)) (sym c.in-Some.is))

@@ -1,5 +1,5 @@
-use Rattle.std.proofs.Common.{◌≡◌, false, inl, inr, List, ℕ, refl, sym, true}
-use Rattle.std.specs.Str.{IsUtf8, is_utf8}
+use Rattle.std.proofs.Common.{inl, inr, sym}
+use Rattle.std.specs.Str.{is_utf8}
 use Rattle.std.proofs.lemmas.Bool.{cases_Bool}
 use Rattle.std.proofs.lemmas.Str.{IsUtf8-from_is_utf8, is_utf8-from_IsUtf8}
 use Rattle.mk_build.proofs.attachment.is_utf8.Goals as goal

@@ -1,8 +1,10 @@
 use Rattle.std.proofs.Common.{◌≡◌, map, drop}
 use Rattle.mk_build.specs.BuildViews.{written_of}
-use Rattle.mk_build.specs.Building.{first_failing, is_name_or_none}
+use Rattle.mk_build.specs.Building.{first_failing, is_name}
+use Rattle.std.specs.Option.{option_map_or}
 use Rattle.mk_build.proofs.Failing.{following}
+use Rattle.std.specs.Prelude.{true}
 use Rattle.mk_build.proofs.building.bad_name.Given as goal
 
 abbrev pub invariant-loop-index : goal.invariant-loop-index
-invariant-loop-index l = following l.index (first_failing (λ a. is_name_or_none a.name) (drop l.index (map written_of l.parts))) ≡ first_failing (λ a. is_name_or_none a.name) (map written_of l.parts)
+invariant-loop-index l = following l.index (first_failing (λ a. option_map_or is_name a.name true) (drop l.index (map written_of l.parts))) ≡ first_failing (λ a. option_map_or is_name a.name true) (map written_of l.parts)

@@ -26,7 +26,7 @@ returns c =
     let last = c.extend_from_slice-5.new.self.items in
     on_ok c.extend_from_slice-5.result _ _ (written c.extend_from_slice-5.result seven c.bytes-3.result.now last c.extend_from_slice-5.ensures.items)
     (λ h.
-    joined t (printed_line (delimiter_line eol b)) fields one last c.in_ok-push_delimiter.ensures
+    joined t (printed_line (delimiter_line eol b)) fields one last c.in_ok-push_delimiter.ensures.appended
     (joined one (codes "Content-Type: message/rfc822") (end ++ (attachment_line eol f.inline ++ (wide ++ (end ++ tail)))) two last c.in_ok-extend_from_slice.ensures.items
     (joined two end (attachment_line eol f.inline ++ (wide ++ (end ++ tail))) three last (c.in_ok-extend_from_slice-2.ensures.items ∙ ap (λ x. two ++ x) c.bytes.ensures)
     (joined three (attachment_line eol f.inline) (wide ++ (end ++ tail)) four last c.in_ok-push_attachment.ensures

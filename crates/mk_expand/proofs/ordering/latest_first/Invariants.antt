@@ -1,8 +1,7 @@
-use Rattle.std.proofs.Common.{◌≡◌}
-use Rattle.std.specs.Vec.Iter.{into_iter_items}
-use Rattle.mk_script.specs.ScriptViews.{paths_in}
+use Rattle.std.proofs.Common.{◌≡◌, drop}
+use Rattle.mk_script.specs.ScriptViews.{items_of}
 use Rattle.mk_expand.specs.Paths.{latest_among, latest_first}
 use Rattle.mk_expand.proofs.ordering.latest_first.Given as goal
 
 abbrev pub invariant-loop-path : goal.invariant-loop-path
-invariant-loop-path l = latest_among (paths_in l.list.items) (paths_in (into_iter_items l.path-iterator)) ≡ latest_first (paths_in l.fn.paths.items)
+invariant-loop-path l = latest_among (items_of l.list.items) (items_of (drop l.path-index l.paths)) ≡ latest_first (items_of l.paths)

@@ -11,4 +11,4 @@ use Rattle.mk_expand.proofs.words.attach_to.Goals as goal
 pub returns-in-Ok-clause-edits : goal.returns-in-Ok-clause-edits
 returns-in-Ok-clause-edits c =
     attach_told c.args.eol c.args.path.items (attached_file (record { media = c.args.file.now.media.now; path = c.args.file.now.path.now }) c.args.text.items) (attached_of c.in_ok-part.part) (section_at c.args.path.items (tree c.args.doc.now))
-    c.in-Ok.text.items c.in_ok-text-in-Ok.text.items (plain_edits c.in_ok-append-in-Ok.field-0.items) c.in_ok-part.ensures c.in-Ok.ensures.text.0 c.in-Ok.ensures.text.1 (c.in_ok-text-in-Ok.ensures ∙ ap (λ p. made_part c.args.eol c.in-Ok.text.items (section_at p (tree c.args.doc.now))) c.deref.ensures.value) c.in_ok-append-in-Ok.ensures
+    c.in-Ok.text.items c.in_ok-text-in-Ok.text.items (plain_edits c.in_ok-append-in-Ok.field-0.items) c.in_ok-part.ensures.part c.in-Ok.ensures.text.0 c.in-Ok.ensures.text.1 (c.in_ok-text-in-Ok.ensures ∙ ap (λ p. made_part c.args.eol c.in-Ok.text.items (section_at p (tree c.args.doc.now))) c.deref.ensures.value) c.in_ok-append-in-Ok.ensures

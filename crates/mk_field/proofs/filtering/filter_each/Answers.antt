@@ -2,7 +2,7 @@ use Rattle.std.proofs.Common.{refl}
 use Rattle.mk_transfer.specs.RunClauses.{counts}
 use Rattle.mk_field.specs.FilterViews.{filter_of}
 use Rattle.mk_field.proofs.FilterLemmas.{not_both_stops, sending_blamed}
-use Rattle.mk_field.proofs.TurnLemmas.{flushed_leaves, some_gathered, stopped_failed, stopped_leaves}
+use Rattle.mk_field.proofs.TurnLemmas.{flushed_leaves, some_gathered, stopped_failed, stopped_leaves, turn_counted}
 use Rattle.mk_field.proofs.filtering.filter_each.Goals as goal
 
 pub returns-in-Ok-clause-leaves : goal.returns-in-Ok-clause-leaves
@@ -20,3 +20,4 @@ returns-clause-blamed g c =
     sending_blamed c.in-Err.stop c.writing.result before after c.writing.ensures
     (λ e. stopped_failed turn.result before mid after turn.ensures.blamed turn.ensures.clean (c.in-Err.ensures.sends.fault e) c.in-Err.ensures.sends.counted refl)
     (λ w. not_both_stops c.in-Err.stop c.in-Err.ensures.only w) (some_gathered turn.new.gathered.items turn.ensures.steady c.in-Err.ensures.needed)
+    (turn_counted turn.result before mid turn.ensures.blamed turn.ensures.clean)

@@ -95,7 +95,7 @@ returns-in-Err-say_message-clause-blamed g c =
     (counts (g.S.Source.failures c.args.input.now) (g.S.Source.read_count c.args.input.now) (g.O.Sink.failures c.args.out.now) (g.E.Sink.failures c.args.err.now))
     (counts (g.S.Source.failures c.next_message.new.input) (g.S.Source.read_count c.next_message.new.input) (g.O.Sink.failures c.say_message.new.out) (g.E.Sink.failures c.say_message.new.err))
     c.writing.ensures (λ e. rw (c.in-Ok-Some.ensures.output_well ∙ well.output, well.errors) at (c.in-Err-say_message.ensures.failed e))
-    (λ e. let same = c.in-Err-say_message.ensures.memory e in (same.0 ∙ (c.in-Ok-Some.ensures.output_well ∙ well.output), same.1 ∙ well.errors)) (c.in-Ok-Some.ensures.well ∙ well.input)
+    (λ e. let same = c.in-Err-say_message.ensures.memory e in (same.0 ∙ (c.in-Ok-Some.ensures.output_well ∙ well.output), same.1 ∙ well.errors)) (c.in-Ok-Some.ensures.well ∙ well.input) (omega (arith, c.say_message.ensures.counted, well.errors))
 
 pub loop-turn-preserved : goal.loop-turn-preserved
 loop-turn-preserved g c =

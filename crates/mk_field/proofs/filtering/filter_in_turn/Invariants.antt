@@ -2,7 +2,7 @@ use Rattle.std.proofs.Common.{◌≡◌, ◌≤◌, ◌+◌, ◌*◌, ◌⊎◌,
 use Rattle.std.specs.Io.KnownBytes.{Consumes, IsAtEnd}
 use Rattle.mk_mailbox.specs.Devices.{IsFull}
 use Rattle.mk_field.specs.FilterViews.{filter_of}
-use Rattle.mk_mailbox.specs.Mailboxes.{chunk_bytes}
+use Rattle.mk_mailbox.specs.Mailboxes.{read_limit}
 use Rattle.mk_transfer.specs.RunClauses.{SameFailures, counts}
 use Rattle.mk_field.proofs.FilterLemmas.{AreOut}
 use Rattle.mk_field.proofs.filtering.filter_in_turn.Given as goal
@@ -15,6 +15,6 @@ invariant-loop-turn g l = record {
   well : SameFailures
       (counts (g.S.Source.failures l.fn.input) (g.S.Source.read_count l.fn.input) (g.O.Sink.failures l.fn.out) (g.E.Sink.failures l.fn.err))
       (counts (g.S.Source.failures l.input) (g.S.Source.read_count l.input) (g.O.Sink.failures l.out) (g.E.Sink.failures l.err));
-  unfinished : g.O.Sink.finished l.out ≡ g.O.Sink.finished l.fn.out;
-  count : (l.turn + length l.mailbox.kept + chunk_bytes * g.S.Source.read_count l.fn.input ≤ chunk_bytes * g.S.Source.read_count l.input) ⊎ IsFull (g.S.Source.read_count l.input);
+  unfinished : g.O.Sink.finishes l.out ≡ g.O.Sink.finishes l.fn.out;
+  count : (l.turn + length l.mailbox.kept + read_limit * g.S.Source.read_count l.fn.input ≤ read_limit * g.S.Source.read_count l.input) ⊎ IsFull (g.S.Source.read_count l.input);
 }

@@ -38,4 +38,4 @@ returns-in-Err-say_whole-clause-blamed g c =
     sending_blamed c.in-Err-say_whole.stop c.writing.result
     (counts (g.S.Source.failures c.args.input.now) (g.S.Source.read_count c.args.input.now) (g.O.Sink.failures c.args.out.now) (g.E.Sink.failures c.args.err.now))
     (counts (g.S.Source.failures c.read_all.new.input) (g.S.Source.read_count c.read_all.new.input) (g.O.Sink.failures c.say_whole.new.out) (g.E.Sink.failures c.say_whole.new.err))
-    c.writing.ensures c.in-Err-say_whole.ensures.failed c.in-Err-say_whole.ensures.memory c.in-Ok.ensures.well
+    c.writing.ensures c.in-Err-say_whole.ensures.failed c.in-Err-say_whole.ensures.memory c.in-Ok.ensures.well c.say_whole.ensures.counted

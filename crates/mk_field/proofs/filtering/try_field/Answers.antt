@@ -1,4 +1,4 @@
-use Rattle.std.proofs.Common.{inl}
+use Rattle.std.proofs.Common.{arith, inl}
 use Rattle.mk_field.specs.FilterViews.{filter_of}
 use Rattle.mk_transfer.specs.RunClauses.{counts}
 use Rattle.mk_field.specs.Filtering.{messages_of, said_from}
@@ -29,4 +29,4 @@ returns-in-Err-finish-clause-blamed g c =
     sending_blamed c.in-Err-finish.stop c.writing.result
     (counts (g.S.Source.failures c.args.input.now) (g.S.Source.read_count c.args.input.now) (g.O.Sink.failures c.args.out.now) (g.E.Sink.failures c.args.err.now))
     (counts (g.S.Source.failures c.filter_input.new.input) (g.S.Source.read_count c.filter_input.new.input) (g.O.Sink.failures c.finish.new.out) (g.E.Sink.failures c.filter_input.new.err))
-    c.writing.ensures (λ _. inl (rw clean.output at c.in-Err-finish.ensures.fault)) (λ w. not_both_stops c.in-Err-finish.stop c.in-Err-finish.ensures.only w) clean.input
+    c.writing.ensures (λ _. inl (rw clean.output at c.in-Err-finish.ensures.fault)) (λ w. not_both_stops c.in-Err-finish.stop c.in-Err-finish.ensures.only w) clean.input (omega (arith, clean.errors))

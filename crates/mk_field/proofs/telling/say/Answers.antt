@@ -2,6 +2,7 @@ use Rattle.std.proofs.Common.{◌∙◌, [], subst}
 use Rattle.std.proofs.lemmas.Result.{err_from_is_err_and}
 use Rattle.mk_field.specs.inner.Telling.{Gathers, GathersFront, printed_text, told_said}
 use Rattle.mk_field.proofs.GatheredLemmas.{front_flushed, front_then, gathers_flushed, gathers_then}
+use Rattle.mk_transfer.proofs.Blames.{sends_counted}
 use Rattle.mk_field.proofs.ToldLemmas.{says_front, says_partly, says_reported, sent_fault, sent_memory, sent_well}
 use Rattle.mk_field.proofs.telling.say.Goals as goal
 
@@ -46,3 +47,6 @@ returns-clause-memory g c = sent_memory c.report.result _ _ _ _ _ _ _ (c.in_ok-f
 
 pub returns-clause-errors_well : goal.returns-clause-errors_well
 returns-clause-errors_well g c = sent_well c.report.result _ _ _ _ _ c.report.ensures.sends
+
+pub returns-clause-counted : goal.returns-clause-counted
+returns-clause-counted g c = sends_counted c.report.result _ _ _ _ _ c.report.ensures.sends

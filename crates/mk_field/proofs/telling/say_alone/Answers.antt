@@ -1,6 +1,7 @@
 use Rattle.std.proofs.Common.{subst}
 use Rattle.std.specs.Io.KnownBytes.{Appends}
 use Rattle.mk_field.specs.inner.Telling.{told_said}
+use Rattle.mk_transfer.proofs.Blames.{sends_counted}
 use Rattle.mk_field.proofs.ToldLemmas.{says_alone, says_alone_partly, sent_fault, sent_memory, sent_well}
 use Rattle.mk_field.proofs.telling.say_alone.Goals as goal
 
@@ -22,3 +23,6 @@ returns-clause-memory g c = sent_memory c.report.result _ _ _ _ _ _ _ c.in_ok-se
 
 pub returns-clause-errors_well : goal.returns-clause-errors_well
 returns-clause-errors_well g c = sent_well c.report.result _ _ _ _ _ c.report.ensures.sends
+
+pub returns-clause-counted : goal.returns-clause-counted
+returns-clause-counted g c = sends_counted c.report.result _ _ _ _ _ c.report.ensures.sends

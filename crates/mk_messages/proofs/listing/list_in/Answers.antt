@@ -23,7 +23,7 @@ pub returns-in_default-clause-listed : goal.returns-in_default-clause-listed
 returns-in_default-clause-listed g c =
     let t = c.loop-turn.invariant.told in
     let e = c.next.ensures.exact in
-    (t.0 ++ e.0, Consumes-trans _ _ _ t.0 e.0 t.2 e.1, stopped_between c.args.from_lines (t.0 ++ e.0) t.1 _ _ _ (taken_all c.args.from_lines t.0 e.0 t.1 c.loop-turn.mailbox t.3 e.2) t.6)
+    (t.0 ++ e.0, Consumes-trans _ _ _ t.0 e.0 t.2 e.1, stopped_between c.args.from_lines (t.0 ++ e.0) t.1 _ _ _ (taken_all c.args.from_lines t.0 e.0 t.1 c.loop-turn.mailbox t.3 e.2.over) t.6)
 
 pub returns-in-Err-clause-listed : goal.returns-in-Err-clause-listed
 returns-in-Err-clause-listed g c =
@@ -35,7 +35,7 @@ returns-in-Err-clause-listed g c =
       Consumes-trans _ _ _ t.0 e.0 t.2 e.1,
       stopped_within way c.loop-turn.turn c.loop-turn.start (t.0 ++ e.0) m t.1 (mailbox_pieces way (c.next.new.self.kept ++ [])) _ _ _ t.4 t.5
           (ap (mailbox_pieces way) (sym (append-nil (t.0 ++ e.0)))
-          ∙ taken_next way t.0 e.0 m t.1 c.loop-turn.mailbox c.next.new.self t.3 e.2 (λ o. (c.next.ensures.stays o).0) c.loop-turn.invariant.same e.4 [] (λ _. refl))
+          ∙ taken_next way t.0 e.0 m t.1 c.loop-turn.mailbox c.next.new.self t.3 e.2.over e.2.stays c.loop-turn.invariant.same e.2.reply [] (λ _. refl))
           t.6 c.in-Err.ensures.sends.front,
     )
 
@@ -53,20 +53,20 @@ returns-in-Ok-None-clause-listed g c =
     let e = rw c.in-Ok-None.field-0-is at c.in-Ok-None.ensures.exact in (
       t.0 ++ e.0,
       Consumes-trans _ _ _ t.0 e.0 t.2 e.1,
-      listed_all c.args.from_lines (t.0 ++ e.0) t.1 _ _ (all_taken c.args.from_lines t.0 e.0 t.1 c.loop-turn.mailbox c.next.new.self t.3 e.2 e.4) t.6,
+      listed_all c.args.from_lines (t.0 ++ e.0) t.1 _ _ (all_taken c.args.from_lines t.0 e.0 t.1 c.loop-turn.mailbox c.next.new.self t.3 e.2.over e.2.reply) t.6,
     )
 
 pub returns-in-Err-ReadFault-clause-listed : goal.returns-in-Err-ReadFault-clause-listed
 returns-in-Err-ReadFault-clause-listed g c =
     let t = c.loop-turn.invariant.told in
     let e = c.next.ensures.exact in
-    (t.0 ++ e.0, Consumes-trans _ _ _ t.0 e.0 t.2 e.1, stopped_between c.args.from_lines (t.0 ++ e.0) t.1 _ _ _ (taken_all c.args.from_lines t.0 e.0 t.1 c.loop-turn.mailbox t.3 e.2) t.6)
+    (t.0 ++ e.0, Consumes-trans _ _ _ t.0 e.0 t.2 e.1, stopped_between c.args.from_lines (t.0 ++ e.0) t.1 _ _ _ (taken_all c.args.from_lines t.0 e.0 t.1 c.loop-turn.mailbox t.3 e.2.over) t.6)
 
 pub returns-in-Err-Memory-clause-listed : goal.returns-in-Err-Memory-clause-listed
 returns-in-Err-Memory-clause-listed g c =
     let t = c.loop-turn.invariant.told in
     let e = c.next.ensures.exact in
-    (t.0 ++ e.0, Consumes-trans _ _ _ t.0 e.0 t.2 e.1, stopped_between c.args.from_lines (t.0 ++ e.0) t.1 _ _ _ (taken_all c.args.from_lines t.0 e.0 t.1 c.loop-turn.mailbox t.3 e.2) t.6)
+    (t.0 ++ e.0, Consumes-trans _ _ _ t.0 e.0 t.2 e.1, stopped_between c.args.from_lines (t.0 ++ e.0) t.1 _ _ _ (taken_all c.args.from_lines t.0 e.0 t.1 c.loop-turn.mailbox t.3 e.2.over) t.6)
 
 pub returns-clause-listed : goal.returns-clause-listed
 returns-clause-listed g c =
@@ -83,22 +83,22 @@ loop-turn-preserved g c =
         t.0 ++ e.0,
         t.1 ++ m ∷ [],
         Consumes-trans _ _ _ t.0 e.0 t.2 e.1,
-        one_taken c.args.from_lines t.0 e.0 m t.1 c.loop-turn.mailbox c.next.new.self t.3 e.2 (λ o. (c.next.ensures.stays o).0) c.loop-turn.invariant.same e.4,
+        one_taken c.args.from_lines t.0 e.0 m t.1 c.loop-turn.mailbox c.next.new.self t.3 e.2.over e.2.stays c.loop-turn.invariant.same e.2.reply,
         omega (arith, t.4, length-append t.1 (m ∷ [])),
         omega (arith, t.5, size_more t.1 m, c.in-Some.ensures),
         line_out c.loop-turn.turn c.loop-turn.start m t.1 _ _ _ t.4 t.5 t.6 c.in-Ok.ensures.sends.whole,
       );
       ended = λ n. elim (c.next.ensures.ended n) [
-        | inl old ↦ subst IsAtEnd (sym (c.next.ensures.stays old).1) (c.loop-turn.invariant.ended old)
+        | inl old ↦ subst IsAtEnd (sym (c.next.ensures.idle old).0) (c.loop-turn.invariant.ended old)
         | inr end ↦ end
       ];
-      same = c.next.ensures.same ∙ c.loop-turn.invariant.same;
+      same = c.next.ensures.exact.2.same ∙ c.loop-turn.invariant.same;
       well = record {
         input = c.in-Ok-Some.ensures.well ∙ c.loop-turn.invariant.well.input;
         output = c.in-Ok.ensures.sends.well ∙ c.loop-turn.invariant.well.output;
         errors = refl;
       };
       unfinished = c.in-Ok.ensures.unfinished ∙ c.loop-turn.invariant.unfinished;
-      turns = omega (arith, c.loop-turn.invariant.turns, e.4.some, c.in-Some.ensures);
-      count = counted_on_to _ _ _ _ _ m e.0 c.loop-turn.mailbox c.next.new.self c.loop-turn.invariant.count e.3 e.4 (omega (arith, c.in-Some.ensures));
+      turns = omega (arith, c.loop-turn.invariant.turns, e.2.reply.some, c.in-Some.ensures);
+      count = counted_on_to _ _ _ _ _ m e.0 c.loop-turn.mailbox c.next.new.self c.loop-turn.invariant.count e.3 e.2.reply (omega (arith, c.in-Some.ensures));
     }

@@ -1,7 +1,7 @@
 use Rattle.std.proofs.Common.{◌≡◌, ◌≤◌, ◌+◌, ◌*◌, ◌⊎◌, ℕ, List, true, length}
 use Rattle.std.specs.Io.KnownBytes.{Appends, Consumes, IsAtEnd}
 use Rattle.mk_mailbox.specs.Devices.{IsFull}
-use Rattle.mk_mailbox.specs.Mailboxes.{chunk_bytes}
+use Rattle.mk_mailbox.specs.Mailboxes.{read_limit}
 use Rattle.mk_transfer.specs.RunClauses.{SameFailures, counts}
 use Rattle.mk_messages.specs.MessageLines.{lines_from}
 use Rattle.mk_messages.proofs.Taken.{AreTaken, size_of}
@@ -17,7 +17,7 @@ invariant-loop-turn g l = record {
   well : SameFailures
       (counts (g.S.Source.failures l.fn.input) (g.S.Source.read_count l.fn.input) (g.O.Sink.failures l.fn.out) 0)
       (counts (g.S.Source.failures l.input) (g.S.Source.read_count l.input) (g.O.Sink.failures l.out) 0);
-  unfinished : g.O.Sink.finished l.out ≡ g.O.Sink.finished l.fn.out;
+  unfinished : g.O.Sink.finishes l.out ≡ g.O.Sink.finishes l.fn.out;
   turns : l.turn ≤ l.start;
-  count : (l.start + length l.mailbox.kept + chunk_bytes * g.S.Source.read_count l.fn.input ≤ chunk_bytes * g.S.Source.read_count l.input) ⊎ IsFull (g.S.Source.read_count l.input);
+  count : (l.start + length l.mailbox.kept + read_limit * g.S.Source.read_count l.fn.input ≤ read_limit * g.S.Source.read_count l.input) ⊎ IsFull (g.S.Source.read_count l.input);
 }

@@ -1,7 +1,7 @@
 use Rattle.std.proofs.Common.{◌≡◌, ◌≤◌, ◌<◌, ◌+◌, ◌*◌, ◌⊎◌, ℕ, List, true, length}
 use Rattle.std.specs.Io.KnownBytes.{Consumes, IsAtEnd}
 use Rattle.mk_mailbox.specs.Devices.{IsFull}
-use Rattle.mk_mailbox.specs.Mailboxes.{chunk_bytes}
+use Rattle.mk_mailbox.specs.Mailboxes.{read_limit}
 use Rattle.mk_messages.proofs.Taken.{AreTaken}
 use Rattle.mk_messages.proofs.picking.pick.Given as goal
 
@@ -13,5 +13,5 @@ invariant-loop-turn g l = record {
   same : l.mailbox.from_lines ≡ l.fn.from_lines;
   well : g.S.Source.failures l.input ≡ g.S.Source.failures l.fn.input;
   below : l.turn < l.number;
-  count : (0 + length l.mailbox.kept + chunk_bytes * g.S.Source.read_count l.fn.input ≤ chunk_bytes * g.S.Source.read_count l.input) ⊎ IsFull (g.S.Source.read_count l.input);
+  count : (0 + length l.mailbox.kept + read_limit * g.S.Source.read_count l.fn.input ≤ read_limit * g.S.Source.read_count l.input) ⊎ IsFull (g.S.Source.read_count l.input);
 }

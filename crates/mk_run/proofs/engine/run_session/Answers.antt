@@ -1,10 +1,9 @@
-use Rattle.std.proofs.Common.{◌≡◌, ◌∙◌, if◌then◌else◌, sym, ap, map, inl}
+use Rattle.std.proofs.Common.{◌≡◌, ◌∙◌, if◌then◌else◌, sym, ap, map, inl, refl}
 use Rattle.std.proofs.KnownBytes.{Keeps-refl}
 use Rattle.mk_edit.specs.Histories.{text_now}
 use Rattle.mk_run.specs.Journaling.{journaling_of, left_journal}
 use Rattle.mk_transfer.specs.declared.status.Status.TheVariants.{Well, Refused}
 use Rattle.mk_run.specs.Runs.{history_after}
-use Rattle.mk_run.specs.inner.Keeping.{bytes_kept}
 use Rattle.mk_expand.specs.Views.{pieces_of}
 use Rattle.mk_script.specs.ScriptViews.{step_by}
 use Rattle.mk_transfer.proofs.Fronts.{AppendsFront-none, AppendsFront-whole}
@@ -36,7 +35,7 @@ returns-clause-leaves g c =
     let last = history_after (pieces_of c.args.pieces) (map step_by c.args.steps.items) c.args.session in
     let journaling = journaling_of c.args.journal in
     let text_is : c.text.result.now ≡ text_now last = c.text.ensures.now ∙ ap text_now c.in-Ok.ensures.done in
-    let kept_is : bytes_kept c.in-Ok-journal_of.kept ≡ left_journal journaling last = c.in-Ok-journal_of.ensures ∙ ap (left_journal journaling) c.in-Ok.ensures.done in
+    let kept_is : c.deref.result.now ≡ left_journal journaling last = c.deref.ensures.value ∙ c.in-Ok-journal_of.ensures ∙ ap (left_journal journaling) c.in-Ok.ensures.done in
     record {
       unread = λ e. writing-not_read c.in-Err-print.stop (sym c.writing-in-Err-print.ensures ∙ e);
       output = rw text_is at c.in-Err-print.ensures.output_front;
@@ -50,7 +49,7 @@ returns-in-Ok-print-clause-leaves g c =
     let last = history_after (pieces_of c.args.pieces) (map step_by c.args.steps.items) c.args.session in
     let journaling = journaling_of c.args.journal in
     let text_is : c.text.result.now ≡ text_now last = c.text.ensures.now ∙ ap text_now c.in-Ok.ensures.done in
-    let kept_is : bytes_kept c.in-Ok-journal_of.kept ≡ left_journal journaling last = c.in-Ok-journal_of.ensures ∙ ap (left_journal journaling) c.in-Ok.ensures.done in
+    let kept_is : c.deref.result.now ≡ left_journal journaling last = c.deref.ensures.value ∙ c.in-Ok-journal_of.ensures ∙ ap (left_journal journaling) c.in-Ok.ensures.done in
     let status_is : c.if-refused.result ≡ (if c.in-Ok.refused then Refused else Well) = elim c.if-refused.branch [
       | then-refused w ↦ rw w.if-refused.true w.result-is
       | else-refused w ↦ rw w.if-refused.false w.result-is
@@ -59,5 +58,18 @@ returns-in-Ok-print-clause-leaves g c =
       status_is = status_at _ c.in-Ok.refused c.if-refused.result c.in-Ok.ensures.refused status_is;
       output = rw text_is at c.in-Ok-print.ensures.output;
       errors = c.in-Ok.ensures.sends.whole;
-      journal = record { whole = rw kept_is at c.in-Ok-print.ensures.journal; stands = rw kept_is at c.in-Ok-print.ensures.stands };
+      journal = record { whole = rw kept_is at c.in-Ok-print.ensures.journal; stands = rw kept_is at c.in-Ok-print.ensures.stands; untouched = rw kept_is at c.in-Ok-print.ensures.untouched };
     }
+
+pub returns-in-Err-clause-unfinished : goal.returns-in-Err-clause-unfinished
+returns-in-Err-clause-unfinished g c = inl refl
+
+pub returns-in-Err-journal_of-clause-unfinished : goal.returns-in-Err-journal_of-clause-unfinished
+returns-in-Err-journal_of-clause-unfinished g c = inl refl
+
+pub returns-clause-unfinished : goal.returns-clause-unfinished
+returns-clause-unfinished g c =
+    let last = history_after (pieces_of c.args.pieces) (map step_by c.args.steps.items) c.args.session in
+    let journaling = journaling_of c.args.journal in
+    let kept_is : c.deref.result.now ≡ left_journal journaling last = c.deref.ensures.value ∙ c.in-Ok-journal_of.ensures ∙ ap (left_journal journaling) c.in-Ok.ensures.done in
+    rw kept_is at c.in-Err-print.ensures.unfinished

@@ -13,7 +13,7 @@ returns-in-Ok-report_syntax-clause-leaves g c =
         written = record { output = Appends-nil _; errors = c.in-Ok-report_syntax.ensures.whole };
         read = Keeps-refl _;
       }),
-      rw bad (record { whole = Appends-nil _; stands = λ some. absurd (some refl) }),
+      rw bad (record { whole = Appends-nil _; stands = λ some. absurd (some refl); untouched = λ _. refl }),
     )
 
 pub returns-in-Err-clause-leaves : goal.returns-in-Err-clause-leaves
@@ -32,3 +32,9 @@ returns-in-Err-Memory-clause-leaves g c = (
   record { output = AppendsFront-none _ _; errors = AppendsFront-none _ _; silent = λ _. Keeps-refl _ },
   record { front = AppendsFront-none _ _; later = inl (Keeps-refl _) },
 )
+
+pub returns-in-Err-clause-unfinished : goal.returns-in-Err-clause-unfinished
+returns-in-Err-clause-unfinished g c = ([], Consumes-nil _, inl refl)
+
+pub returns-in-Err-Memory-clause-unfinished : goal.returns-in-Err-Memory-clause-unfinished
+returns-in-Err-Memory-clause-unfinished g c = ([], Consumes-nil _, inl refl)

@@ -1,22 +1,20 @@
-use Rattle.std.proofs.Common.{◌≡◌, Option, None, Some, refl, ap, subst}
+use Rattle.std.proofs.Common.{refl}
 use Rattle.std.specs.Option.{option_map}
-use Rattle.mk_line.specs.declared.cutting.Ending.TheVariants.{Lf}
-use Rattle.mk_build.specs.declared.building.BuildError.{BuildError}
-use Rattle.mk_build.specs.Building.{attach_refusal, attached}
-use Rattle.mk_transfer.specs.RunClauses.{held}
-use Rattle.mk_transfer.specs.Said.{Run}
-use Rattle.mk_show.specs.Alone.{first_refusal, no_input, refusal_with}
-use Rattle.mk_show.specs.Packing.{part_in, told}
-use Rattle.mk_show.specs.Shown.{ShowsSoFar}
+use Rattle.mk_show.specs.Alone.{IsAlone, no_input}
+use Rattle.mk_build.specs.BuildViews.{written_in}
+use Rattle.mk_show.specs.Shown.{run_of_answer}
+use Rattle.mk_transfer.specs.RunClauses.{counts}
+use Rattle.mk_transfer.proofs.Blames.{writing_blamed}
+use Rattle.mk_show.proofs.ShownLemmas.{ShowsSoFar-written}
 use Rattle.mk_show.proofs.alone.try_part.Goals as goal
 
--- without a charset only the part can be refused
-same_reason : (reason : Option BuildError) → refusal_with None reason ≡ reason
-same_reason None = refl
-same_reason (Some error) = refl
+pub returns-in-Ok-clause-leaves : goal.returns-in-Ok-clause-leaves
+returns-in-Ok-clause-leaves g c =
+    ShowsSoFar-written (IsAlone (option_map (λ c. c.now) c.args.options.charset) (written_in c.args.options.utf8_names c.args.part.now)) (run_of_answer c.in-Ok.answer) c.print.result no_input no_input _ _ _ _ c.in-Ok.ensures refl c.print.ensures.written c.print.ensures.only
 
-pub returns-clause-leaves : goal.returns-clause-leaves
-returns-clause-leaves g c =
-    let a = part_in c.args.form c.args.part.now in
-    subst (λ (run : Run). ShowsSoFar (λ (r : Run). r ≡ run) c.try_part_with.result (held no_input (g.O.Sink.contents c.args.out.now) (g.E.Sink.contents c.args.err.now)) (held no_input (g.O.Sink.contents c.try_part_with.new.out) (g.E.Sink.contents c.try_part_with.new.err)))
-    (ap (told (attached Lf a)) (same_reason (option_map first_refusal (attach_refusal a)))) c.try_part_with.ensures.leaves
+pub returns-in-Ok-clause-blamed : goal.returns-in-Ok-clause-blamed
+returns-in-Ok-clause-blamed g c =
+    writing_blamed c.print.result
+    (counts 0 0 (g.O.Sink.failures c.args.out.now) (g.E.Sink.failures c.args.err.now))
+    (counts 0 0 (g.O.Sink.failures c.print.new.out) (g.E.Sink.failures c.print.new.err))
+    c.print.ensures.only c.print.ensures.failed refl c.print.ensures.counted

@@ -1,6 +1,6 @@
 use Rattle.std.proofs.Common.{sym, subst}
 use Rattle.mk_view.specs.LeafViews.{AreAt}
-use Rattle.mk_show.specs.Chosen.{paths_of}
+use Rattle.mk_script.specs.ScriptViews.{items_of}
 use Rattle.mk_show.proofs.ChoosingLemmas.{kept_more, kept_same, safe_more, at_more}
 use Rattle.mk_show.proofs.choosing.within.Goals as goal
 
@@ -9,7 +9,7 @@ loop-leaf-preserved-in-Continue-1 c =
     let items = c.in-Some.ensures.steps.0 in
     let chosen = rw c.deref.ensures.value at (sym c.if-is_within.ensures) in
     record {
-      kept = kept_more (paths_of c.args.sections.now) _ _ c.in-Some.leaf _ _ c.in_ok-push.ensures.items chosen (rw items at c.loop-leaf.invariant.kept);
+      kept = kept_more (items_of c.args.sections.now) _ _ c.in-Some.leaf _ _ c.in_ok-push.ensures.items chosen (rw items at c.loop-leaf.invariant.kept);
       safe = λ all.
           let before = c.loop-leaf.invariant.safe all in
           let rest = rw items at before.0 in
@@ -25,7 +25,7 @@ loop-leaf-preserved c =
     let items = c.in-Some.ensures.steps.0 in
     let left = rw c.deref.ensures.value at (sym c.if-is_within.ensures) in
     record {
-      kept = kept_same (paths_of c.args.sections.now) _ c.in-Some.leaf _ _ left (rw items at c.loop-leaf.invariant.kept);
+      kept = kept_same (items_of c.args.sections.now) _ c.in-Some.leaf _ _ left (rw items at c.loop-leaf.invariant.kept);
       safe = λ all.
           let before = c.loop-leaf.invariant.safe all in
           let rest = rw items at before.0 in

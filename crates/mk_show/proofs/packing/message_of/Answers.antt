@@ -1,30 +1,36 @@
-use Rattle.std.proofs.Common.{◌≡◌, IfOk, map, ap, subst, ◌∙◌}
+use Rattle.std.proofs.Common.{◌≡◌, Bool, IfOk, map, ap, subst, ◌∙◌}
 use Rattle.mk_build.specs.Forwards.{built_with, refusal_with}
 use Rattle.mk_build.specs.ForwardViews.{forwarded_of}
 use Rattle.mk_build.specs.Multiparts.{Multipart, multipart_of}
-use Rattle.mk_build.specs.BuildViews.{attached_of}
+use Rattle.mk_build.specs.BuildViews.{attached_of, written_in}
 use Rattle.mk_show.specs.FreeBoundary.{free_boundary}
-use Rattle.mk_show.specs.Packing.{manner_of, multipart_with, part_in, told}
+use Rattle.mk_show.specs.Packing.{manner_of, multipart_with, told}
 use Rattle.mk_show.specs.Shown.{run_of_answer}
 use Rattle.mk_show.proofs.packing.message_of.Goals as goal
 
 pub returns-in-Some : goal.returns-in-Some
 returns-in-Some c =
     let fields = map (λ f. f.items) c.args.fields.now in
-    let parts = map (part_in c.args.options.form) c.args.parts.now in
+    let parts = map (written_in c.args.options.utf8_names) c.args.parts.now in
     let messages = map forwarded_of c.args.messages.now in
+    let m = multipart_of c.multipart-multipart.result in
+    let named = subst (λ (utf8 : Bool). IfOk c.answer.result (λ a. run_of_answer a ≡ told (built_with c.args.eol fields (map (written_in utf8) c.args.parts.now) messages m) (refusal_with fields (map (written_in utf8) c.args.parts.now) messages m)))
+    c.multipart-multipart.ensures.names c.answer.ensures in
     rw c.in-Some.is (subst (λ (k : Multipart). IfOk c.answer.result (λ a. run_of_answer a ≡ told (built_with c.args.eol fields parts messages k) (refusal_with fields parts messages k)))
-    c.multipart-multipart.ensures c.answer.ensures)
+    c.multipart-multipart.ensures.kind named)
 
 pub returns-in_ok-boundary-in-None : goal.returns-in_ok-boundary-in-None
 returns-in_ok-boundary-in-None c =
     let fields = map (λ f. f.items) c.args.fields.now in
     let files = map attached_of c.args.parts.now in
-    let parts = map (part_in c.args.options.form) c.args.parts.now in
+    let parts = map (written_in c.args.options.utf8_names) c.args.parts.now in
     let messages = map forwarded_of c.args.messages.now in
     let manner = manner_of c.args.options in
     let m = multipart_with manner (free_boundary fields files messages) in
     let made : multipart_of c.multipart-multipart-in-None.result ≡ m =
-    c.multipart-multipart-in-None.ensures ∙ ap (multipart_with manner) (c.deref.ensures.value ∙ c.in_ok-boundary-in-None.ensures) in
+    c.multipart-multipart-in-None.ensures.kind ∙ ap (multipart_with manner) (c.deref.ensures.value ∙ c.in_ok-boundary-in-None.ensures) in
+    let k = multipart_of c.multipart-multipart-in-None.result in
+    let named = subst (λ (utf8 : Bool). IfOk c.answer-in-None.result (λ a. run_of_answer a ≡ told (built_with c.args.eol fields (map (written_in utf8) c.args.parts.now) messages k) (refusal_with fields (map (written_in utf8) c.args.parts.now) messages k)))
+    c.multipart-multipart-in-None.ensures.names c.answer-in-None.ensures in
     rw c.in-None.is (subst (λ (k : Multipart). IfOk c.answer-in-None.result (λ a. run_of_answer a ≡ told (built_with c.args.eol fields parts messages k) (refusal_with fields parts messages k)))
-    made c.answer-in-None.ensures)
+    made named)

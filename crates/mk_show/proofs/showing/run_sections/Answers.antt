@@ -1,7 +1,7 @@
 use Rattle.std.proofs.Common.{◌∙◌, sym}
 use Rattle.mk_show.specs.Shown.{IsListed}
 use Rattle.mk_transfer.specs.RunClauses.{counts}
-use Rattle.mk_transfer.proofs.Blames.{blame_stays}
+use Rattle.mk_transfer.proofs.Blames.{blame_stays, blamed_least}
 use Rattle.mk_show.proofs.ShownLemmas.{Shows-ended, Shows-given_up}
 use Rattle.mk_show.proofs.showing.run_sections.Goals as goal
 
@@ -17,6 +17,10 @@ returns-in-Err-clause-leaves g c =
       left.1,
       rw c.give_up.ensures.status (Shows-given_up _ (IsListed left.0) c.in-Err.cause _ _ _ _ _ _ _ left.2 (record {
         told = _;
+        least = blamed_least c.in-Err.cause
+            (counts (g.S.Source.failures c.args.input.now) (g.S.Source.read_count c.args.input.now) (g.O.Sink.failures c.args.out.now) (g.E.Sink.failures c.args.err.now))
+            (counts (g.S.Source.failures c.try_sections.new.input) (g.S.Source.read_count c.try_sections.new.input) (g.O.Sink.failures c.try_sections.new.out) (g.E.Sink.failures c.try_sections.new.err)) c.in-Err.ensures.blamed;
+        most = c.give_up.ensures.counted;
         borne = c.in-Err.ensures.blamed;
         front = c.give_up.ensures.line;
         whole = c.give_up.ensures.whole;

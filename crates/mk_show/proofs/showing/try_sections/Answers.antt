@@ -24,4 +24,4 @@ returns-in-Ok-sections-clause-blamed g c =
     writing_blamed c.print.result
     (counts (g.S.Source.failures c.args.input.now) (g.S.Source.read_count c.args.input.now) (g.O.Sink.failures c.args.out.now) (g.E.Sink.failures c.args.err.now))
     (counts (g.S.Source.failures c.read_doc.new.input) (g.S.Source.read_count c.read_doc.new.input) (g.O.Sink.failures c.print.new.out) (g.E.Sink.failures c.print.new.err))
-    c.print.ensures.only c.print.ensures.failed c.in-Ok.ensures.well
+    c.print.ensures.only c.print.ensures.failed c.in-Ok.ensures.well c.print.ensures.counted

@@ -13,6 +13,7 @@ loop-leaf-init g c =
       done = ([], rw items refl, λ t h. (subst (AreAt t) (sym items) h, UnpackedAll-none c.args.manner t _ _ _ (Appends-nil _) (Appends-nil _)));
       well = record { output = refl; errors = refl; folder = refl };
       safe = rw items c.requires;
+      unfinished = refl;
     }
 
 pub returns-in_err-refused-clause-some : goal.returns-in_err-refused-clause-some
@@ -44,4 +45,5 @@ loop-leaf-preserved g c =
       );
       well = record { output = well.output ∙ before.output; errors = well.errors ∙ before.errors; folder = well.folder ∙ before.folder };
       safe = safe.1;
+      unfinished = c.in_ok-refused.ensures.unfinished ∙ c.loop-leaf.invariant.unfinished;
     }

@@ -16,4 +16,5 @@ invariant-loop-leaf g l = record {
   well : NoneFailed (failures (g.O.Sink.failures l.fn.out) (g.E.Sink.failures l.fn.err) (g.F.Folder.failures l.fn.dir))
       (failures (g.O.Sink.failures l.out) (g.E.Sink.failures l.err) (g.F.Folder.failures l.dir));
   safe : AreSafe (map leaf_view (into_iter_items l.leaf-iterator));
+  unfinished : g.O.Sink.finishes l.out ≡ g.O.Sink.finishes l.fn.out;
 }

@@ -1,4 +1,4 @@
-use Rattle.std.proofs.Common.{◌≡◌, true, false, rules, refl, inl, inr}
+use Rattle.std.proofs.Common.{◌≡◌, arith, true, false, rules, refl, inl, inr}
 use Rattle.std.proofs.lemmas.Result.{err_from_is_err_and}
 use Rattle.std.proofs.KnownBytes.{Appends-nil}
 use Rattle.mk_view.specs.LeafViews.{leaf_view}
@@ -19,6 +19,8 @@ returns-in-Err g c =
       failed = tt;
       memory = tt;
       well = record { output = refl {a = g.O.Sink.failures c.args.out.now}; errors = sent.well; folder = refl {a = g.F.Folder.failures c.args.dir.now} };
+      counted = omega (arith, sent.well);
+      unfinished = refl {a = g.O.Sink.finishes c.args.out.now};
     }
 
 pub returns-in_err-report_undecoded-in-Err : goal.returns-in_err-report_undecoded-in-Err
@@ -34,6 +36,8 @@ returns-in_err-report_undecoded-in-Err g c =
       failed = λ e. inr (inl (stopped.fault e));
       memory = λ e. record { output = refl {a = g.O.Sink.failures c.args.out.now}; errors = stopped.steady e; folder = refl {a = g.F.Folder.failures c.args.dir.now} };
       well = tt;
+      counted = stopped.counted;
+      unfinished = refl {a = g.O.Sink.finishes c.args.out.now};
     })
 
 pub returns-in_ok-say_stored-in-Some-clause-all : goal.returns-in_ok-say_stored-in-Some-clause-all
@@ -41,7 +45,7 @@ returns-in_ok-say_stored-in-Some-clause-all g c =
     let leaf = leaf_view c.args.leaf.now in
     let content = c.in-Ok.ensures.content in
     let put = rw (c.deref-2.ensures.value, c.deref-3.ensures.value, c.in-Some.is) at c.in_ok-put.ensures.put in
-    let sent = rw c.deref-in-Some.ensures.value at c.in_ok-say_stored-in-Some.ensures in
+    let sent = rw c.deref-in-Some.ensures.value at c.in_ok-say_stored-in-Some.ensures.sends in
     λ t here. UnpackedAll-one c.args.manner t leaf _ false _ _ (stored-leaf c.args.manner t leaf _ _ _ _ (rw here content) put) (rw here sent.whole) (Appends-nil _) refl
 
 pub returns-in_err-say_stored-in-Some-clause-some : goal.returns-in_err-say_stored-in-Some-clause-some
@@ -50,7 +54,7 @@ returns-in_err-say_stored-in-Some-clause-some g c =
     let leaf = leaf_view c.args.leaf.now in
     let content = c.in-Ok.ensures.content in
     let put = rw (c.deref-2.ensures.value, c.deref-3.ensures.value, c.in-Some.is) at c.in_ok-put.ensures.put in
-    let stopped = rw c.deref-in-Some.ensures.value at c.in_err-say_stored-in-Some.ensures in
+    let stopped = rw c.deref-in-Some.ensures.value at c.in_err-say_stored-in-Some.ensures.sends in
     rw from.1 (λ t here. UnpackedSome-one c.args.manner t leaf _ _ _ (stored-leaf c.args.manner t leaf _ _ _ _ (rw here content) put) (rw here stopped.front) (AppendsFront-none _ _))
 
 pub returns-in_ok-report_exists-in-None-clause-all : goal.returns-in_ok-report_exists-in-None-clause-all

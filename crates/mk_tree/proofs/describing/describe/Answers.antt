@@ -1,13 +1,16 @@
 use Rattle.std.proofs.Common.{Some, ap, sym, ◌∙◌, false, refl}
 use Rattle.mk_line.specs.Lines.{cut as lines_of}
 use Rattle.mk_head.specs.Split.{fields_from}
-use Rattle.mk_head.specs.Types.{encoding_by, header_encoding}
+use Rattle.mk_head.specs.Types.{header_encoding}
+use Rattle.std.specs.Option.{option_map_or}
 use Rattle.mk_head.specs.Values.{content_type_of, unled}
 use Rattle.mk_head.specs.ValueViews.{media_type_of}
 use Rattle.mk_tree.specs.Steps.{kind_described}
 use Rattle.mk_tree.specs.inner.Said.{begins_leaf, value_said}
 use Rattle.mk_tree.proofs.KindsSaid.{kind_by, kind_some}
 use Rattle.mk_tree.proofs.LeafTypes.{leaf_type}
+use Rattle.mk_head.specs.Encodings.{encoding_of}
+use Rattle.mk_head.specs.declared.encodings.Encoding.TheVariants.{Identity}
 use Rattle.mk_tree.proofs.describing.describe.Goals as goal
 
 pub returns-then-is_surely_leaf : goal.returns-then-is_surely_leaf
@@ -19,7 +22,7 @@ returns-then-is_surely_leaf c =
 pub returns-in_ok-content_type-in-Some : goal.returns-in_ok-content_type-in-Some
 returns-in_ok-content_type-in-Some c =
     kind_some (fields_from false (lines_of c.args.head.now)) c.args.digest c.in_ok-encoding-in-Some.encoding c.in_ok-value-in-Some.value.items (media_type_of c.in_ok-content_type-in-Some.field-0) kind_described c.describe_type.result
-    (c.in_ok-encoding-in-Some.ensures ∙ ap encoding_by c.said_in.ensures.encoding)
+    (c.in_ok-encoding-in-Some.ensures ∙ ap (λ o. option_map_or encoding_of o Identity) c.said_in.ensures.encoding)
     (ap (λ v. Some v) c.in_ok-value-in-Some.ensures ∙ (sym (ap value_said c.in-Some.is) ∙ c.said_in.ensures.media))
     (c.in_ok-content_type-in-Some.ensures ∙ ap content_type_of c.deref-in-Some.ensures.value)
     c.describe_type.ensures

@@ -10,4 +10,4 @@ written o a b c d e p n l k f ha hb hc hd he = let same = regroup o p n l k f in
 
 pub returns : goal.returns
 unfolding listing_line
-returns c = written _ _ _ _ _ _ _ _ _ _ _ c.in_ok-push_path.ensures c.in_ok-push_nature.ensures c.in_ok-push_places.ensures c.in_ok-push_line_counts.ensures c.in_ok-push.ensures.items
+returns c = written _ _ _ _ _ _ _ _ _ _ _ c.in_ok-push_path.ensures.appended c.in_ok-push_nature.ensures c.in_ok-push_places.ensures c.in_ok-push_line_counts.ensures c.in_ok-push.ensures.items

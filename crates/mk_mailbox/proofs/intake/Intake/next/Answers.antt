@@ -1,4 +1,4 @@
-use Rattle.std.proofs.Common.{◌≡◌, ◌∙◌, true, false, drop, inl, inr, subst, sym, rules}
+use Rattle.std.proofs.Common.{◌≡◌, ◌∙◌, arith, true, false, drop, inl, inr, subst, sym, rules}
 use Rattle.std.proofs.lemmas.Result.{err_from_is_err_and}
 use Rattle.mk_line.specs.Lines.{has_line_feed}
 use Rattle.mk_mailbox.specs.Gathered.{IsSplit}
@@ -71,9 +71,20 @@ loop-read-preserved g c =
       told = read_more _ _ _ c.args.self.now.ended (kept_by c.args.self.now) (kept_by c.take_lines.new.self) (kept_by c.read.new.self) t.0 b.0 _ _ _ t.1 t.2 t.3 (same ∙ t.4) b.1 goes_on b.2 b.3;
       ended = λ e. inr (c.read.ensures.ended e);
       stays = λ e. absurd (goes_on e);
+      idle = λ e. absurd (goes_on e);
+      began = λ _. goes_on;
       known = λ known. absurd (kept_unknown i c.take_lines.ensures.intake taken undecided (known_on _ _ _ _ (c.take_lines.ensures.same ∙ c.loop-read.invariant.same) (same ∙ (c.loop-read.invariant.known known).2) known));
       same = c.read.ensures.same ∙ (c.take_lines.ensures.same ∙ c.loop-read.invariant.same);
       well = search rules;
       grown = grown_on _ _ (kept_by c.loop-read.self) (kept_by c.take_lines.new.self) (kept_by c.read.new.self) b.0 c.loop-read.self.ended c.read.new.self.ended c.loop-read.invariant.grown (sym c.take_lines.ensures.ended ∙ c.if-self.false) same b.2 c.in_ok-read.ensures.grew;
       count = counted_on _ _ _ _ c.loop-read.invariant.count c.in_ok-read.ensures.counted;
     }
+
+pub returns-in_err-read-clause-idle : goal.returns-in_err-read-clause-idle
+returns-in_err-read-clause-idle g c = λ e. absurd (true_or_false c.take_lines.new.self.ended (c.take_lines.ensures.ended ∙ (c.loop-read.invariant.stays e).0) c.if-self.false)
+
+pub returns-in_err-read-clause-only : goal.returns-in_err-read-clause-only
+returns-in_err-read-clause-only g c = λ e. absurd (true_or_false c.take_lines.new.self.ended (c.take_lines.ensures.ended ∙ (c.loop-read.invariant.stays e).0) c.if-self.false)
+
+pub returns-clause-only : goal.returns-clause-only
+returns-clause-only g c = λ e. absurd (c.loop-read.invariant.began (omega (arith, c.loop-read-test.false)) e)

@@ -1,4 +1,4 @@
-use Rattle.std.proofs.Common.{◌≡◌, ◌≤◌, ◌+◌, ◌++◌, ◌⊎◌, ℕ, List, [], true, length, if◌then◌else◌}
+use Rattle.std.proofs.Common.{◌≡◌, ◌<◌, ◌≤◌, ◌+◌, ◌++◌, ◌⊎◌, ℕ, List, [], true, length, if◌then◌else◌}
 use Rattle.std.specs.Io.KnownBytes.{Consumes, IsAtEnd}
 use Rattle.mk_mailbox.specs.Devices.{IsFull}
 use Rattle.mk_mailbox.specs.Intakes.{IsIntake, kept_by}
@@ -14,6 +14,8 @@ invariant-loop-read g l = record {
       × (kept_by l.self ≡ kept_by l.fn.self ++ read);
   ended : l.self.ended ≡ true → (l.fn.self.ended ≡ true) ⊎ IsAtEnd (g.S.Source.remaining l.r);
   stays : l.fn.self.ended ≡ true → (l.self.ended ≡ true) × (g.S.Source.remaining l.r ≡ g.S.Source.remaining l.fn.r);
+  idle : l.fn.self.ended ≡ true → g.S.Source.read_count l.r ≡ g.S.Source.read_count l.fn.r;
+  began : 0 < l._read → l.fn.self.ended ≡ true → ⊥;
   known : IsKnownWhole l.fn.self.gathered.from_lines (kept_by l.fn.self) → (g.S.Source.remaining l.r ≡ g.S.Source.remaining l.fn.r) × (g.S.Source.read_count l.r ≡ g.S.Source.read_count l.fn.r)
       × (kept_by l.self ≡ kept_by l.fn.self);
   same : l.self.gathered.from_lines ≡ l.fn.self.gathered.from_lines;

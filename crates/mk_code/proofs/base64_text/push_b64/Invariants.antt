@@ -1,9 +1,0 @@
-use Rattle.std.proofs.Common.{◌≡◌, ◌++◌, length}
-use Rattle.mk_code.specs.Base64Text.{base64_encoded}
-use Rattle.mk_code.proofs.base64_text.push_b64.Given as goal
-
-abbrev pub invariant-loop-rest : goal.invariant-loop-rest
-invariant-loop-rest l = l.text.items ++ base64_encoded l.fn.eol l.rest ≡ l.fn.text.items ++ base64_encoded l.fn.eol l.fn.bytes
-
-abbrev pub decreases-loop-rest : goal.decreases-loop-rest
-decreases-loop-rest l = length l.rest

@@ -1,0 +1,13 @@
+use Rattle.std.proofs.Common.{◌≡◌, ◌++◌, length}
+use Rattle.mk_line.specs.inner.Kept.{IsKept}
+use Rattle.mk_code.specs.Base64Text.{base64_encoded}
+use Rattle.mk_code.proofs.base64_text.push_blocks.Given as goal
+
+abbrev pub invariant-loop-rest : goal.invariant-loop-rest
+invariant-loop-rest l = record {
+  told : l.text.items ++ base64_encoded l.fn.eol l.rest ≡ l.fn.text.items ++ base64_encoded l.fn.eol l.fn.bytes;
+  kept : IsKept l.fn.text.items l.text.items;
+}
+
+abbrev pub decreases-loop-rest : goal.decreases-loop-rest
+decreases-loop-rest l = length l.rest
