@@ -8,7 +8,7 @@ use Rattle.memchr.specs.Find.{FindsNeedle, IsLastByte, OccursAt, is_byte}
 use Rattle.mk_line.specs.Kinds.{is_from_line, is_field_start}
 use Rattle.mk_line.specs.Lines.{TextLine, cut, ending_bytes, ends_open, onto_first, text_of}
 use Rattle.mk_line.proofs.Cuts.{text_cut}
-use Rattle.mk_mailbox.specs.Gathered.{AreQuiet, feed_and_from, none_from}
+use Rattle.mk_mailbox.specs.inner.Gathered.{AreQuiet, feed_and_from, none_from}
 use Rattle.mk_mailbox.proofs.QuietLines.{ends_fed}
 
 abbrev from : List ℕ

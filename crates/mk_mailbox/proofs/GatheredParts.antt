@@ -7,7 +7,7 @@ use Rattle.std.proofs.Math.Seq.{drop-append_seam, take-append_seam}
 use Rattle.std.proofs.lemmas.Bool.{cases_Bool, lt-ltb, ltb-true}
 use Rattle.mk_line.specs.Kinds.{is_field_start}
 use Rattle.mk_line.specs.Lines.{cut, has_line_feed, is_nil}
-use Rattle.mk_mailbox.specs.Gathered.{IsOneLine, IsOnePiece, IsSplit, IsWaiting, IsWholeLine, front_of, later_of, told_by}
+use Rattle.mk_mailbox.specs.inner.Gathered.{IsOneLine, IsOnePiece, IsSplit, IsWaiting, IsWholeLine, front_of, later_of, told_by}
 use Rattle.mk_mailbox.specs.Mailboxes.{IsOpenInFront}
 use Rattle.mk_mailbox.specs.Pieces.{is_first, is_mail_start, may_begin, needs_field, mailbox_pieces}
 use Rattle.mk_mailbox.proofs.LineBytes.{one_line_on}

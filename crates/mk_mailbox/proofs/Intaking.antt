@@ -8,12 +8,12 @@ use Rattle.std.specs.Option.{option_map}
 use Rattle.std.proofs.KnownBytes.{Consumes-trans}
 use Rattle.std.specs.Io.KnownBytes.{Consumes}
 use Rattle.mk_line.specs.Lines.{cut, has_line_feed}
-use Rattle.mk_mailbox.specs.Gathered.{IsLastSplit, IsSplit, chunk_bytes, later_of}
+use Rattle.mk_mailbox.specs.inner.Gathered.{IsLastSplit, IsSplit, chunk_bytes, later_of}
 use Rattle.mk_line.specs.Meters.{ticked}
 use Rattle.mk_mailbox.specs.Devices.{IsFull}
 use Rattle.mk_mailbox.specs.Held.{Held, unread}
 use Rattle.mk_mailbox.specs.declared.intake.Intake.{Intake}
-use Rattle.mk_mailbox.specs.Intakes.{IsIntake, held_of, kept_by}
+use Rattle.mk_mailbox.specs.inner.Intakes.{IsIntake, held_of, kept_by}
 use Rattle.mk_mailbox.specs.Mailboxes.{FitsReads, IsKnownWhole, IsNextPiece, IsOpenInFront, read_limit}
 use Rattle.mk_mailbox.specs.inner.Answers.{Answers}
 use Rattle.mk_mailbox.specs.MailboxLaws.{IsReply, call_reply}

@@ -8,7 +8,7 @@ use Rattle.mk_line.specs.declared.cutting.Ending.TheVariants.{Missing}
 use Rattle.mk_line.specs.Kinds.{is_field_start}
 use Rattle.mk_line.specs.Lines.{cut, has_line_feed, is_nil, text_line, text_of}
 use Rattle.mk_line.proofs.Cuts.{cut_whole}
-use Rattle.mk_mailbox.specs.Gathered.{IsLastSplit, IsOnePiece, IsWholeLine, front_of, later_of, told_by}
+use Rattle.mk_mailbox.specs.inner.Gathered.{IsLastSplit, IsOnePiece, IsWholeLine, front_of, later_of, told_by}
 use Rattle.mk_mailbox.specs.Mailboxes.{IsKnownWhole, KnowsFirst, after_line, is_known_start}
 use Rattle.mk_mailbox.specs.Pieces.{is_first, front, later, may_begin, needs_field, parted, mailbox_pieces, starts_field}
 use Rattle.mk_mailbox.proofs.MessageLines.{front_first, front_line, later_first, later_line, pieces_of, whole_some}

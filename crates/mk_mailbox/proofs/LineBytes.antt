@@ -7,7 +7,7 @@ use Rattle.memchr.specs.Find.{IsFirstByte, is_byte}
 use Rattle.mk_line.specs.declared.cutting.Ending.TheVariants.{Crlf}
 use Rattle.mk_line.specs.Lines.{ended, ends_in_return, has_line_feed, text_line}
 use Rattle.mk_line.proofs.Cuts.{ended_lf, no_feed}
-use Rattle.mk_mailbox.specs.Gathered.{IsOneLine, IsWholeLine}
+use Rattle.mk_mailbox.specs.inner.Gathered.{IsOneLine, IsWholeLine}
 
 -- a CR before the line feed is no content
 ended_return : (content : List ℕ) → ended (content ++ 13 ∷ []) ≡ text_line content Crlf

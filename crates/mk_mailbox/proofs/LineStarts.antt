@@ -4,7 +4,7 @@ use Rattle.mk_mailbox.specs.declared.from_lines.FromLines.TheVariants.{Any, Date
 use Rattle.std.proofs.Common.{◌≡◌, ◌&&◌, ◌++◌, ℕ, Bool, true, false, List, [], ◌∷◌, refl, ap, sym, ◌∙◌, append_assoc}
 use Rattle.mk_line.specs.Kinds.{is_field_start}
 use Rattle.mk_line.specs.Lines.{TextLine, cut, is_nil}
-use Rattle.mk_mailbox.specs.Gathered.{IsWholeLine, front_of, later_of}
+use Rattle.mk_mailbox.specs.inner.Gathered.{IsWholeLine, front_of, later_of}
 use Rattle.mk_mailbox.specs.Pieces.{is_first, may_begin, needs_field, starts_field}
 use Rattle.mk_mailbox.proofs.MessageLines.{front_line, later_line, starts_line}
 

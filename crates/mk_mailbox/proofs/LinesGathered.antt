@@ -6,7 +6,7 @@ use Rattle.std.proofs.Math.Seq.{drop-append_seam, take-append_seam}
 use Rattle.std.proofs.lemmas.Bool.{ne_eqb}
 use Rattle.std.proofs.lemmas.List.{length-take-le, take-take}
 use Rattle.mk_line.specs.Lines.{has_line_feed, is_nil}
-use Rattle.mk_mailbox.specs.Gathered.{IsGathered, IsLastSplit, IsOneLine, IsOnePiece, IsSplit, IsWaiting, IsWholeLine, told_by}
+use Rattle.mk_mailbox.specs.inner.Gathered.{IsGathered, IsLastSplit, IsOneLine, IsOnePiece, IsSplit, IsWaiting, IsWholeLine, told_by}
 use Rattle.mk_mailbox.specs.Mailboxes.{IsKnownWhole}
 use Rattle.mk_mailbox.proofs.GatheredParts.{AreParts, front_is, last_is, grown_parts_if, parts_on, parts_wait, split_parts, parts_left}
 use Rattle.mk_mailbox.proofs.LastLines.{last_split_parts, last_whole_parts, parts_unknown}

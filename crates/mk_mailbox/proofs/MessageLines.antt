@@ -6,7 +6,7 @@ use Rattle.mk_line.specs.declared.cutting.Ending.{Ending}
 use Rattle.mk_line.specs.declared.cutting.Ending.TheVariants.{Crlf, Lf, Missing}
 use Rattle.mk_line.specs.Lines.{TextLine, cut, ended, has_line_feed, is_nil, is_open, printed_line, text_line, text_of, with_byte}
 use Rattle.mk_line.proofs.Cuts.{cut_other, text_cut}
-use Rattle.mk_mailbox.specs.Gathered.{IsWholeLine, front_of, later_of}
+use Rattle.mk_mailbox.specs.inner.Gathered.{IsWholeLine, front_of, later_of}
 use Rattle.mk_mailbox.specs.Mailboxes.{IsOpenInFront}
 use Rattle.mk_line.specs.Kinds.{is_field_start}
 use Rattle.mk_mailbox.specs.Pieces.{is_first, front, later, parted, mailbox_pieces, starts_field}

@@ -10,7 +10,7 @@ use Rattle.mk_line.specs.Lines.{AreLines, TextLine, cut, ended, ends_open, has_l
 use Rattle.mk_line.proofs.Cuts.{last_open, lines_cut, text_append, text_cut}
 use Rattle.mk_mailbox.specs.declared.from_lines.FromLines.{FromLines}
 use Rattle.mk_mailbox.specs.declared.from_lines.FromLines.TheVariants.{Any, Dated, Fielded}
-use Rattle.mk_mailbox.specs.Gathered.{AreQuiet, IsGathered, IsOnePiece, front_of, later_of, none_from}
+use Rattle.mk_mailbox.specs.inner.Gathered.{AreQuiet, IsGathered, IsOnePiece, front_of, later_of, none_from}
 use Rattle.mk_mailbox.specs.Pieces.{front, is_first, later, may_begin}
 use Rattle.mk_mailbox.specs.Places.{ends_empty}
 use Rattle.mk_mailbox.proofs.LineStarts.{other_first}

@@ -4,7 +4,5 @@ pub mod Pieces
 pub mod Places
 pub mod Held
 pub mod Mailboxes
-pub mod Gathered
-pub mod Intakes
 pub mod MailboxLaws
 pub mod inner

@@ -2,7 +2,7 @@
 ghost use Rattle.std.specs.Prelude.{◌≡◌, ◌≢◌, ◌<◌, ◌++◌, [], ◌∷◌, ℕ, List, true, false, length, drop, nat_lt, take, IfOk, IfNone, MatchOption, OnErr, OnOk};
 ghost use Rattle.mk_line.specs.Ascii.{carriage_return};
 ghost use Rattle.mk_line.specs.Lines.{cut as lines_of, ended, ends_open as is_open_text, has_line_feed};
-ghost use Rattle.mk_mailbox.specs.Gathered.{AreQuiet, IsGathered, IsLastSplit, IsOneLine, IsSplit, IsWholeLine, told_by};
+ghost use Rattle.mk_mailbox.specs.inner.Gathered.{AreQuiet, IsGathered, IsLastSplit, IsOneLine, IsSplit, IsWholeLine, told_by};
 ghost use Rattle.mk_mailbox.specs.Pieces.{may_begin};
 ghost use Rattle.mk_mailbox.specs.Places.{ends_empty};
 

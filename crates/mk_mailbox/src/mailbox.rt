@@ -34,7 +34,7 @@ impl Model for Mailbox {
 
     ghost Value = { Held };
 
-    ghost use Rattle.mk_mailbox.specs.Intakes.{IsIntake, held_of};
+    ghost use Rattle.mk_mailbox.specs.inner.Intakes.{IsIntake, held_of};
 
     ghost view = { λ m. held_of m.intake };
 

@@ -2,7 +2,7 @@
 //! once. One search for a line feed and `From `, which tests many bytes at once, finds where they end.
 ghost use Rattle.std.specs.Prelude.{◌≡◌, ◌≤◌, false, length, take};
 ghost use Rattle.mk_line.specs.Lines.{ends_open};
-ghost use Rattle.mk_mailbox.specs.Gathered.{AreQuiet, feed_and_from};
+ghost use Rattle.mk_mailbox.specs.inner.Gathered.{AreQuiet, feed_and_from};
 
 use memchr::memmem::Finder;
 use memchr::memrchr;

@@ -1,7 +1,7 @@
 use Rattle.std.proofs.Common.{◌≡◌, ◌∙◌, nat_lt, sym, arith}
 use Rattle.mk_line.proofs.Cuts.{some_length}
 use Rattle.mk_mailbox.specs.declared.gathering.Told.TheVariants.{Begins}
-use Rattle.mk_mailbox.specs.Gathered.{told_by}
+use Rattle.mk_mailbox.specs.inner.Gathered.{told_by}
 use Rattle.mk_mailbox.proofs.LinesGathered.{last_split, last_whole}
 use Rattle.mk_mailbox.proofs.gathering.Gathered.last.Goals as goal
 

@@ -1,8 +1,8 @@
 use Rattle.std.proofs.Common.{◌≡◌, ◌∙◌, arith, true, false, drop, inl, inr, subst, sym, rules}
 use Rattle.std.proofs.lemmas.Result.{err_from_is_err_and}
 use Rattle.mk_line.specs.Lines.{has_line_feed}
-use Rattle.mk_mailbox.specs.Gathered.{IsSplit}
-use Rattle.mk_mailbox.specs.Intakes.{held_of, kept_by}
+use Rattle.mk_mailbox.specs.inner.Gathered.{IsSplit}
+use Rattle.mk_mailbox.specs.inner.Intakes.{held_of, kept_by}
 use Rattle.mk_mailbox.proofs.Intaking.{counted_on, grown_on, kept_unknown, known_on, last_answers, piece_next, read_more, true_or_false}
 use Rattle.mk_mailbox.proofs.intake.Intake.next.Goals as goal
 

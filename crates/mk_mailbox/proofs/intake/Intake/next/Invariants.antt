@@ -1,7 +1,7 @@
 use Rattle.std.proofs.Common.{◌≡◌, ◌<◌, ◌≤◌, ◌+◌, ◌++◌, ◌⊎◌, ℕ, List, [], true, length, if◌then◌else◌}
 use Rattle.std.specs.Io.KnownBytes.{Consumes, IsAtEnd}
 use Rattle.mk_mailbox.specs.Devices.{IsFull}
-use Rattle.mk_mailbox.specs.Intakes.{IsIntake, kept_by}
+use Rattle.mk_mailbox.specs.inner.Intakes.{IsIntake, kept_by}
 use Rattle.mk_mailbox.specs.Mailboxes.{FitsReads, IsKnownWhole}
 use Rattle.mk_mailbox.proofs.intake.Intake.next.Given as goal
 

@@ -1,5 +1,5 @@
 use Rattle.std.proofs.Common.{◌≡◌, ◌-◌}
-use Rattle.mk_mailbox.specs.Intakes.{IsIntake, kept_by}
+use Rattle.mk_mailbox.specs.inner.Intakes.{IsIntake, kept_by}
 use Rattle.mk_mailbox.proofs.intake.Intake.take_lines.Given as goal
 
 abbrev pub invariant-lines : goal.invariant-lines

@@ -1,6 +1,6 @@
 use Rattle.std.proofs.Common.{subst}
 use Rattle.mk_mailbox.specs.Held.{Held}
-use Rattle.mk_mailbox.specs.Intakes.{held_of}
+use Rattle.mk_mailbox.specs.inner.Intakes.{held_of}
 use Rattle.mk_mailbox.specs.MailboxLaws.{IsNextCall}
 use Rattle.mk_mailbox.proofs.Intaking.{replied}
 use Rattle.mk_mailbox.proofs.mailbox.Mailbox.next.Goals as goal

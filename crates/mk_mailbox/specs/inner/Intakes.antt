@@ -1,7 +1,7 @@
 -- What reads a mailbox in chunks, as what it holds; for private contracts.
 use Rattle.std.specs.Prelude.{◌++◌, ℕ, List}
 use Rattle.mk_mailbox.specs.declared.intake.Intake.{Intake}
-use Rattle.mk_mailbox.specs.Gathered.{IsChunk, IsGathered}
+use Rattle.mk_mailbox.specs.inner.Gathered.{IsChunk, IsGathered}
 use Rattle.mk_mailbox.specs.Held.{Held, unread}
 
 -- the bytes that were read and not given yet: the lines gathered, and those in the chunk
