@@ -105,7 +105,8 @@ NAMES = [
     ("a name with a charset", b"Content-Disposition: x; filename*=iso-8859-1'de'%FC%2F..\n\n", "\u00fc/.."),
     ("a name with NUL", b"Content-Disposition: x; filename*=utf-8''a%00b\n\n", "a\0b"),
     ("an encoded word", b"Content-Disposition: x; filename=\"=?utf-8?q?=E2=82=AC?=\"\n\n", "\u20ac"),
-    ("a charset that nobody knows", b"Content-Disposition: x; filename*=koi8-r''%f0\n\n", None),
+    ("a charset of one byte a character", b"Content-Disposition: x; filename*=koi8-r''%f0\n\n", "\u041f"),
+    ("a charset that nobody knows", b"Content-Disposition: x; filename*=x-unknown''%f0\n\n", None),
 ]
 
 # The listing of examples/album.eml, as docs/FORMATS.md has it.

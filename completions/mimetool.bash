@@ -7,7 +7,7 @@ _mimetool_options() {
         undo) options='--from --in-place --wait --tempfail -j --explain -h --help' ;;
         redo) options='--from --in-place --wait --tempfail -j --explain -h --help' ;;
         sections) options='--from -n --rfc4155 --mbox --unquote --json --utf8 --explain -h --help' ;;
-        extract) options='--from -n --rfc4155 --mbox --unquote -s --raw --head --prefix --explain -h --help' ;;
+        extract) options='--from -n --rfc4155 --mbox --unquote -s --raw --head --prefix --utf8 --explain -h --help' ;;
         unpack) options='--from -n --rfc4155 --mbox --unquote -f -t -s --silent --paths --utf8 -C --explain -h --help' ;;
         pack) options='-b -m --inline --charset --eol --forward --part --utf8 --explain -h --help' ;;
         field) options='--from --in-place --wait --tempfail -p --prepend --drop --rename -a -A -i -I -u -U -x -X --unfold --decode --encode --eol --refused-ok -s --rfc4155 --mbox --explain -h --help' ;;

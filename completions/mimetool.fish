@@ -34,6 +34,7 @@ complete -c mimetool -n '__fish_seen_subcommand_from undo redo sections extract 
 complete -c mimetool -n '__fish_seen_subcommand_from edit' -s e -x -d 'A line of the script'
 complete -c mimetool -n '__fish_seen_subcommand_from edit' -F
 complete -c mimetool -n '__fish_seen_subcommand_from extract' -s s -x -d 'The path of the section'
+complete -c mimetool -n '__fish_seen_subcommand_from extract' -l utf8 -d 'Print the content in UTF-8, by the charset that the type names'
 complete -c mimetool -n '__fish_seen_subcommand_from extract' -l raw -d 'Print the content as it is'
 complete -c mimetool -n '__fish_seen_subcommand_from extract' -l head -d 'Print the fields of the section'
 complete -c mimetool -n '__fish_seen_subcommand_from extract' -l prefix -d 'Print what can be decoded of invalid base64'

@@ -9,10 +9,11 @@ FIELDS = [b"A: b", b"a: c", b"A : b", b"A\t: b", b"A:", b"A: ", b"Subject: t", b
 ENCODINGS = [b"base64", b"base64", b"quoted-printable", b"quoted-printable", b"7bit", b"8BIT", b"binary", b"", b" Base64 (x)",
              b"x-uuencode", b"(7bit)", b"base(x)64", b"base64;", b"quoted-printable (x", b'"base64"', b"7bit 8bit"]
 NAMES = [b"a.txt", b"a b.pdf", b"../x", b"c:\\d\\e", b".x", b"-x", b"", b"a_b.pdf", b"a_b.pdf.1", b"a.txt.1", b"\xc3\xa9", b"a/",
-         b"part-1", b"part-1.2", b"n" * 101, b"/" + b"m" * 99, b"N" * 98 + b".gif", b"..", b"=?utf-8?Q?a?=", b"a\rb", b"a%20b", b"=?iso-8859-1?Q?caf=E9.txt?=", b"\xff", b"\xd7\xa9\xe2\x80\xae.x", b"=?utf-8?b?w6k=?= =?utf-8?q?=2F=2D?="]
+         b"part-1", b"part-1.2", b"n" * 101, b"/" + b"m" * 99, b"N" * 98 + b".gif", b"..", b"=?utf-8?Q?a?=", b"a\rb", b"a%20b", b"=?iso-8859-1?Q?caf=E9.txt?=", b"\xff", b"\xd7\xa9\xe2\x80\xae.x", b"=?utf-8?b?w6k=?= =?utf-8?q?=2F=2D?=",
+         b"=?windows-1252?Q?=80?=", b"=?UTF-8*de?Q?=C3=BC?=", b"=?koi8-u?B?rr4=?=", b"=?cp1255?Q?=E0?=", b"=?x?Q?a?="]
 EXTENDED = [b"utf-8''NAME", b"UTF-8'en'%e2%82%acx", b"iso-8859-1''caf%E9.txt", b"us-ascii''%41", b"us-ascii''%e9", b"koi8-r''%f0", b"''a", b"utf-8'a",
             b"utf-8''%zz", b"utf-8''%4", b"utf-8''%E2%80%AEtxt.exe", b"utf-8''..%2f..%5c%2e%2D", b"utf-8''" + b"%C3%A9" * 51, b"x" + b"'" * 3,
-            b"utf-8''%ff", b"utf-8''%F0%9D%94%B8%CC%81%C2%BD"]
+            b"utf-8''%ff", b"utf-8''%F0%9D%94%B8%CC%81%C2%BD", b"Windows-1252''%80.txt", b"KOI''%c1", b"iso-8859-3''%a5", b"iso-2022-jp''a"]
 SEGMENTS = [b"*0=a", b"*0*=utf-8''%e2%82", b"*1*=%ac%20", b"*1=\xc3\xa9", b"*2=\"rates.txt\"", b"*0*=''x", b"*01=n", b"*2*=%2", b"*1=b", b"*3=c", b"*0=/", b"*"]
 JUNK = [b"", b"", b"", b" ", b"\t", b" x", b"\tx", b"x", b"y ", b"From a", b"From ", b"From", b"From x: y", b">From a", b":", b" :",
         b"a b: c", b"a\r", b"\r", b"a\rb", b"\x00\xff", b"\xc3\xa9: x", b".", b"--", b"-- ", b"----", b"---", b"A", b"\x7f: x"]

@@ -2,7 +2,7 @@
 
 import unicodedata
 
-from . import values, wording
+from . import charsets, values, wording
 
 DIGITS = b"0123456789ABCDEFabcdef"
 
@@ -47,7 +47,7 @@ def segments_text(there):
     joined = [percent_decoded(value) if encoded else value for encoded, value in others]
     if None in joined:
         return None
-    text = wording.in_utf8(charset, b"".join(joined))
+    text = charsets.in_utf8(charset, b"".join(joined))
     return text if text is not None and wording.is_utf8(text) else None
 
 

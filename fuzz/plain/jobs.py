@@ -119,6 +119,14 @@ def drop(job, document, section, ending):
     return [edits.Edit("del", job.path, name=job.name, number=1)] * count
 
 
+def is_last_followed(document, section):
+    """A line follows the last part, or else the preamble: the close line, or one after the section (own)."""
+    parts = tree.children(section)
+    if parts:
+        return tree.is_followed(document, parts[-1])
+    return bool(getattr(section.entity.body, "tail", ())) or tree.is_followed(document, section)
+
+
 def append(job, document, section, ending):
     """A part goes after the others; the last one gets an ending where nothing follows it (own)."""
     parts = tree.children(section) if section else []
@@ -136,15 +144,13 @@ def attach(job, document, section, ending):
     if reason:
         raise Fault(reason.split(" ")[0])
     part = packing.part(job.media, (name, b""), job.text, ending)
-    parts = tree.children(section) if section else []
-    followed = section is not None and (not parts or tree.is_followed(document, parts[-1]))
+    followed = section is not None and is_last_followed(document, section)
     return append(replace(job, text=part + ending if followed else part), document, section, ending)
 
 
 def append_text(job, document, section, ending):
     """A text goes after the others as a part without fields, apart from the line that is to follow it (RFC 2046, 5.1)."""
-    parts = tree.children(section) if section else []
-    followed = section is not None and (not parts or tree.is_followed(document, parts[-1]))
+    followed = section is not None and is_last_followed(document, section)
     text = divided(job.text, ending) if followed else job.text
     return append(replace(job, text=ending + text), document, section, ending)
 

@@ -1,6 +1,6 @@
 """Encoded words (RFC 2047), and values of fields as people write them."""
 
-from . import encodings, lines, structured
+from . import charsets, encodings, lines, structured
 
 BLANKS = b" \t"
 DIGITS = b"0123456789ABCDEFabcdef"
@@ -14,15 +14,6 @@ def is_utf8(text):
     except UnicodeDecodeError:
         return False
     return True
-
-
-def in_utf8(charset, text):
-    """Three charsets are known, in any case (own)."""
-    if charset.lower() == b"utf-8":
-        return text
-    if charset.lower() == b"us-ascii":
-        return text if text.isascii() else None
-    return text.decode("latin-1").encode() if charset.lower() == b"iso-8859-1" else None
 
 
 def b_text(text):
@@ -51,12 +42,12 @@ def q_text(text):
 
 
 def word_text(word):
-    """An encoded word has five parts between question marks (RFC 2047, 2)."""
+    """An encoded word has five parts between question marks (RFC 2047, 2); a language may follow the charset (RFC 2231, 5)."""
     parts = word.split(b"?")
     if len(parts) != 5 or parts[0] != b"=" or parts[4] != b"=":
         return None
     text = {b"b": b_text, b"q": q_text}.get(parts[2].lower(), lambda text: None)(parts[3])
-    return None if text is None else in_utf8(parts[1], text)
+    return None if text is None else charsets.in_utf8(parts[1].partition(b"*")[0], text)
 
 
 def runs(text):

@@ -1,8 +1,9 @@
--- The first that fails a test, and texts written one after another.
-use Rattle.std.proofs.Common.{◌≡◌, ◌&&◌, ◌||◌, ◌+◌, ◌++◌, ℕ, zero, suc, Bool, true, false, Option, None, Some, List, [], ◌∷◌, refl, ap, sym, ◌∙◌, length, map, drop, get_or, arith, append_assoc, ◌<◌, ◌≤◌}
-use Rattle.std.specs.List.{flat_map, list_all, list_any}
+-- The first that meets a test, and texts written one after another.
+use Rattle.std.proofs.Common.{◌≡◌, ◌&&◌, ◌||◌, ◌+◌, ◌++◌, ℕ, zero, suc, Bool, true, false, Option, None, Some, List, [], ◌∷◌, refl, ap, sym, ◌∙◌, length, map, drop, get_or, arith, append_assoc, inl, inr, ◌<◌, ◌≤◌}
+use Rattle.std.specs.List.{flat_map, list_all, list_any, position, position_or_len}
 use Rattle.std.specs.Option.{option_map}
-use Rattle.mk_build.specs.Building.{first_failing}
+use Rattle.std.specs.Prelude.{cond, nat_lt}
+use Rattle.std.proofs.lemmas.Bool.{cases_Bool, le-ltb, lt-ltb, ltb-false, ltb-true}
 
 -- a place after so many others
 abbrev pub following : ℕ → Option ℕ → Option ℕ
@@ -12,23 +13,35 @@ after_one : (n : ℕ) (o : Option ℕ) → following n (option_map suc o) ≡ fo
 after_one n None = refl
 after_one n (Some k) = ap (λ m. Some m) (omega arith)
 
--- the first that fails is not among those that were looked at
-abbrev first_by : {X : Type 0} → (X → Bool) → Bool → List X → Option ℕ
-first_by test true xs = option_map suc (first_failing test xs)
-first_by test false xs = Some 0
+-- a place in a list with one before it that isn't found
+less_more : (k n : ℕ) → nat_lt (1 + k) (suc n) ≡ nat_lt k n
+less_more k n = elim (cases_Bool (nat_lt k n)) [
+  | inl t ↦ lt-ltb (1 + k) (suc n) (omega (arith, ltb-true k n t)) ∙ sym t
+  | inr f ↦ le-ltb (1 + k) (suc n) (omega (arith, ltb-false k n f)) ∙ sym f
+]
 
-first_is : {X : Type 0} (test : X → Bool) (x : X) (xs : List X) (t : Bool) → test x ≡ t → first_failing test (x ∷ xs) ≡ first_by test t xs
-first_is test x xs true h = rw h refl
-first_is test x xs false h = rw h refl
+more_by : (t : Bool) (n : ℕ) → cond t (Some (1 + n)) None ≡ option_map suc (cond t (Some n) None)
+more_by true n = let one : 1 + n ≡ suc n = omega arith in ap (λ k. Some k) one
+more_by false n = refl
 
-pub passes : {X : Type 0} (test : X → Bool) (n : ℕ) (xs rest : List X) (x : X) (o : Option ℕ) → xs ≡ x ∷ rest → test x ≡ true → following n (first_failing test xs) ≡ o → following (n + 1) (first_failing test rest) ≡ o
-passes test n xs rest x o e t h = sym (after_one n (first_failing test rest)) ∙ (ap (following n) (sym (ap (first_failing test) e ∙ first_is test x rest true t)) ∙ h)
+pub position_more : {X : Type 0} (p : X → Bool) (x : X) (xs : List X) → p x ≡ false → position p (x ∷ xs) ≡ option_map suc (position p xs)
+position_more p x xs h =
+    let k = position_or_len p xs in
+    rw h (ap (λ t. cond t (Some (1 + k)) None) (less_more k (length xs)) ∙ more_by (nat_lt k (length xs)) k)
+
+-- and with one before it that is
+pub position_here : {X : Type 0} (p : X → Bool) (x : X) (xs : List X) → p x ≡ true → position p (x ∷ xs) ≡ Some 0
+position_here p x xs h = rw h (ap (λ t. cond t (Some 0) None) (lt-ltb 0 (suc (length xs)) (omega arith)))
+
+-- the first that is found is not among those that were looked at
+pub passes : {X : Type 0} (p : X → Bool) (n : ℕ) (xs rest : List X) (x : X) (o : Option ℕ) → xs ≡ x ∷ rest → p x ≡ false → following n (position p xs) ≡ o → following (n + 1) (position p rest) ≡ o
+passes p n xs rest x o e t h = sym (after_one n (position p rest)) ∙ (ap (following n) (sym (ap (position p) e ∙ position_more p x rest t)) ∙ h)
 
 some_at : (n : ℕ) → ◌≡◌ {A = Option ℕ} (Some n) (following n (Some 0))
 some_at n = let e : n ≡ n + 0 = omega arith in ap (λ m. Some m) e
 
-pub fails : {X : Type 0} (test : X → Bool) (n : ℕ) (xs rest : List X) (x : X) (o : Option ℕ) → xs ≡ x ∷ rest → test x ≡ false → following n (first_failing test xs) ≡ o → Some n ≡ o
-fails test n xs rest x o e t h = some_at n ∙ (ap (following n) (sym (ap (first_failing test) e ∙ first_is test x rest false t)) ∙ h)
+pub fails : {X : Type 0} (p : X → Bool) (n : ℕ) (xs rest : List X) (x : X) (o : Option ℕ) → xs ≡ x ∷ rest → p x ≡ true → following n (position p xs) ≡ o → Some n ≡ o
+fails p n xs rest x o e t h = some_at n ∙ (ap (following n) (sym (ap (position p) e ∙ position_here p x rest t)) ∙ h)
 
 -- the list from an index on
 pub from_index : {X Y : Type 0} (f : X → Y) (i : ℕ) (xs : List X) (x : X) → i < length xs → x ≡ get_or xs i x → drop i (map f xs) ≡ f x ∷ drop (i + 1) (map f xs)

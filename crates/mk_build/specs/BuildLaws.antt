@@ -1,8 +1,8 @@
 -- A law of built messages, over the definitions alone.
 use Rattle.std.specs.Prelude.{◌≡◌, ℕ, List, []}
 use Rattle.mk_line.specs.declared.cutting.Ending.{Ending}
-use Rattle.mk_build.specs.Building.{Attached, build_refusal, built}
-use Rattle.mk_build.specs.Forwards.{built_with, refusal_with}
+use Rattle.mk_build.specs.Building.{Attached}
+use Rattle.mk_build.specs.Forwards.{build_refusal, built, built_with, refusal_with}
 use Rattle.mk_build.specs.Multiparts.{mixed}
 
 -- a message of fields and parts is the multipart/mixed of them, without a charset and forwarded messages, and is refused where that is

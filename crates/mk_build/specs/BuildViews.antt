@@ -1,13 +1,11 @@
--- What is attached, in memory, as plain data; and the refusals.
-use Rattle.std.specs.Prelude.{◌≡◌, ℕ, Bool, true, false, None, Some, List}
+-- What is attached, in memory, as plain data; and why it is refused.
+use Rattle.std.specs.Prelude.{◌≡◌, Bool, true, false, None, Some}
 use Rattle.std.specs.Option.{option_map}
 use Rattle.mk_build.specs.declared.attachment.Attach.{Attach}
 use Rattle.mk_build.specs.declared.attachment.Written.{Written}
 use Rattle.mk_build.specs.declared.attaching.AttachError.{AttachError}
 use Rattle.mk_build.specs.declared.attaching.AttachError.TheVariants as attach
-use Rattle.mk_build.specs.declared.building.BuildError.{BuildError}
-use Rattle.mk_build.specs.declared.building.BuildError.TheVariants as build
-use Rattle.mk_build.specs.Building.{Attached, attach_refusal, build_refusal, named_in_utf8}
+use Rattle.mk_build.specs.Building.{Attached, attach_refusal, named_in_utf8}
 
 -- its fields as lists
 abbrev pub attached_of : Attach → Attached
@@ -31,14 +29,3 @@ abbrev pub IsAttachRefused : Attached → AttachError → Type 0
 IsAttachRefused a attach.BadType = attach_refusal a ≡ Some attach.BadType
 IsAttachRefused a attach.BadName = attach_refusal a ≡ Some attach.BadName
 IsAttachRefused a attach.Memory = Unit {0}
-
--- the same of a message that isn't built
-abbrev pub IsBuildRefused : List (List ℕ) → List Attached → List ℕ → BuildError → Type 0
-IsBuildRefused fields parts boundary (build.BadField index) = build_refusal fields parts boundary ≡ Some (build.BadField index)
-IsBuildRefused fields parts boundary (build.BadType index) = build_refusal fields parts boundary ≡ Some (build.BadType index)
-IsBuildRefused fields parts boundary (build.BadName index) = build_refusal fields parts boundary ≡ Some (build.BadName index)
-IsBuildRefused fields parts boundary build.BadSubtype = build_refusal fields parts boundary ≡ Some build.BadSubtype
-IsBuildRefused fields parts boundary build.BadCharset = build_refusal fields parts boundary ≡ Some build.BadCharset
-IsBuildRefused fields parts boundary build.BadBoundary = build_refusal fields parts boundary ≡ Some build.BadBoundary
-IsBuildRefused fields parts boundary (build.HoldsBoundary index) = build_refusal fields parts boundary ≡ Some (build.HoldsBoundary index)
-IsBuildRefused fields parts boundary build.Memory = Unit {0}

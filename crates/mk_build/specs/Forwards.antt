@@ -1,38 +1,29 @@
 -- Messages that are forwarded: each a part message/rfc822 after the others, which no encoding hides (RFC 2046, 5.2.1; RFC 2045, 6.4).
-use Rattle.std.specs.Prelude.{◌++◌, if◌then◌else◌, ℕ, Bool, not, Option, None, Some, List, [], ◌∷◌, codes, nat_eq, nat_le}
-use Rattle.std.specs.List.{flat_map, list_all, list_any, starts_with}
-use Rattle.std.specs.Option.{option_map}
+use Rattle.std.specs.Prelude.{◌++◌, if◌then◌else◌, ℕ, Bool, true, false, not, Option, List, [], codes, drop, nat_eq, nat_le}
+use Rattle.std.specs.List.{flat_map, list_all, list_any, position, slice_get, starts_with}
+use Rattle.std.specs.Option.{option_map, option_map_or, option_or}
 use Rattle.mk_line.specs.declared.cutting.Ending.{Ending}
 use Rattle.mk_line.specs.declared.cutting.Ending.TheVariants.{Crlf}
 use Rattle.mk_line.specs.Kinds.{is_from_line}
-use Rattle.mk_line.specs.Lines.{TextLine, cut, ending_bytes, ends_in_return, text_of}
-use Rattle.mk_line.specs.Marks.{dashed}
+use Rattle.mk_line.specs.Lines.{cut, ending_bytes, ends_in_return, printed_line, text_of}
+use Rattle.mk_line.specs.Marks.{close_line, dashed}
 use Rattle.mk_build.specs.declared.building.BuildError.{BuildError}
 use Rattle.mk_build.specs.declared.building.BuildError.TheVariants as build
-use Rattle.mk_build.specs.Building.{Attached, close_line, closed_field, first_failing}
-use Rattle.mk_build.specs.Multiparts.{Multipart, part_as, refusal_as}
+use Rattle.mk_build.specs.Building.{Attached, closed_field, is_free_field, is_media, is_name}
+use Rattle.mk_build.specs.Multiparts.{Multipart, mixed, multipart_refusal, part_as}
 
 -- a message that is forwarded, and whether its part has no disposition
 pub record Forwarded : Type 0 where
   pub text : List ℕ
   pub inline : Bool
 
--- lines without the line that a mailbox puts before a message, where it is there (own)
-abbrev pub after_envelope : List TextLine → List TextLine
-after_envelope [] = []
-after_envelope (l ∷ ls) = if is_from_line l.content then ls else l ∷ ls
-
--- a text without that line
+-- a text without the line that a mailbox puts before a message, where it is there (own)
 abbrev pub without_envelope : List ℕ → List ℕ
-without_envelope text = text_of (after_envelope (cut text))
+without_envelope text = if option_map_or (λ l. is_from_line l.content) (slice_get (cut text) 0) false then text_of (drop 1 (cut text)) else text
 
 -- some byte is 128 or more (RFC 2045, 2.8)
 abbrev pub is_8bit : List ℕ → Bool
 is_8bit text = list_any (λ byte. nat_le 128 byte) text
-
--- some message has such a byte
-abbrev pub are_8bit : List Forwarded → Bool
-are_8bit messages = list_any (λ f. is_8bit f.text) messages
 
 -- the line that tells of such bytes, where there are any (RFC 2045, 6.4)
 abbrev pub eight_bit_line : Ending → Bool → List ℕ
@@ -60,16 +51,17 @@ forwarded_part eol boundary f =
 abbrev pub is_clear : List ℕ → List ℕ → Bool
 is_clear boundary text = list_all (λ l. not (starts_with nat_eq l.content (dashed boundary))) (cut text)
 
--- a reason, or else the first message with such a line
-abbrev pub or_held : List ℕ → List Forwarded → Option BuildError → Option BuildError
-or_held boundary messages (Some error) = Some error
-or_held boundary messages None = option_map build.HoldsBoundary (first_failing (λ f. is_clear boundary f.text) messages)
-
--- why a message can't be built: what is against its fields, parts and multipart first, then the messages
+-- why a message can't be built: fields first, then types, then names, then the multipart, then the messages, and of each the first
 abbrev pub refusal_with : List (List ℕ) → List Attached → List Forwarded → Multipart → Option BuildError
-refusal_with fields parts messages m = or_held m.boundary messages (refusal_as fields parts m)
+refusal_with fields parts messages m =
+    option_or (option_map build.BadField (position (λ f. not (is_free_field f)) fields))
+    (option_or (option_map build.BadType (position (λ a. not (is_media a.media)) parts))
+    (option_or (option_map build.BadName (position (λ a. not (option_map_or is_name a.name true)) parts))
+    (option_or (multipart_refusal m)
+    (option_map build.HoldsBoundary (position (λ f. not (is_clear m.boundary f.text)) messages)))))
 
--- the lines between the fields and the parts; where a message has bytes of 128 or more, the multipart has (RFC 2045, 6.4)
+-- the lines between the fields and the parts: the version, the type with its subtype and boundary, the line of bytes of 128 or more
+-- where a message, and so the multipart, has such (RFC 2045, 6.4), an empty line
 abbrev pub head_with : Ending → Bool → Multipart → List ℕ
 head_with eol wide m =
     codes "MIME-Version: 1.0"
@@ -81,4 +73,13 @@ head_with eol wide m =
 abbrev pub built_with : Ending → List (List ℕ) → List Attached → List Forwarded → Multipart → List ℕ
 built_with eol fields parts messages m =
     flat_map (closed_field eol) fields
-    ++ (head_with eol (are_8bit messages) m ++ (flat_map (part_as eol m) parts ++ (flat_map (forwarded_part eol m.boundary) messages ++ close_line eol m.boundary)))
+    ++ (head_with eol (list_any (λ f. is_8bit f.text) messages) m
+    ++ (flat_map (part_as eol m) parts ++ (flat_map (forwarded_part eol m.boundary) messages ++ printed_line (close_line eol m.boundary))))
+
+-- a message of fields and parts alone, as a multipart/mixed
+abbrev pub built : Ending → List (List ℕ) → List Attached → List ℕ → List ℕ
+built eol fields parts boundary = built_with eol fields parts [] (mixed boundary)
+
+-- why it can't be built
+abbrev pub build_refusal : List (List ℕ) → List Attached → List ℕ → Option BuildError
+build_refusal fields parts boundary = refusal_with fields parts [] (mixed boundary)

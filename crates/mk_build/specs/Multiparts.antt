@@ -1,6 +1,5 @@
 -- Messages built as multiparts of any kind, whose texts may name a charset (RFC 2045, 5.1; RFC 2046, 4.1.2 and 5.1).
 use Rattle.std.specs.Prelude.{◌&&◌, ◌++◌, if◌then◌else◌, ℕ, Bool, true, is_some, Option, None, Some, List, [], codes}
-use Rattle.std.specs.List.{flat_map}
 use Rattle.std.specs.Option.{option_map, option_map_or}
 use Rattle.std.specs.Str.{bytes_eq}
 use Rattle.mk_line.specs.declared.cutting.Ending.{Ending}
@@ -12,7 +11,7 @@ use Rattle.mk_head.specs.Values.{is_token, lowered}
 use Rattle.mk_build.specs.declared.building.BuildError.{BuildError}
 use Rattle.mk_build.specs.declared.building.BuildError.TheVariants as build
 use Rattle.mk_build.specs.declared.multipart.Multipart as declared
-use Rattle.mk_build.specs.Building.{Attached, close_line, closed_field, disposition_line, encoded, encoding_line, first_failing, is_free_field, is_media, name_param, refusal_at, is_name}
+use Rattle.mk_build.specs.Building.{Attached, disposition_line, encoded, encoding_line}
 
 -- the multipart of a message: its subtype, the charset that its texts name, where they name one, and its boundary
 pub record Multipart : Type 0 where
@@ -32,23 +31,24 @@ mixed boundary = record { subtype = codes "mixed"; charset = None; boundary = bo
 abbrev pub is_text : List ℕ → Bool
 is_text media = is_some (following slash media) && bytes_eq (lowered (before slash media)) (codes "text")
 
--- the charset of a media type: none but for texts (RFC 2046, 4.1.2)
-abbrev pub charset_for : Option (List ℕ) → List ℕ → Option (List ℕ)
-charset_for None media = None
-charset_for (Some charset) media = if is_text media then Some charset else None
-
 -- the charset in a type (RFC 2046, 4.1.2)
 abbrev pub charset_param : Option (List ℕ) → List ℕ
 charset_param None = []
 charset_param (Some charset) = codes "; charset=" ++ charset
 
--- the media type, the charset of a text, and the name (RFC 2045, 5.1)
+-- the media type, the charset of a text (RFC 2046, 4.1.2), and the name, which the line after it says again as the name of a file
 abbrev pub type_line_as : Ending → Option (List ℕ) → Attached → List ℕ
-type_line_as eol charset a = codes "Content-Type: " ++ (a.media ++ (charset_param (charset_for charset a.media) ++ (name_param a.name ++ ending_bytes eol)))
+type_line_as eol charset a =
+    codes "Content-Type: "
+    ++ (a.media ++ (charset_param (if is_text a.media then charset else None) ++ (option_map_or (λ name. codes "; name=\"" ++ (name ++ codes "\"")) a.name [] ++ ending_bytes eol)))
 
 -- what is attached as a part, a text with the charset: three fields, an empty line, the encoded bytes
 abbrev pub attached_as : Ending → Option (List ℕ) → Attached → List ℕ
 attached_as eol charset a = type_line_as eol charset a ++ (disposition_line eol a.name a.said ++ (encoding_line eol a.base64 ++ (ending_bytes eol ++ encoded eol a)))
+
+-- the same without a charset
+abbrev pub attached : Ending → Attached → List ℕ
+attached eol a = attached_as eol None a
 
 -- why a multipart can't be made: its subtype, its charset, its boundary (RFC 2045, 5.1; RFC 2046, 5.1.1)
 abbrev pub multipart_refusal : Multipart → Option BuildError
@@ -56,23 +56,6 @@ multipart_refusal m =
     if is_token m.subtype then (if option_map_or is_token m.charset true then (if is_boundary m.boundary then None else Some build.BadBoundary) else Some build.BadCharset)
     else Some build.BadSubtype
 
--- why a message can't be built: fields first, then types, then names, then the multipart, and of each the first
-abbrev pub refusal_as : List (List ℕ) → List Attached → Multipart → Option BuildError
-refusal_as fields parts m =
-    refusal_at build.BadField (first_failing is_free_field fields)
-    (refusal_at build.BadType (first_failing (λ a. is_media a.media) parts)
-    (refusal_at build.BadName (first_failing (λ a. option_map_or is_name a.name true) parts)
-    (multipart_refusal m)))
-
 -- a part: its delimiter, what is attached, and the ending that belongs to the next delimiter
 abbrev pub part_as : Ending → Multipart → Attached → List ℕ
 part_as eol m a = codes "--" ++ (m.boundary ++ (ending_bytes eol ++ (attached_as eol m.charset a ++ ending_bytes eol)))
-
--- the lines between the fields and the parts: the version, the type with its subtype and boundary, an empty line
-abbrev pub head_as : Ending → Multipart → List ℕ
-head_as eol m =
-    codes "MIME-Version: 1.0" ++ (ending_bytes eol ++ (codes "Content-Type: multipart/" ++ (m.subtype ++ (codes "; boundary=\"" ++ (m.boundary ++ (codes "\"" ++ (ending_bytes eol ++ ending_bytes eol)))))))
-
--- a message of fields and parts, as a multipart
-abbrev pub built_as : Ending → List (List ℕ) → List Attached → Multipart → List ℕ
-built_as eol fields parts m = flat_map (closed_field eol) fields ++ (head_as eol m ++ (flat_map (part_as eol m) parts ++ close_line eol m.boundary))

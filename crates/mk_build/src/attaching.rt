@@ -1,9 +1,10 @@
 //! Parts of messages, from what is attached (RFC 2045, 5 and 6; RFC 2183).
-ghost use Rattle.std.specs.Prelude.{◌≡◌, ◌≢◌, ◌++◌, None, IfOk, IfErr, OnOk};
+ghost use Rattle.std.specs.Prelude.{◌≡◌, ◌≢◌, ◌++◌, if◌then◌else◌, None, [], codes, IfOk, IfErr, OnOk};
 ghost use Rattle.mk_build.specs.BuildViews.{attached_of, written_in, written_of, IsAttachRefused};
-ghost use Rattle.mk_build.specs.Building.{attach_refusal, attached as attached_text, disposition_line, encoded, encoding_line, encoding_name as name_of_encoding, name_param, said_param};
-ghost use Rattle.mk_build.specs.Multiparts.{attached_as, charset_param, type_line_as};
-ghost use Rattle.std.specs.Option.{option_map};
+ghost use Rattle.mk_build.specs.Building.{attach_refusal, disposition_line, encoded, encoding_line};
+ghost use Rattle.mk_build.specs.Multiparts.{attached as attached_text, attached_as, charset_param, type_line_as};
+ghost use Rattle.mk_param.specs.Percents.{percent_encoded};
+ghost use Rattle.std.specs.Option.{option_map, option_map_or};
 
 use crate::attachment::{Attach, Written, as_named, has_name, is_media};
 use crate::multipart::charset_for;
@@ -152,7 +153,7 @@ fn push_charset(text: &mut Vec<u8>, charset: Option<&[u8]>) -> Result<(), AllocE
 }
 
 fn push_name(text: &mut Vec<u8>, written: &Written<'_>) -> Result<(), AllocError>
-    ensures { OnOk result (text.new.items ≡ text.old.items ++ name_param (written_of written.now).name) }
+    ensures { OnOk result (text.new.items ≡ text.old.items ++ option_map_or (λ name. codes "; name=\"" ++ (name ++ codes "\"")) (written_of written.now).name []) }
 {
     match &written.name {
         Some(name) => {
@@ -185,7 +186,7 @@ fn push_disposition(
 
 // Writes the name as people write it, where there is one.
 fn push_said(text: &mut Vec<u8>, written: &Written<'_>) -> Result<(), AllocError>
-    ensures { OnOk result (text.new.items ≡ text.old.items ++ said_param (written_of written.now).said) }
+    ensures { OnOk result (text.new.items ≡ text.old.items ++ option_map_or (λ said. codes "; filename*=utf-8''" ++ percent_encoded said) (written_of written.now).said []) }
 {
     match written.said {
         Some(said) => {
@@ -205,7 +206,7 @@ fn push_encoding(text: &mut Vec<u8>, base64: bool, eol: Ending) -> Result<(), Al
 }
 
 fn encoding_name(base64: bool) -> &'static [u8]
-    ensures { result.now ≡ name_of_encoding base64 }
+    ensures { result.now ≡ if base64 then codes "base64" else codes "quoted-printable" }
 {
     if base64 {
         b"base64"

@@ -1,10 +1,11 @@
 //! What is attached to a message, whether it may be (RFC 2045, 5.1), and the names that are written of it (RFC 2231).
-ghost use Rattle.std.specs.Prelude.{◌≡◌, IfOk, true};
+ghost use Rattle.std.specs.Prelude.{◌≡◌, if◌then◌else◌, IfOk, true};
 ghost use Rattle.std.specs.List.{list_all};
 ghost use Rattle.std.specs.Str.{is_utf8 as is_in_utf8};
+ghost use Rattle.mk_line.specs.Ascii.{underscore};
 ghost use Rattle.mk_code.specs.EncodedWords.{is_shown};
 ghost use Rattle.mk_build.specs.BuildViews.{attached_of, written_in, written_of};
-ghost use Rattle.mk_build.specs.Building.{is_media as may_be_attached, is_name as may_be_written, is_name_byte as may_stand, is_said as is_said_so, is_single as is_one_body, name_byte as name_byte_for, plain_name as plain_name_of};
+ghost use Rattle.mk_build.specs.Building.{is_media as may_be_attached, is_name as may_be_written, is_name_byte as may_stand, is_said as is_said_so, is_single as is_one_body, plain_name as plain_name_of};
 ghost use Rattle.std.specs.Option.{option_map_or};
 
 use mk_head::is_token;
@@ -142,7 +143,7 @@ fn plain_name(alloc: Global, name: &[u8]) -> Result<Vec<u8>, AllocError>
 }
 
 fn name_byte(byte: u8) -> u8
-    ensures { result ≡ name_byte_for byte }
+    ensures { result ≡ if may_stand byte then byte else underscore }
 {
     if is_name_byte(byte) { byte } else { UNDERSCORE }
 }

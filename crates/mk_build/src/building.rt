@@ -1,14 +1,17 @@
 //! Messages built from fields and parts (RFC 2046, 5.1).
-ghost use Rattle.std.specs.Prelude.{◌≡◌, ◌≢◌, ◌++◌, None, codes, map, nat_eq, IfOk, IfErr, OnOk, true};
-ghost use Rattle.std.specs.List.{flat_map, starts_with};
-ghost use Rattle.mk_line.specs.Lines.{cut as lines_of};
+ghost use Rattle.std.specs.Prelude.{◌≡◌, ◌≢◌, ◌&&◌, ◌++◌, None, [], codes, map, nat_eq, not, IfOk, IfErr, OnOk, true, false};
+ghost use Rattle.std.specs.List.{flat_map, position, slice_get, starts_with};
+ghost use Rattle.mk_line.specs.Lines.{cut as lines_of, printed_line};
 ghost use Rattle.mk_head.specs.Values.{lowered};
-ghost use Rattle.mk_build.specs.BuildViews.{attached_of, written_in, written_of, IsBuildRefused};
-ghost use Rattle.mk_build.specs.Building.{build_refusal, built, close_line, closed_field, first_failing, is_free_field as may_begin, is_free_start as begins_free, is_made_name as is_made, is_media as may_be_attached, is_name as may_be_written};
+ghost use Rattle.mk_line.specs.Marks.{close_line};
+ghost use Rattle.mk_head.specs.Fields.{name_of};
+ghost use Rattle.mk_head.specs.Split.{is_start};
+ghost use Rattle.mk_build.specs.BuildViews.{attached_of, written_in, written_of};
+ghost use Rattle.mk_build.specs.Building.{closed_field, is_free_field as may_begin, is_made_name as is_made, is_media as may_be_attached, is_name as may_be_written};
 ghost use Rattle.std.specs.Option.{option_map_or};
 ghost use Rattle.mk_build.specs.ForwardViews.{forwarded_of, IsRefusedWith};
-ghost use Rattle.mk_build.specs.Forwards.{built_with, head_with, refusal_with};
-ghost use Rattle.mk_build.specs.Multiparts.{multipart_of, multipart_refusal, part_as};
+ghost use Rattle.mk_build.specs.Forwards.{build_refusal, built, built_with, head_with, refusal_with};
+ghost use Rattle.mk_build.specs.Multiparts.{mixed, multipart_of, multipart_refusal, part_as};
 
 use crate::attaching::push_attached;
 use crate::attachment::{Attach, Written, as_named, has_name, is_media};
@@ -76,7 +79,7 @@ pub fn build(
 ) -> Result<Vec<u8>, BuildError>
     requires { eol ≢ Ending.Missing }
     ensures text { IfOk result (λ text. (build_refusal (map (λ f. f.items) fields.now) (map attached_of parts.now) boundary.now ≡ None) × (text.items ≡ built eol (map (λ f. f.items) fields.now) (map attached_of parts.now) boundary.now)) }
-    ensures refused { IfErr result (λ error. IsBuildRefused (map (λ f. f.items) fields.now) (map attached_of parts.now) boundary.now error) }
+    ensures refused { IfErr result (λ error. IsRefusedWith (map (λ f. f.items) fields.now) (map attached_of parts.now) [] (mixed boundary.now) error) }
 {
     build_with(alloc, fields, parts, &[], &Multipart::mixed(boundary), eol)
 }
@@ -167,7 +170,7 @@ fn refusal(multipart: &Multipart<'_>) -> Option<BuildError>
 
 // The index of the first field that can't stand at the start, from 0.
 fn bad_field(fields: &[Vec<u8>]) -> Option<usize>
-    ensures { result ≡ first_failing may_begin (map (λ f. f.items) fields.now) }
+    ensures { result ≡ position (λ f. not (may_begin f)) (map (λ f. f.items) fields.now) }
 {
     for (index, field) in fields.iter().enumerate() {
         if !is_free_field(field) {
@@ -179,7 +182,7 @@ fn bad_field(fields: &[Vec<u8>]) -> Option<usize>
 
 // The index of the first part whose media type can't be attached, from 0.
 fn bad_type(parts: &[Written<'_>]) -> Option<usize>
-    ensures { result ≡ first_failing (λ a. may_be_attached a.media) (map written_of parts.now) }
+    ensures { result ≡ position (λ a. not (may_be_attached a.media)) (map written_of parts.now) }
 {
     for (index, part) in parts.iter().enumerate() {
         if !is_media(part.media) {
@@ -191,7 +194,7 @@ fn bad_type(parts: &[Written<'_>]) -> Option<usize>
 
 // The index of the first part whose name can't be written, from 0.
 fn bad_name(parts: &[Written<'_>]) -> Option<usize>
-    ensures { result ≡ first_failing (λ a. option_map_or may_be_written a.name true) (map written_of parts.now) }
+    ensures { result ≡ position (λ a. not (option_map_or may_be_written a.name true)) (map written_of parts.now) }
 {
     for (index, part) in parts.iter().enumerate() {
         if !has_name(part) {
@@ -209,7 +212,7 @@ fn is_free_field(text: &[u8]) -> bool
 }
 
 fn is_free_start(text: &[u8]) -> bool
-    ensures { result ≡ begins_free (lines_of text.now) }
+    ensures { result ≡ option_map_or (λ l. is_start l && not (is_made (name_of l))) (slice_get (lines_of text.now) 0) false }
 {
     match first_line(text) {
         Some((line, _)) => match name_len(line.content) {
@@ -309,7 +312,7 @@ fn push_part(
 }
 
 fn push_close(text: &mut Vec<u8>, boundary: &[u8], eol: Ending) -> Result<(), AllocError>
-    ensures { OnOk result (text.new.items ≡ text.old.items ++ close_line eol boundary.now) }
+    ensures { OnOk result (text.new.items ≡ text.old.items ++ printed_line (close_line eol boundary.now)) }
 {
     text.extend_from_slice(HYPHENS)?;
     text.extend_from_slice(boundary)?;

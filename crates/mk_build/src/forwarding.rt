@@ -1,10 +1,9 @@
 //! Messages that are forwarded as parts (RFC 2046, 5.2.1; RFC 2045, 6.4).
-ghost use Rattle.std.specs.Prelude.{◌≡◌, ◌≢◌, ◌++◌, map, nat_eq, OnOk};
-ghost use Rattle.std.specs.List.{flat_map, starts_with};
+ghost use Rattle.std.specs.Prelude.{◌≡◌, ◌≢◌, ◌++◌, map, nat_eq, not, OnOk};
+ghost use Rattle.std.specs.List.{flat_map, list_any, position, starts_with};
 ghost use Rattle.mk_line.specs.Lines.{ends_in_return as ends_in_cr};
 ghost use Rattle.mk_line.specs.Marks.{dashed};
-ghost use Rattle.mk_build.specs.Building.{first_failing};
-ghost use Rattle.mk_build.specs.Forwards.{are_8bit as have_8bit, attachment_line, eight_bit_line, ending_after as ending_following, forwarded_part, is_8bit as has_8bit, is_clear as is_clear_text, without_envelope as message_of};
+ghost use Rattle.mk_build.specs.Forwards.{attachment_line, eight_bit_line, ending_after as ending_following, forwarded_part, is_8bit as has_8bit, is_clear as is_clear_text, without_envelope as message_of};
 ghost use Rattle.mk_build.specs.ForwardViews.{forwarded_of};
 
 use mk_line::{Ending, cut, first_line, is_from_line, push_delimiter};
@@ -85,7 +84,7 @@ fn begins_dashed(content: &[u8], boundary: &[u8]) -> bool
 
 /// The index of the first message with a line that begins with two hyphens and the boundary, from 0.
 pub(crate) fn first_holding(messages: &[Forward], boundary: &[u8]) -> Option<usize>
-    ensures { result ≡ first_failing (λ f. is_clear_text boundary.now f.text) (map forwarded_of messages.now) }
+    ensures { result ≡ position (λ f. not (is_clear_text boundary.now f.text)) (map forwarded_of messages.now) }
 {
     for (index, forward) in messages.iter().enumerate() {
         if !forward.is_clear_of(boundary) {
@@ -97,7 +96,7 @@ pub(crate) fn first_holding(messages: &[Forward], boundary: &[u8]) -> Option<usi
 
 /// Whether some message has a byte of 128 or more.
 pub(crate) fn are_8bit(messages: &[Forward]) -> bool
-    ensures { result ≡ have_8bit (map forwarded_of messages.now) }
+    ensures { result ≡ list_any (λ f. has_8bit f.text) (map forwarded_of messages.now) }
 {
     for forward in messages {
         if is_8bit(forward.message()) {

@@ -1,7 +1,7 @@
 //! The multipart around the parts of a message, and whether it can be made (RFC 2045, 5.1; RFC 2046, 5.1.1).
-ghost use Rattle.std.specs.Prelude.{◌≡◌, true};
+ghost use Rattle.std.specs.Prelude.{◌≡◌, if◌then◌else◌, None, true};
 ghost use Rattle.std.specs.Option.{option_map, option_map_or};
-ghost use Rattle.mk_build.specs.Multiparts.{charset_for as charset_of_type, is_text as is_of_text};
+ghost use Rattle.mk_build.specs.Multiparts.{is_text as is_of_text};
 ghost use Rattle.mk_head.specs.Values.{is_token as token};
 
 use mk_head::is_token;
@@ -57,7 +57,7 @@ pub fn is_charset(charset: Option<&[u8]>) -> bool
 
 /// The charset for a media type: none but for texts.
 pub(crate) fn charset_for<'a>(charset: Option<&'a [u8]>, media: &[u8]) -> Option<&'a [u8]>
-    ensures { option_map (λ c. c.now) result ≡ charset_of_type (option_map (λ c. c.now) charset.entry) media.now }
+    ensures { option_map (λ c. c.now) result ≡ if is_of_text media.now then option_map (λ c. c.now) charset.entry else None }
 {
     match charset {
         Some(charset) if is_text(media) => Some(charset),

@@ -12,7 +12,9 @@ pub mod Base64Safe
 pub mod QpBack
 pub mod QpSafe
 pub mod Contents
+pub mod CharsetNames
 pub mod WordParts
+pub mod Base64Words
 pub mod Runs
 pub mod Base64Sizes
 pub mod QpSizes

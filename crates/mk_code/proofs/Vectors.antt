@@ -5,6 +5,7 @@ use Rattle.base64.proofs.OnLiterals.{base64_on_literals}
 use Rattle.mk_line.specs.declared.cutting.Ending.TheVariants.{Crlf, Lf}
 use Rattle.mk_code.specs.Base64Text.{letters, lined, base64_encoded}
 use Rattle.mk_code.specs.QuotedPrintable.{qp_decoded, qp_encoded}
+use Rattle.mk_code.specs.Charsets.{iso_tables, other_tables}
 use Rattle.mk_code.specs.EncodedWords.{words_decoded, words_encoded}
 
 letters_found : letters (codes "aG\n!k=zz") ≡ codes "aGk"
@@ -58,6 +59,7 @@ unfolding base64_on_literals
 words_latin = refl
 
 words_unknown : words_decoded (codes "=?x?Q?a?= =?utf-8?Q?b?=") ≡ codes "=?x?Q?a?= b"
+unfolding iso_tables other_tables
 words_unknown = refl
 
 words_bad_digits : words_decoded (codes "=?utf-8?Q?a=?=") ≡ codes "=?utf-8?Q?a=?="

@@ -1,9 +1,9 @@
 -- An encoded word by its parts.
 use Rattle.std.proofs.Common.{◌≡◌, ◌==◌, ◌≤◌, ℕ, true, false, List, [], ◌∷◌, ◌++◌, refl, ap, sym, ◌∙◌, length, take, drop, arith, inl, inr, append_assoc, None, Some, Ok, Err}
-use Rattle.std.specs.Prelude.{Option, option_and_then}
+use Rattle.std.specs.Prelude.{Option}
 use Rattle.std.specs.Option.{option_map}
 use Rattle.std.specs.Result.{result_ok}
-use Rattle.std.specs.Str.{bytes_eq, str_to_ascii_lowercase}
+use Rattle.std.specs.Str.{bytes_eq}
 use Rattle.std.specs.List.{prefix_len, onto_first}
 use Rattle.std.proofs.lemmas.Bool.{cases_Bool, or_parts, and_right}
 use Rattle.std.proofs.lemmas.List.{length-take-le}
@@ -13,7 +13,7 @@ use Rattle.base64.specs.Engines.{standard_no_pad}
 use Rattle.base64.specs.declared.decode.DecodeError.{DecodeError}
 use Rattle.mk_line.specs.Parting.{has_byte}
 use Rattle.mk_code.specs.Base64Text.{is_letter}
-use Rattle.mk_code.specs.EncodedWords.{parts, parts_decoded, word_decoded, text_bytes, in_utf8, is_padding, b_text, q_text, put_before}
+use Rattle.mk_code.specs.EncodedWords.{parts, parts_decoded, word_decoded, inner_decoded, is_padding, b_text, q_text, put_before}
 
 -- what stands before a question mark is a part
 pub parts_run : (front following : List ℕ) → has_byte 63 front ≡ false → parts (front ++ 63 ∷ following) ≡ front ∷ parts following
@@ -93,7 +93,7 @@ pub word_ends_bad : (word start charset name text end : List ℕ) → word_decod
 word_ends_bad word start charset name text end e h = e ∙ bad_end start charset name text end h
 
 pub word_good : (word start charset name text end : List ℕ) → word_decoded word ≡ decoded_parts start charset name text (parts end) → bytes_eq start (61 ∷ []) ≡ true → bytes_eq end (61 ∷ []) ≡ true
-    → word_decoded word ≡ option_and_then (in_utf8 (str_to_ascii_lowercase charset)) (text_bytes (str_to_ascii_lowercase name) text)
+    → word_decoded word ≡ inner_decoded charset name text
 word_good word start charset name text end e h k =
     let same : end ≡ 61 ∷ [] = (bytes_eq-Decides end (61 ∷ [])).0 k in
     e ∙ (ap (λ z. decoded_parts start charset name text (parts z)) same ∙ rw h refl)

@@ -1,12 +1,14 @@
 -- Encoded words in the value of a field (RFC 2047; that a word of any length and an empty text are decoded is our own).
 use Rattle.std.specs.Prelude.{◌==◌, ◌≤◌, ◌&&◌, ◌||◌, ◌+◌, ◌/◌, ◌%◌, if◌then◌else◌, ℕ, Bool, false, nat_le, nat_lt, not, List, [], ◌∷◌, ◌++◌, length, drop, codes, Option, Some, None, is_some, unwrap_or, option_and_then, take_while}
 use Rattle.std.specs.Option.{option_map}
-use Rattle.std.specs.List.{flat_map, join_by, list_all, onto_first}
+use Rattle.std.specs.List.{flat_map, join_by, list_all, list_any, onto_first}
 use Rattle.std.specs.Str.{bytes_eq, is_utf8, str_to_ascii_lowercase}
 use Rattle.base64.specs.GeneralPurpose.{encode_of, decoded_of}
 use Rattle.base64.specs.Engines.{standard, standard_no_pad}
 use Rattle.mk_line.specs.declared.cutting.Ending.{Ending}
-use Rattle.mk_line.specs.Ascii.{is_blank, space, equals_sign, question_mark, underscore}
+use Rattle.mk_line.specs.Parting.{before}
+use Rattle.mk_code.specs.Charsets.{text_in_table, upper_of}
+use Rattle.mk_line.specs.Ascii.{asterisk, is_blank, space, equals_sign, question_mark, underscore}
 use Rattle.mk_line.specs.Lines.{cut, ending_bytes}
 use Rattle.mk_head.specs.Unfolding.{contents}
 use Rattle.mk_code.specs.Base64Text.{is_letter}
@@ -84,16 +86,21 @@ text_bytes name text =
 abbrev pub latin_character : ℕ → List ℕ
 latin_character byte = if nat_lt byte 128 then byte ∷ [] else (192 + byte / 64) ∷ (128 + byte % 64) ∷ []
 
--- bytes of a charset, named in lower case, in UTF-8: these three charsets are known (own)
+-- labels of UTF-8 (WHATWG Encoding Standard, 4.2)
+abbrev pub utf8_labels : List (List ℕ)
+utf8_labels = codes "utf-8" ∷ codes "unicode-1-1-utf-8" ∷ codes "unicode11utf8" ∷ codes "unicode20utf8" ∷ codes "utf8" ∷ codes "x-unicode20utf8" ∷ []
+
+-- bytes of a charset, named in lower case, in UTF-8: these three, and those of one byte a character (own)
 abbrev pub in_utf8 : List ℕ → List ℕ → Option (List ℕ)
 in_utf8 charset bytes =
-    if bytes_eq charset (codes "utf-8") then Some bytes
+    if list_any (bytes_eq charset) utf8_labels then Some bytes
     else (if bytes_eq charset (codes "us-ascii") then (if list_all (λ byte. nat_lt byte 128) bytes then Some bytes else None)
-    else (if bytes_eq charset (codes "iso-8859-1") then Some (flat_map latin_character bytes) else None))
+    else (if bytes_eq charset (codes "iso-8859-1") then Some (flat_map latin_character bytes)
+    else option_and_then (λ upper. text_in_table upper bytes) (upper_of charset)))
 
--- what the parts of an encoded word stand for
+-- what the parts of an encoded word stand for; a language may follow the charset after an asterisk (RFC 2231, 5)
 abbrev pub inner_decoded : List ℕ → List ℕ → List ℕ → Option (List ℕ)
-inner_decoded charset name text = option_and_then (in_utf8 (str_to_ascii_lowercase charset)) (text_bytes (str_to_ascii_lowercase name) text)
+inner_decoded charset name text = option_and_then (in_utf8 (str_to_ascii_lowercase (before asterisk charset))) (text_bytes (str_to_ascii_lowercase name) text)
 
 -- an encoded word has five parts: `=`, a charset, the name of an encoding, a text and `=` (RFC 2047, 2)
 abbrev pub parts_decoded : List (List ℕ) → Option (List ℕ)

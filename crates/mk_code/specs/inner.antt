@@ -1,3 +1,4 @@
 pub mod Decoded
 pub mod Strays
+pub mod Tables
 pub mod Sizes

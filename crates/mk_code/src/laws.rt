@@ -1,5 +1,5 @@
 //! Laws of the encodings, each a function with an empty body whose clause is the law.
-ghost use Rattle.std.specs.Prelude.{◌≡◌, ◌≢◌, ℕ, List, map, encode_utf8, encode_utf8_all};
+ghost use Rattle.std.specs.Prelude.{◌≡◌, ◌≢◌, ◌↔◌, ℕ, List, Some, drop, length, map, take_while, true, encode_utf8, encode_utf8_all};
 ghost use Rattle.std.specs.Str.{IsUtf8};
 ghost use Rattle.base64.specs.GeneralPurpose.{IsBytes};
 ghost use Rattle.mk_line.specs.declared.cutting.Ending.{Ending as LineEnding};
@@ -7,9 +7,9 @@ ghost use Rattle.mk_line.specs.declared.cutting.Ending.TheVariants.{Missing};
 ghost use Rattle.mk_line.specs.Lines.{cut};
 ghost use Rattle.mk_head.specs.declared.encodings.Encoding.{Encoding as Transfer};
 ghost use Rattle.mk_head.specs.declared.encodings.Encoding.TheVariants.{Qp, Base64};
-ghost use Rattle.mk_code.specs.Base64Text.{base64_encoded};
+ghost use Rattle.mk_code.specs.Base64Text.{IsBase64Of, base64_encoded, is_letter};
 ghost use Rattle.mk_code.specs.Contents.{IsContent};
-ghost use Rattle.mk_code.specs.EncodedWords.{AreShort, characters, pieces, words_decoded, words_encoded};
+ghost use Rattle.mk_code.specs.EncodedWords.{AreShort, b_text, characters, is_padding, pieces, words_decoded, words_encoded};
 ghost use Rattle.mk_code.specs.OutputLines.{AreSafe};
 ghost use Rattle.mk_code.specs.QuotedPrintable.{qp_encoded};
 
@@ -47,6 +47,13 @@ pub fn base64_lines_are_safe()
 pub fn words_round_trip()
     ensures { (eol : LineEnding) (text : List ℕ) → IsBytes text →
         words_decoded (words_encoded eol text) ≡ text }
+{}
+
+/// What an encoded word says in base64 is base64 as elsewhere: where only padding follows its letters, it says the bytes that
+/// these are the encoding of.
+pub fn words_hold_base64()
+    ensures { (text bytes : List ℕ) → is_padding (drop (length (take_while is_letter text)) text) ≡ true → IsBytes bytes →
+        (b_text text ≡ Some bytes) ↔ IsBase64Of text bytes }
 {}
 
 /// The characters of a text in UTF-8 are its characters, each by its bytes.

@@ -19,10 +19,13 @@
 
 mod base64_fronts;
 mod base64_text;
+mod charsets;
 mod decoding;
+mod iso_tables;
 mod lanes;
 pub mod laws;
 mod one_word;
+mod other_tables;
 mod qp_decoding;
 mod qp_encoding;
 mod sizes;
@@ -31,6 +34,7 @@ mod words_encoding;
 
 pub use base64_fronts::decode_front;
 pub use base64_text::{b64_encode, push_b64};
+pub use charsets::{in_utf8, is_in_charset};
 pub use decoding::{CodeError, decode, decode_in};
 pub use mk_head::Encoding;
 pub use qp_encoding::{push_qp, qp_encode};

@@ -1,9 +1,11 @@
 //! Decoding one encoded word (RFC 2047, 2 to 4).
 ghost use Rattle.std.specs.Prelude.{◌≡◌, ◌<◌, if◌then◌else◌, nat_lt, None, Some, length, IfOk, IfSome, MatchOption, option_map};
-ghost use Rattle.std.specs.List.{flat_map, list_all};
 ghost use Rattle.std.specs.Str.{bytes_eq, is_utf8, str_to_ascii_lowercase};
-ghost use Rattle.mk_code.specs.EncodedWords.{word_decoded, word_read, inner_decoded, text_bytes as bytes_of_text, b_text as b_bytes, q_text as q_bytes, put_before, is_padding as padding, in_utf8 as bytes_in_utf8, latin_character};
+ghost use Rattle.mk_line.specs.Ascii.{asterisk};
+ghost use Rattle.mk_line.specs.Parting.{before};
+ghost use Rattle.mk_code.specs.EncodedWords.{word_decoded, word_read, inner_decoded, text_bytes as bytes_of_text, b_text as b_bytes, q_text as q_bytes, put_before, is_padding as padding};
 
+use crate::charsets::{in_utf8, is_named};
 use crate::lanes::Letters;
 use crate::qp_decoding::pair;
 use base64::DecodeAllocError;
@@ -11,6 +13,8 @@ use base64::engine::general_purpose::STANDARD_NO_PAD;
 use mk_line::lanes::run_of;
 use mk_line::split_at_first;
 use std::alloc::{AllocError, Global};
+
+const ASTERISK: u8 = b'*';
 
 const EQUALS: u8 = b'=';
 
@@ -23,14 +27,6 @@ const EDGE: &[u8] = b"=";
 
 /// The digits of a byte after its `=`.
 const DIGITS: usize = 2;
-
-/// The first byte that isn't ASCII.
-const NON_ASCII: u8 = 128;
-
-/// What the first of two bytes of a character in UTF-8 has beside its bits, and what the second has.
-const LEAD_OF_TWO: u8 = 192;
-
-const CONTINUATION: u8 = 128;
 
 /// Which encoded words are decoded.
 #[derive(Clone, Copy)]
@@ -91,8 +87,18 @@ fn decode_word(alloc: Global, word: &[u8]) -> Result<Option<Vec<u8>>, AllocError
         return Ok(None);
     };
     match text_bytes(alloc, parts.name, parts.text)? {
-        Some(bytes) => in_utf8(alloc, parts.charset, bytes),
+        Some(bytes) => in_utf8(alloc, without_language(parts.charset), bytes),
         None => Ok(None),
+    }
+}
+
+// The charset before an asterisk, which a language follows (RFC 2231, 5).
+fn without_language(charset: &[u8]) -> &[u8]
+    ensures { result.now ≡ before asterisk charset.now }
+{
+    match split_at_first(charset, ASTERISK) {
+        Some((name, _)) => name,
+        None => charset,
     }
 }
 
@@ -128,13 +134,6 @@ fn text_bytes(alloc: Global, name: &[u8], text: &[u8]) -> Result<Option<Vec<u8>>
     } else {
         Ok(None)
     }
-}
-
-// Whether the name is this one, which is in lower case, without regard to ASCII case.
-fn is_named(name: &[u8], wanted: &[u8]) -> bool
-    ensures { result ≡ bytes_eq (str_to_ascii_lowercase name.now) (str_to_ascii_lowercase wanted.now) }
-{
-    name.eq_ignore_ascii_case(wanted)
 }
 
 // The bytes of base64's letters with padding or none after them.
@@ -187,46 +186,4 @@ fn first_byte(text: &[u8]) -> Option<(u8, &[u8])>
         [byte @ b'!'..=b'~', following @ ..] => Some((*byte, following)),
         _ => None,
     }
-}
-
-// The bytes in UTF-8, where the charset is known and has them.
-fn in_utf8(alloc: Global, charset: &[u8], bytes: Vec<u8>) -> Result<Option<Vec<u8>>, AllocError>
-    ensures { IfOk result (λ found. option_map (λ bytes. bytes.items) found
-        ≡ bytes_in_utf8 (str_to_ascii_lowercase charset.now) bytes.items) }
-{
-    if is_named(charset, b"utf-8") {
-        return Ok(Some(bytes));
-    }
-    if is_named(charset, b"us-ascii") {
-        return if is_ascii(&bytes) {
-            Ok(Some(bytes))
-        } else {
-            Ok(None)
-        };
-    }
-    if is_named(charset, b"iso-8859-1") {
-        return Ok(Some(from_latin(alloc, &bytes)?));
-    }
-    Ok(None)
-}
-
-fn is_ascii(bytes: &[u8]) -> bool
-    ensures { result ≡ list_all (λ byte. nat_lt byte 128) bytes.now }
-{
-    bytes.iter().all(|byte| byte.is_ascii())
-}
-
-// The characters of iso-8859-1 in UTF-8.
-fn from_latin(alloc: Global, bytes: &[u8]) -> Result<Vec<u8>, AllocError>
-    ensures { IfOk result (λ text. text.items ≡ flat_map latin_character bytes.now) }
-{
-    let mut out = Vec::with_capacity(alloc, bytes.len())?;
-    for byte in bytes {
-        if *byte < NON_ASCII {
-            out.push(*byte)?;
-        } else {
-            out.extend_from_slice(&[LEAD_OF_TWO + *byte / 64, CONTINUATION + *byte % 64])?;
-        }
-    }
-    Ok(out)
 }

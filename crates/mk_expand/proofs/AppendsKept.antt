@@ -41,16 +41,16 @@ use Rattle.mk_expand.proofs.KeptContents.{Keeps, KeepParts, keeps_same, read_kep
 use Rattle.mk_expand.proofs.KeptPlaces.{contents_kept, flag, flag_line, keeps_by, plug_keeps, some_part}
 
 -- how many parts there are
-count : Parts → ℕ
+unfoldable pub count : Parts → ℕ
 count no_parts = zero
 count (part l e ps) = suc (count ps)
 
-parts_all : (ps : Parts) → parts_at (count ps) ps ≡ Some (ps, no_parts)
+pub parts_all : (ps : Parts) → parts_at (count ps) ps ≡ Some (ps, no_parts)
 unfolding count
 parts_all no_parts = refl
 parts_all (part l e ps) = ap (option_map (λ (q : Parts × Parts). (part l e q.0, q.1))) (parts_all ps)
 
-placed_count : (place : ℕ) (f digest : Bool) (ps : Parts) → length (parts_placed place f digest ps) ≡ count ps
+pub placed_count : (place : ℕ) (f digest : Bool) (ps : Parts) → length (parts_placed place f digest ps) ≡ count ps
 unfolding count
 placed_count place f digest no_parts = refl
 placed_count place f digest (part l e ps) = ap suc (placed_count (place + size (l ∷ []) + size (print e)) f digest ps)
@@ -62,13 +62,13 @@ last_at no_parts l e = refl
 last_at (part m x no_parts) l e = refl
 last_at (part m x (part n y ps)) l e = ap (option_map (λ (q : Parts × TextLine × Entity × Parts). (part m x q.0, q.1, q.2, q.3))) (last_at (part n y ps) l e)
 
-record LastPlaced (f : Bool) (e : Entity) (o : Option Placed) : Type 0 where
-  last : Placed
-  found : o ≡ Some last
-  followed : last.followed ≡ f
-  entity : last.entity ≡ e
+pub record LastPlaced (f : Bool) (e : Entity) (o : Option Placed) : Type 0 where
+  pub last : Placed
+  pub found : o ≡ Some last
+  pub followed : last.followed ≡ f
+  pub entity : last.entity ≡ e
 
-last_placed : (place : ℕ) (f digest : Bool) (before : Parts) (l : TextLine) (e : Entity)
+pub last_placed : (place : ℕ) (f digest : Bool) (before : Parts) (l : TextLine) (e : Entity)
     → LastPlaced f e (counted (count (append_parts before (part l e no_parts))) (parts_placed place f digest (append_parts before (part l e no_parts))))
 unfolding count
 last_placed place f digest no_parts l e = record { last = _; found = refl; followed = refl; entity = refl }
@@ -106,7 +106,7 @@ grown_parts (part m y ps) l d e grown x k = (
 none_place : {A : Type 0} (q : List Frame × Entity) → ◌≡◌ {A = Option (List Frame × Entity)} None (Some q) → A
 none_place q e = cc
 
-place_whole : (path : List ℕ) (root : Entity) (fs : List Frame) (s : Entity) → place_of path root ≡ Some (fs, s) → plug fs s ≡ root
+pub place_whole : (path : List ℕ) (root : Entity) (fs : List Frame) (s : Entity) → place_of path root ≡ Some (fs, s) → plug fs s ≡ root
 place_whole [] root fs s e = none_place (fs, s) e
 place_whole (k ∷ ks) root fs s e = elim (cases_Bool (k == 1)) [
   | inl h ↦ place_plug ks root fs s (rw h at e)
@@ -130,10 +130,10 @@ inserted path text t u fs h b pre ps tail there done =
     record { delimiter = delimiter_line eol b; given = part_read fs h (cut text); root = ap (λ (d : Document). d.root) plan.gives ∙ ap (λ (p : Plan). plug p.around p.new) (sym same) }
 
 -- the place of the last part
-around_last : List Frame → Head → List ℕ → List TextLine → Parts → TextLine → Option (TextLine × List TextLine) → List Frame
+unfoldable pub around_last : List Frame → Head → List ℕ → List TextLine → Parts → TextLine → Option (TextLine × List TextLine) → List Frame
 around_last fs h b pre before l tail = fs ++ in_multi h b pre before l no_parts tail ∷ []
 
-last_there : (path : List ℕ) (root : Entity) (fs : List Frame) (h : Head) (b : List ℕ) (pre : List TextLine) (before : Parts) (l : TextLine) (e : Entity) (tail : Option (TextLine × List TextLine)) → place_of path root ≡ Some (fs, multi h b pre (append_parts before (part l e no_parts)) tail)
+pub last_there : (path : List ℕ) (root : Entity) (fs : List Frame) (h : Head) (b : List ℕ) (pre : List TextLine) (before : Parts) (l : TextLine) (e : Entity) (tail : Option (TextLine × List TextLine)) → place_of path root ≡ Some (fs, multi h b pre (append_parts before (part l e no_parts)) tail)
     → place_of (path ++ count (append_parts before (part l e no_parts)) ∷ []) root ≡ Some (around_last fs h b pre before l tail, e)
 unfolding around_last
 last_there path root fs h b pre before l e tail there =
@@ -149,7 +149,7 @@ plug_after [] gs e = refl
 plug_after (f ∷ fs) gs e = ap (λ x. plug (f ∷ []) x) (plug_after fs gs e)
 
 -- the last part is another
-set_last : (path text : List ℕ) (t u : Document) (fs : List Frame) (h : Head) (b : List ℕ) (pre : List TextLine) (before : Parts) (l : TextLine) (e : Entity) (tail : Option (TextLine × List TextLine)) → place_of path t.root ≡ Some (fs, multi h b pre (append_parts before (part l e no_parts)) tail)
+pub set_last : (path text : List ℕ) (t u : Document) (fs : List Frame) (h : Head) (b : List ℕ) (pre : List TextLine) (before : Parts) (l : TextLine) (e : Entity) (tail : Option (TextLine × List TextLine)) → place_of path t.root ≡ Some (fs, multi h b pre (append_parts before (part l e no_parts)) tail)
     → edited (SetSection (path ++ count (append_parts before (part l e no_parts)) ∷ []) text) t ≡ Ok u
     → u.root ≡ plug fs (multi h b pre (append_parts before (part l (read (left_at levels (around_last fs h b pre before l tail)) (default_at false (around_last fs h b pre before l tail)) (cut text)) no_parts)) tail)
 unfolding around_last
@@ -193,7 +193,7 @@ after_followed path text other bytes t u fs h b pre ps tail q there keeps done a
     let made = inserted path text t u fs h b pre ps tail there (last_edit (InsertPart path (count ps) text) t u done) in
     told path other bytes t u fs (multi h b pre ps tail) (multi h b pre (append_parts ps (part made.delimiter made.given no_parts)) tail) q there made.root (keeps made.delimiter made.given) at l extract
 
-count_last : (before : Parts) (l : TextLine) (x y : Entity) → count (append_parts before (part l x no_parts)) ≡ count (append_parts before (part l y no_parts))
+pub count_last : (before : Parts) (l : TextLine) (x y : Entity) → count (append_parts before (part l x no_parts)) ≡ count (append_parts before (part l y no_parts))
 unfolding count
 count_last no_parts l x y = refl
 count_last (part m z ps) l x y = ap suc (count_last ps l x y)
@@ -222,7 +222,7 @@ after_open eol path text mail other bytes u fs h b pre before l e tail q n there
     (subst (λ f. KeepParts f ps f (append_parts now (part more.delimiter more.given no_parts))) (sym ends) parts) at leaf_at extract
 
 -- what `append` stands for
-edits_told : (eol : Ending) (path text : List ℕ) (o : Option Placed) (f : Bool) (e : Entity) (n : ℕ) → LastPlaced f e o → divided_at eol (path ++ n ∷ []) o ++ InsertPart path n text ∷ []
+pub edits_told : (eol : Ending) (path text : List ℕ) (o : Option Placed) (f : Bool) (e : Entity) (n : ℕ) → LastPlaced f e o → divided_at eol (path ++ n ∷ []) o ++ InsertPart path n text ∷ []
     ≡ (if f then [] else SetSection (path ++ n ∷ []) (divided eol (text_of (print e))) ∷ []) ++ InsertPart path n text ∷ []
 edits_told eol path text o f e n last =
     ap (λ x. divided_at eol (path ++ n ∷ []) x ++ InsertPart path n text ∷ []) last.found

@@ -4,7 +4,8 @@ use Rattle.mk_line.specs.declared.cutting.Ending.{Ending}
 use Rattle.mk_tree.specs.Documents.{Document}
 use Rattle.mk_tree.specs.Sections.{Placed, section_at}
 use Rattle.mk_decide.specs.Edits.{PlainEdit}
-use Rattle.mk_build.specs.Building.{Attached, attach_refusal, attached}
+use Rattle.mk_build.specs.Building.{Attached, attach_refusal}
+use Rattle.mk_build.specs.Multiparts.{attached}
 use Rattle.mk_script.specs.Script.{ScriptWord, Attaches}
 use Rattle.mk_show.specs.Parts.{attached_file}
 use Rattle.mk_expand.specs.Appends.{made_part}

@@ -12,6 +12,7 @@ pub mod KeptContents
 pub mod GrownTexts
 pub mod KeptPlaces
 pub mod AppendsKept
+pub mod NewParts
 pub mod TextsPut
 pub mod RemovalOrder
 pub mod RemovalsMade

@@ -1,11 +1,11 @@
 -- A part after the last one of a multipart (own).
 use Rattle.mk_view.specs.Listed.{greatest_number}
 use Rattle.std.specs.Option.{option_map_or}
-use Rattle.std.specs.Prelude.{◌++◌, if◌then◌else◌, ℕ, nat_le, Bool, true, Option, None, Some, List, [], ◌∷◌, length}
+use Rattle.std.specs.Prelude.{◌++◌, ◌||◌, if◌then◌else◌, ℕ, suc, nat_le, nat_lt, Bool, true, Option, None, Some, List, [], ◌∷◌, length}
 use Rattle.mk_line.specs.declared.cutting.Ending.{Ending}
-use Rattle.mk_line.specs.Lines.{ending_bytes}
+use Rattle.mk_line.specs.Lines.{ending_bytes, text_of}
 use Rattle.mk_head.specs.Fields.{counted}
-use Rattle.mk_tree.specs.Sections.{Placed, children, raw_of}
+use Rattle.mk_tree.specs.Sections.{Placed, body_text, children, preamble_lines, raw_of}
 use Rattle.mk_decide.specs.Edits.{PlainEdit, InsertPart, SetSection}
 use Rattle.mk_expand.specs.Contents.{body_with, divided}
 
@@ -27,9 +27,17 @@ after_parts eol path text count parts =
 abbrev pub appended : Ending → List ℕ → List ℕ → Placed → List PlainEdit
 appended eol path text p = after_parts eol path text (length (children p)) (children p)
 
--- whether a line follows the last part of a section, as far as numbers go; without parts one does
+-- the number of the part that goes after the others
+abbrev pub new_number : Placed → ℕ
+new_number p = suc (if nat_le (length (children p)) greatest_number then length (children p) else greatest_number)
+
+-- whether a line follows the preamble of a section: one of its body, or one after the section
+abbrev pub follows_preamble : Placed → Bool
+follows_preamble p = nat_lt (length (text_of (preamble_lines p.entity))) (length (body_text p)) || p.followed
+
+-- whether a line follows the last part of a section, as far as numbers go; without parts, whether one follows the preamble
 abbrev pub follows_last : Placed → Bool
-follows_last p = if nat_le (length (children p)) greatest_number then option_map_or (λ p. p.followed) (counted (length (children p)) (children p)) true else true
+follows_last p = if nat_le (length (children p)) greatest_number then option_map_or (λ p. p.followed) (counted (length (children p)) (children p)) (follows_preamble p) else true
 
 -- a made part as it goes after the others: with an ending where a line follows, since that ending isn't content (RFC 2046, 5.1.1)
 abbrev pub made_part : Ending → List ℕ → Option Placed → List ℕ

@@ -16,8 +16,8 @@ use Rattle.mk_decide.specs.Edits.{PlainEdit, AddField, RemoveField, RenameField,
 use Rattle.mk_view.specs.Listing.{encoding_in, type_of}
 use Rattle.mk_build.specs.declared.attaching.AttachError.{AttachError}
 use Rattle.mk_build.specs.declared.attaching.AttachError.TheVariants as attach
-use Rattle.mk_build.specs.Building.{Attached, attach_refusal, attached, closed_field}
-use Rattle.mk_build.specs.Multiparts.{attached_as}
+use Rattle.mk_build.specs.Building.{Attached, attach_refusal, closed_field}
+use Rattle.mk_build.specs.Multiparts.{attached, attached_as}
 use Rattle.mk_script.specs.Script.{ScriptWord, Adds, Deletes, Renames, Sets, Bodies, Replaces, Inserts, Removes, Wraps, SetsContent, SetsText, Encodes, Puts, PutsPiece, DropsAll, Appends, AppendsText, Attaches, AttachesText}
 use Rattle.mk_script.specs.Targets.{field_name_in}
 use Rattle.mk_show.specs.Parts.{attached_file, inlined_file, is_text}

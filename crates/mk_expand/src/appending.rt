@@ -129,14 +129,14 @@ pub(crate) fn text_to_append(
     Ok(part)
 }
 
-// Whether a line follows the last part, as far as numbers go; without parts one does.
+// Whether a line follows the last part, as far as numbers go; without parts, whether one follows the preamble.
 fn is_last_followed(section: &Section<'_>) -> bool
     ensures { result ≡ follows_last section.now }
 {
     match u32::try_from(section.parts()) {
         Ok(count) => match section.child(count) {
             Some(last) => last.followed(),
-            None => true,
+            None => section.preamble().len() < section.body().len() || section.followed(),
         },
         Err(_) => true,
     }

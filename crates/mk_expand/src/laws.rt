@@ -1,11 +1,20 @@
 //! The laws of `content`, `encode`, `append`, `drop`, `put` and `remove`, over the definitions alone: each a function with an empty body whose clause is the law.
 
+ghost use Rattle.std.specs.Prelude.{◌≡◌, ◌↔◌, ℕ, List, Ok};
+ghost use Rattle.mk_head.specs.declared.encodings.Encoding.{Encoding as Transfer};
+ghost use Rattle.mk_code.specs.Contents.{IsContent};
+ghost use Rattle.mk_expand.specs.Encodings.{decoded_in};
 ghost use Rattle.mk_expand.specs.ExpandLaws.{AppendsKeepContents, ContentsAreGivenBack, DropsLeaveNone, EncodingsKeepContents, PutsLeaveOne};
 ghost use Rattle.mk_expand.specs.Removals.{RemovalsAreInOrder, RemovalsTakeThose};
 
 /// What `content` gives a leaf is what is extracted from it afterwards.
 pub fn contents_are_given_back()
     ensures { ContentsAreGivenBack }
+{}
+
+/// `encode` reads just the content of a text in a transfer encoding.
+pub fn contents_are_decoded()
+    ensures { (encoding : Transfer) (text bytes : List ℕ) → (decoded_in encoding text ≡ Ok bytes) ↔ IsContent encoding text bytes }
 {}
 
 /// What is extracted from a leaf stays the same when `encode` puts it in another transfer encoding.

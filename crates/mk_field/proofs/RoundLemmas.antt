@@ -16,11 +16,12 @@ use Rattle.mk_mailbox.specs.declared.places.Place.{Place}
 use Rattle.mk_mailbox.specs.declared.from_lines.FromLines.{FromLines}
 use Rattle.mk_mailbox.specs.Places.{begins_from, ends_empty, fits_place}
 use Rattle.mk_line.specs.Lines.{cut}
-use Rattle.mk_mail.specs.Apart.{always_fits, has_section, mail_made, placed_made, section_made}
+use Rattle.mk_mail.specs.Apart.{always_fits, has_section, mail_made, section_made}
+use Rattle.mk_mail.proofs.SectionsApart.{placed_made}
 use Rattle.mk_field.specs.Filtering.{PlainFilter, filter_made}
 use Rattle.mk_mail.specs.Filtered.{outcome_at}
 use Rattle.mk_mail.specs.Letters.{PlainLetters, edits_at}
-use Rattle.mk_mail.specs.Rounds.{Made, PlainRound, letters_for, made_text, round_made_at, rounds_made_at}
+use Rattle.mk_mail.specs.Rounds.{Made, PlainRound, letters_for, made_text, rounds_made_at}
 use Rattle.mk_line.specs.Results.{made_of}
 use Rattle.mk_field.specs.FilterClauses.{IsEdited, IsFitted, IsReason, IsRoundMade, fitted}
 use Rattle.mk_field.specs.FilterViews.{is_round, round_of}
@@ -99,8 +100,8 @@ all_left place text left error made (Err reason) e h s = rw e (record { left_is 
 pub round_refused : (path : List ℕ) (all rest : List PlainRound) (r : PlainRound) (l : PlainLetters) (place : Option Place) (text left : List ℕ) (h new : History) (error : EditError) → l ≡ letters_for r (text_now h) → SoFar path all (r ∷ rest) text h
     → IsRoundMade path l (Some error) h new → left ≡ first_text new → IsEdited (fitted place (rounds_made_at path all text)) text (Some error) left
 round_refused path all rest r l place text left h new error e s k back =
-    all_left place text left error (rounds_made_at path all text) (made_of (rounds_made_at path rest) (round_made_at path r (text_now h))) s.made
-    (refused_now (round_made_at path r (text_now h)) error (rounds_made_at path rest) (subst (λ x. IsReason (Some error) (made_text (outcome_at path x (text_now h)))) e k.1))
+    all_left place text left error (rounds_made_at path all text) (made_of (rounds_made_at path rest) (made_text (outcome_at path (letters_for r (text_now h)) (text_now h)))) s.made
+    (refused_now (made_text (outcome_at path (letters_for r (text_now h)) (text_now h))) error (rounds_made_at path rest) (subst (λ x. IsReason (Some error) (made_text (outcome_at path x (text_now h)))) e k.1))
     (back ∙ (ap first_text k.0 ∙ s.first))
 
 -- all rounds were made, and what they made fits a place, or all is taken back

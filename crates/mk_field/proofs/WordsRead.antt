@@ -1,5 +1,5 @@
 -- A value that was written in encoded words is read again.
-use Rattle.std.proofs.Common.{◌≡◌, ◌==◌, ◌||◌, ◌++◌, ◌<◌, if◌then◌else◌, ℕ, Bool, suc, zero, true, false, not, List, [], ◌∷◌, Some, refl, ap, sym, ◌∙◌, get_or, lit<, map}
+use Rattle.std.proofs.Common.{◌≡◌, ◌==◌, ◌||◌, ◌++◌, ◌<◌, if◌then◌else◌, ℕ, Bool, Option, suc, zero, true, false, not, List, [], ◌∷◌, Some, refl, ap, sym, ◌∙◌, get_or, lit<, map}
 use Rattle.std.specs.Prelude.{codes}
 use Rattle.std.specs.List.{list_all}
 use Rattle.std.specs.Str.{IsUtf8, is_utf8}
@@ -21,7 +21,7 @@ use Rattle.mk_script.proofs.PieceLemmas.{HoldsNo, parted-append}
 use Rattle.mk_field.specs.Filtering.{after_colon}
 use Rattle.std.specs.Option.{option_map_or}
 use Rattle.mk_mail.specs.Prepended.{is_one_line, is_plain}
-use Rattle.mk_wording.specs.Wording.{field_kind, field_or, is_structured, worded_by, worded_field, worded_field_of, worded_value}
+use Rattle.mk_wording.specs.Wording.{field_kind, is_structured, worded_field, worded_field_of, worded_value}
 use Rattle.mk_wording.proofs.FieldLemmas.{text_written}
 use Rattle.mk_field.specs.Wording.{decoded_value, line_byte}
 use Rattle.mk_mail.proofs.Plainness.{needed, plain_stays}
@@ -83,7 +83,7 @@ value_after name value h = ap (λ o. option_map_or (λ p. p.1) o []) (field_part
 field_worded : (eol : Ending) (name text : List ℕ) → list_all is_name_byte name ≡ true → stripped text ≡ text
     → worded_field eol (field name text) ≡ worded_field_of eol (field name text) name text
 field_worded eol name text h s =
-    ap (worded_by eol (field name text)) (field_parted name text h)
+    ap (λ o. option_map_or (λ q. worded_field_of eol (field name text) (trimmed q.0) (stripped q.1)) o (field name text)) (field_parted name text h)
     ∙ ((λ i. worded_field_of eol (field name text) (name_kept name h i) (stripped text)) ∙ ap (worded_field_of eol (field name text) name) s)
 
 -- what is read where the text stays, and where it goes in as encoded words
@@ -99,6 +99,10 @@ words_read : (eol : Ending) (name text : List ℕ) → list_all is_name_byte nam
 words_read eol name text h u b l s =
     ap decoded_value (value_after name (words_encoded eol text) h)
     ∙ spaced_value (words_encoded eol text) text (words_back eol text b) u l s
+
+-- the field of a name and a value that was written, or as it is given
+abbrev pub field_or : List ℕ → List ℕ → Option (List ℕ) → List ℕ
+field_or given name o = option_map_or (λ worded. name ++ (codes ": " ++ worded)) o given
 
 -- what is read of a field whose text needs encoded words or not
 abbrev pub made_by : Ending → List ℕ → List ℕ → Bool → List ℕ

@@ -51,14 +51,9 @@ words_of w = record {
   whole = option_map (λ s. s.now) w.whole;
 }
 
--- what stands before a colon, where nothing stands after it
-abbrev pub name_of_parts : Option (List ℕ × List ℕ) → Option (List ℕ)
-name_of_parts None = None
-name_of_parts (Some p) = if is_nil p.1 then Some p.0 else None
-
--- the name of a word that is a name and a colon
+-- the name of a word that is a name and a colon: what stands before the colon, where nothing stands after it
 abbrev pub name_in : List ℕ → Option (List ℕ)
-name_in word = name_of_parts (parted colon word)
+name_in word = option_and_then (λ p. if is_nil p.1 then Some p.0 else None) (parted colon word)
 
 -- a word that is a name and a colon
 abbrev pub is_name_word : List ℕ → Bool
@@ -68,14 +63,10 @@ is_name_word word = is_some (name_in word)
 abbrev pub is_pair_word : List ℕ → Bool
 is_pair_word word = is_some (parted colon word)
 
--- the last byte of a name is an asterisk
-abbrev pub ends_in_asterisk : List ℕ → Bool
-ends_in_asterisk name = slice_index name (length name - 1) == asterisk
-
 -- a name as a pattern: what stands before an asterisk at its end is the front of names
 abbrev pub pattern_in : List ℕ → PlainPattern
 pattern_in name =
-    if ends_in_asterisk name then record { text = take (length name - 1) name; is_front = true } else record { text = name; is_front = false }
+    if slice_index name (length name - 1) == asterisk then record { text = take (length name - 1) name; is_front = true } else record { text = name; is_front = false }
 
 -- the pattern of a word that is a name and a colon
 abbrev pub pattern_asked : List ℕ → PlainPattern

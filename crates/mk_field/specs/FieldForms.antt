@@ -7,17 +7,12 @@ use Rattle.mk_field.specs.Asked.{PlainWords}
 use Rattle.mk_wording.specs.Wording.{worded_field}
 use Rattle.mk_field.specs.declared.forms.FieldForm.{FieldForm}
 
--- a field in encoded words, where they are asked for (`--encode`)
-abbrev pub encoded_if : FieldForm → Ending → List ℕ → List ℕ
-encoded_if form eol field = if form.encoded then worded_field eol field else field
-
--- a field with another ending at each of its lines, where that is asked for (`--eol`)
-abbrev pub turned_if : FieldForm → Ending → List ℕ → List ℕ
-turned_if form eol field = if form.turned then turned_to eol field else field
-
--- a field in a form, for a message whose lines end so
+-- a field in a form, for a message whose lines end so: in encoded words (`--encode`), and with the ending of the message at each of
+-- its lines (`--eol`), where these are asked for
 abbrev pub in_form : FieldForm → Ending → List ℕ → List ℕ
-in_form form eol field = turned_if form eol (encoded_if form eol field)
+in_form form eol field =
+    let encoded = if form.encoded then worded_field eol field else field in
+    if form.turned then turned_to eol encoded else encoded
 
 -- words of the command line of which those that are fields are in a form
 abbrev pub words_in_form : FieldForm → Ending → PlainWords → PlainWords

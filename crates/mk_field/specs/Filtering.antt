@@ -92,14 +92,9 @@ said_of_made path number text m = record { output = result_unwrap_or m text; err
 abbrev pub given_said : List ℕ → ℕ → List ℕ → List ℕ → Said
 given_said path number text given = record { output = given; errors = missing_report path number text }
 
--- what is said of a message: what is given of it, or what edits leave
-abbrev pub said_or : (List ℕ → Said) → Option (List ℕ) → Said → Said
-said_or f None edits = edits
-said_or f (Some given) edits = f given
-
--- what a filter says of a message of a number
+-- what a filter says of a message of a number: what is given of it, or what edits leave
 abbrev pub said_filtered : Bool → PlainFilter → ℕ → List ℕ → Said
-said_filtered each f number text = said_or (given_said f.path number text) (given_of f.path f.form f.rounds text) (said_of_made f.path number text (filter_made each f text))
+said_filtered each f number text = option_map_or (given_said f.path number text) (given_of f.path f.form f.rounds text) (said_of_made f.path number text (filter_made each f text))
 
 -- what is said of a message that is left as it is: all of it, or nothing where rounds ask for fields
 abbrev pub said_alone : List PlainRound → List ℕ → Said

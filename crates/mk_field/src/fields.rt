@@ -5,7 +5,7 @@ ghost use Rattle.std.specs.List.{list_all};
 ghost use Rattle.mk_decide.specs.Answers.{is_memory};
 ghost use Rattle.mk_edit.specs.Histories.{first_text, started, text_now};
 ghost use Rattle.mk_mail.specs.Apart.{always_fits as fits_always, section_made};
-ghost use Rattle.mk_mail.specs.LetterViews.{bytes_in, letters_of};
+ghost use Rattle.mk_mail.specs.LetterViews.{letters_of};
 ghost use Rattle.mk_mail.specs.Letters.{are_allowed, is_root as is_root_path};
 ghost use Rattle.mk_mail.specs.Rounds.{rounds_made_at};
 ghost use Rattle.mk_field.specs.FilterClauses.{IsEdited, IsFitted, IsRoundMade, fitted};

@@ -1,7 +1,8 @@
 //! The forms in which the fields of letters go into a message.
 
-ghost use Rattle.std.specs.Prelude.{◌≡◌, ◌≢◌, IfOk};
-ghost use Rattle.mk_field.specs.FieldForms.{encoded_if as encoded_field, in_form as field_in_form};
+ghost use Rattle.std.specs.Prelude.{◌≡◌, ◌≢◌, if◌then◌else◌, IfOk};
+ghost use Rattle.mk_field.specs.FieldForms.{in_form as field_in_form};
+ghost use Rattle.mk_wording.specs.Wording.{worded_field as field_in_words};
 
 use mk_line::Ending;
 use mk_script::turned;
@@ -43,7 +44,7 @@ fn encoded_if(
     eol: Ending,
 ) -> Result<Vec<u8>, AllocError>
     requires { eol ≢ Ending.Missing }
-    ensures { IfOk result (λ made. made.items ≡ encoded_field form eol field.now) }
+    ensures { IfOk result (λ made. made.items ≡ if form.encoded then field_in_words eol field.now else field.now) }
 {
     if form.encoded {
         worded_field(alloc, field, eol)

@@ -2,11 +2,12 @@
 
 ghost use Rattle.std.specs.Prelude.{◌≡◌, ℕ, List, false, filter, map, IfOk};
 ghost use Rattle.std.specs.List.{flat_map};
+ghost use Rattle.std.specs.Option.{option_map};
 ghost use Rattle.mk_line.specs.Lines.{cut as lines_of};
 ghost use Rattle.mk_head.specs.Fields.{fields_of, is_named as named};
 ghost use Rattle.mk_head.specs.Split.{fields_from};
 ghost use Rattle.mk_mail.specs.Letters.{fields_at};
-ghost use Rattle.mk_mail.specs.LetterViews.{bytes_in, letters_of};
+ghost use Rattle.mk_mail.specs.LetterViews.{letters_of};
 ghost use Rattle.mk_field.specs.FilterViews.{round_of};
 ghost use Rattle.mk_field.specs.Filtering.{after_colon as is_after_colon, given_by, given_of};
 ghost use Rattle.mk_field.specs.Wording.{printed_value};
@@ -29,7 +30,7 @@ pub(crate) fn given(
     head: &[u8],
 ) -> Result<Option<Vec<u8>>, AllocError>
     requires { fields_of (fields_from false (lines_of head.now)) ≡ fields_at filter.now.path.now text.now }
-    ensures { IfOk result (λ given. bytes_in given ≡ given_of filter.now.path.now filter.now.form (map round_of filter.now.rounds.now) text.now) }
+    ensures { IfOk result (λ given. option_map (λ v. v.items) given ≡ given_of filter.now.path.now filter.now.form (map round_of filter.now.rounds.now) text.now) }
 {
     match filter.rounds {
         [round, ..] => given_by_letters(alloc, round.letters_for(text), filter.form, head),
@@ -45,7 +46,7 @@ fn given_by_letters(
     head: &[u8],
 ) -> Result<Option<Vec<u8>>, AllocError>
     ensures { IfOk result (λ given. (path text : List ℕ) → fields_of (fields_from false (lines_of head.now)) ≡ fields_at path text
-        → bytes_in given ≡ given_by path form (letters_of letters.now).take (letters_of letters.now).whole text) }
+        → option_map (λ v. v.items) given ≡ given_by path form (letters_of letters.now).take (letters_of letters.now).whole text) }
 {
     match &letters.take {
         Some(name) => Ok(Some(values(alloc, head, name, form)?)),

@@ -4,7 +4,7 @@ ghost use Rattle.std.specs.Prelude.{◌≡◌, ◌≢◌, IfOk, map, true};
 ghost use Rattle.std.specs.List.{list_all};
 ghost use Rattle.std.specs.Option.{option_and_then, option_map, option_map_or};
 ghost use Rattle.mk_line.specs.Ascii.{colon};
-ghost use Rattle.mk_mail.specs.LetterViews.{bytes_in, pattern_of, prepend_of};
+ghost use Rattle.mk_mail.specs.LetterViews.{pattern_of, prepend_of};
 ghost use Rattle.mk_field.specs.Asked.{is_name_word, is_pair_word, name_in as name_in_word, pattern_asked, pattern_in, prepend_in};
 ghost use Rattle.mk_field.specs.FieldForms.{in_form as made_in_form};
 ghost use Rattle.mk_script.specs.Paths.{parted as parted_at};
@@ -177,7 +177,7 @@ fn before_colon(word: &[u8]) -> Option<&[u8]>
 
 // The field that a word is.
 fn field(alloc: Global, word: Option<&str>) -> Result<Option<Vec<u8>>, AllocError>
-    ensures { IfOk result (λ field. bytes_in field ≡ option_map (λ s. s.now) word.entry) }
+    ensures { IfOk result (λ field. option_map (λ v. v.items) field ≡ option_map (λ s. s.now) word.entry) }
 {
     match word {
         Some(word) => Ok(Some(Vec::from_slice(alloc, word.as_bytes())?)),
@@ -193,7 +193,7 @@ fn field_in(
     eol: Ending,
 ) -> Result<Option<Vec<u8>>, AllocError>
     requires { eol ≢ Ending.Missing }
-    ensures { IfOk result (λ field. bytes_in field ≡ option_map (made_in_form form eol) (option_map (λ s. s.now) word.entry)) }
+    ensures { IfOk result (λ field. option_map (λ v. v.items) field ≡ option_map (made_in_form form eol) (option_map (λ s. s.now) word.entry)) }
 {
     match word {
         Some(word) => Ok(Some(in_form(alloc, word.as_bytes(), form, eol)?)),
@@ -203,7 +203,7 @@ fn field_in(
 
 // The name before the colon of a word.
 fn name(alloc: Global, word: Option<&str>) -> Result<Option<Vec<u8>>, AllocError>
-    ensures { IfOk result (λ name. bytes_in name ≡ option_and_then name_in_word (option_map (λ s. s.now) word.entry)) }
+    ensures { IfOk result (λ name. option_map (λ v. v.items) name ≡ option_and_then name_in_word (option_map (λ s. s.now) word.entry)) }
 {
     let Some(word) = word else {
         return Ok(None);

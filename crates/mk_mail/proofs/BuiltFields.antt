@@ -1,7 +1,8 @@
 -- The fields at the start of a built message: their lines are fields, and none says a content.
 use Rattle.std.proofs.Common.{◌≡◌, ◌==◌, ◌&&◌, ◌++◌, if◌then◌else◌, ℕ, Bool, true, false, not, List, [], ◌∷◌, refl, ap, sym, ◌∙◌, subst, append_assoc, codes, nat_eq, inl, inr}
 use Rattle.std.proofs.lemmas.Bool.{cases_Bool, eqb-true, or_parts}
-use Rattle.std.specs.List.{flat_map, list_all, starts_with}
+use Rattle.std.specs.List.{flat_map, list_all, slice_get, starts_with}
+use Rattle.std.specs.Option.{option_map_or}
 use Rattle.std.specs.Str.{bytes_eq}
 use Rattle.mk_line.specs.Ascii.{is_blank}
 use Rattle.mk_line.specs.declared.cutting.Ending.{Ending}
@@ -16,7 +17,7 @@ use Rattle.mk_head.specs.Splits.{IsRun}
 use Rattle.mk_head.specs.Types.{field_value}
 use Rattle.mk_head.specs.Values.{lowered}
 use Rattle.mk_head.proofs.FieldRuns.{more_start}
-use Rattle.mk_build.specs.Building.{closed_field, is_free_field, is_free_start, is_made_name}
+use Rattle.mk_build.specs.Building.{closed_field, is_free_field, is_made_name}
 use Rattle.mk_mail.proofs.BuiltLines.{AreClosed, AreSome, closed_joined, cut_ended, lines_joined, one_more, some_closed}
 use Rattle.mk_mail.proofs.FieldLines.{first_content, name_after, name_first, name_in, start_after, start_first}
 use Rattle.mk_mail.proofs.PartTypes.{both}
@@ -24,6 +25,10 @@ use Rattle.mk_mail.proofs.PartTypes.{both}
 not_true : (t : Bool) → not t ≡ true → t ≡ false
 not_true true e = absurd cc
 not_true false e = refl
+
+-- the first line isn't that of a field that is made
+abbrev is_free_start : List TextLine → Bool
+is_free_start ls = option_map_or (λ l. not (is_made_name (name_of l))) (slice_get ls 0) false
 
 -- lines that continue
 abbrev pub AreMore : List TextLine → Type 0
@@ -168,22 +173,20 @@ of_open : (eol : Ending) (field : List ℕ) (ls : List TextLine) → is_open eol
 of_open eol field [] c e h k f = absurd cc
 of_open eol field (l ∷ ls) c e h k f =
     let one = both (is_start l) (list_all is_more ls) h in
-    let free = both (is_start l) (not (is_made_name (name_of l))) k in
     let more = ended_after field eol c f (subst AreMoreBehind (sym e) (all_more ls one.1)) in
-    some_lines l ls field eol (cut (field ++ ending_bytes eol)) e one.0 (not_true (is_made_name (name_of l)) free.1) refl (cut_ended field eol c) more
+    some_lines l ls field eol (cut (field ++ ending_bytes eol)) e one.0 (not_true (is_made_name (name_of l)) k) refl (cut_ended field eol c) more
 
 -- a field whose last line isn't
 of_closed : (field : List ℕ) (ls : List TextLine) → cut field ≡ ls → is_one_field ls ≡ true → is_free_start ls ≡ true → ends_fed field ≡ true → IsFieldLines (cut field)
 of_closed field [] e h k f = absurd cc
 of_closed field (l ∷ ls) e h k f =
     let one = both (is_start l) (list_all is_more ls) h in
-    let free = both (is_start l) (not (is_made_name (name_of l))) k in
     record {
       first = l;
       more = ls;
       lines_are = e;
       start = one.0;
-      free = not_true (is_made_name (name_of l)) free.1;
+      free = not_true (is_made_name (name_of l)) k;
       continues = all_more ls one.1;
       closed = some_closed (cut field) (closed_fed field f);
     }

@@ -14,7 +14,7 @@ use Rattle.mk_tree.specs.Sections.{Placed, section_at}
 use Rattle.mk_tree.specs.Tree.{field_lines}
 use Rattle.mk_view.specs.Listing.{type_of}
 use Rattle.mk_view.specs.TextNames.{disposed_text, text_name}
-use Rattle.mk_mail.proofs.BuiltParts.{part_entity, part_fields}
+use Rattle.mk_mail.proofs.BuiltParts.{charset_for, part_entity, part_fields}
 use Rattle.mk_mail.proofs.SaidNames.{disposed, value_of}
 use Rattle.mk_mail.proofs.BuiltMessages.{AreGood, is_built, part_at}
 use Rattle.mk_mail.proofs.PartTypes.{InQuotes, both, name_quotes}
@@ -25,16 +25,17 @@ use Rattle.mk_code.specs.EncodedWords.{is_shown}
 use Rattle.mk_param.specs.Percents.{percent_encoded}
 
 -- the value of the disposition of a part
-disposition_value : (eol : Ending) (media name said : List ℕ) (base64 : Bool) → field_value (codes "Content-Disposition") (part_fields eol media (Some name) (Some said) base64) ≡ Some (value_of name (percent_encoded said))
-disposition_value eol media name said base64 = ap (λ cs. Some (unwrap_or (following 58 cs) [])) (append_nil (codes "Content-Disposition:" ++ value_of name (percent_encoded said)))
+disposition_value : (eol : Ending) (media : List ℕ) (charset : Option (List ℕ)) (name said : List ℕ) (base64 : Bool) → field_value (codes "Content-Disposition") (part_fields eol media charset (Some name) (Some said) base64) ≡ Some (value_of name (percent_encoded said))
+disposition_value eol media charset name said base64 = ap (λ cs. Some (unwrap_or (following 58 cs) [])) (append_nil (codes "Content-Disposition:" ++ value_of name (percent_encoded said)))
 
 -- what its fields say
-part_says : (eol : Ending) (a : Attached) (name said : List ℕ) (p : Placed) → p.entity ≡ part_entity eol a → a.name ≡ Some name → a.said ≡ Some said → InQuotes name
+part_says : (eol : Ending) (charset : Option (List ℕ)) (a : Attached) (name said : List ℕ) (p : Placed) → p.entity ≡ part_entity eol charset a → a.name ≡ Some name → a.said ≡ Some said → InQuotes name
     → list_all (λ byte. nat_lt byte 256) said ≡ true → is_utf8 said ≡ true → text_name p ≡ Some said
-part_says eol a name said p e n s q b u =
+part_says eol charset a name said p e n s q b u =
+    let here = charset_for charset a.media in
     ap (λ o. option_or (disposed_text o) (said_text (codes "name") (type_of p).params))
     (ap (λ x. field_value (codes "Content-Disposition") (field_lines x)) e
-    ∙ ((λ i. field_value (codes "Content-Disposition") (part_fields eol a.media (n i) (s i) a.base64)) ∙ disposition_value eol a.media name said a.base64))
+    ∙ ((λ i. field_value (codes "Content-Disposition") (part_fields eol a.media here (n i) (s i) a.base64)) ∙ disposition_value eol a.media here name said a.base64))
     ∙ ap (λ o. option_or o (said_text (codes "name") (type_of p).params)) (disposed name said q b u)
 
 -- the parts of names in UTF-8
@@ -68,13 +69,13 @@ said_text_is name h =
     (both (is_utf8 name) (not (list_all is_shown name)) p.1).0
 
 pub names_said : BuiltNamesAreSaid
-names_said eol fields files boundary is small none k a name p e n h b found =
+names_said eol fields files messages m is small none k a name p e n h b found =
     let parts = map named_in_utf8 files in
-    let m = is_built eol fields parts (codes "mixed") boundary is small none in
+    let whole = is_built eol fields parts messages m is small none in
     let c = counted_map named_in_utf8 files k a e in
-    let part = part_at eol fields (codes "mixed") boundary parts k (named_in_utf8 a) c in
+    let part = part_at eol fields m parts messages k (named_in_utf8 a) c in
     let given = name_given a name n h in
-    let same : ◌≡◌ {A = Option Placed} (Some part.place) (Some p) = sym part.found ∙ (ap (section_at (1 ∷ k ∷ [])) (sym m.read) ∙ found) in
+    let same : ◌≡◌ {A = Option Placed} (Some part.place) (Some p) = sym part.found ∙ (ap (section_at (1 ∷ k ∷ [])) (sym whole.read) ∙ found) in
     let here : part.place ≡ p = cc in
-    part_says eol (named_in_utf8 a) (plain_name name) name p (ap (λ (q : Placed). q.entity) (sym here) ∙ part.entity_is) given (said_given a name n h)
-    (in_quotes (plain_name name) (good_name eol parts k (named_in_utf8 a) (plain_name name) m.good c given)) b (said_text_is name h)
+    part_says eol m.charset (named_in_utf8 a) (plain_name name) name p (ap (λ (q : Placed). q.entity) (sym here) ∙ part.entity_is) given (said_given a name n h)
+    (in_quotes (plain_name name) (good_name eol parts k (named_in_utf8 a) (plain_name name) whole.good c given)) b (said_text_is name h)

@@ -29,17 +29,28 @@ use Rattle.mk_tree.specs.Reading.{IsWellRead}
 use Rattle.mk_tree.specs.Tree.{Entity, leaf, print}
 use Rattle.mk_tree.proofs.Plugs.{unmarked_join}
 use Rattle.mk_decide.proofs.Bounds.{made_line}
-use Rattle.mk_build.specs.Building.{Attached, attached, disposition_line, encoded, encoding_line, encoding_name, is_media, is_name, is_name_byte, is_single, longest, name_param, said_param}
+use Rattle.mk_build.specs.Building.{Attached, disposition_line, encoded, encoding_line, is_media, is_name, is_name_byte, is_single, longest}
+use Rattle.mk_build.specs.Multiparts.{attached_as, charset_param, is_text}
 use Rattle.std.specs.Option.{option_map_or}
 use Rattle.mk_mail.specs.BuiltLaws.{AreBytes}
 use Rattle.mk_view.specs.Extracts.{IsContentOf}
 use Rattle.mk_mail.proofs.BuiltBodies.{AreFree, body_content, free_ended, free_unmarked, safe_free}
 use Rattle.mk_mail.proofs.BuiltLines.{AreClosed, closed_joined, cut_ended, lines_joined, some_closed}
-use Rattle.mk_mail.proofs.PartTypes.{both, differs, part_kind, parted}
+use Rattle.mk_mail.proofs.PartTypes.{both, differs, name_param, part_kind, parted}
+
+-- the name as people write it, the encoding, and the charset of a media type
+abbrev pub said_param : Option (List ℕ) → List ℕ
+said_param said = option_map_or (λ text. codes "; filename*=utf-8''" ++ percent_encoded text) said []
+
+abbrev pub encoding_name : Bool → List ℕ
+encoding_name base64 = if base64 then codes "base64" else codes "quoted-printable"
+
+abbrev pub charset_for : Option (List ℕ) → List ℕ → Option (List ℕ)
+charset_for charset media = if is_text media then charset else None
 
 -- the lines of its fields
-abbrev pub part_type : Ending → List ℕ → Option (List ℕ) → TextLine
-part_type eol media name = text_line (codes "Content-Type: " ++ (media ++ name_param name)) eol
+abbrev pub part_type : Ending → List ℕ → Option (List ℕ) → Option (List ℕ) → TextLine
+part_type eol media charset name = text_line (codes "Content-Type: " ++ (media ++ (charset_param charset ++ name_param name))) eol
 
 abbrev pub disposition : Ending → Option (List ℕ) → Option (List ℕ) → List TextLine
 disposition eol None said = []
@@ -48,8 +59,8 @@ disposition eol (Some name) said = text_line (codes "Content-Disposition: attach
 abbrev pub part_encoding : Ending → Bool → TextLine
 part_encoding eol base64 = text_line (codes "Content-Transfer-Encoding: " ++ encoding_name base64) eol
 
-abbrev pub part_fields : Ending → List ℕ → Option (List ℕ) → Option (List ℕ) → Bool → List TextLine
-part_fields eol media name said base64 = part_type eol media name ∷ (disposition eol name said ++ (part_encoding eol base64 ∷ []))
+abbrev pub part_fields : Ending → List ℕ → Option (List ℕ) → Option (List ℕ) → Option (List ℕ) → Bool → List TextLine
+part_fields eol media charset name said base64 = part_type eol media charset name ∷ (disposition eol name said ++ (part_encoding eol base64 ∷ []))
 
 abbrev pub empty_line : Ending → TextLine
 empty_line eol = text_line [] eol
@@ -57,33 +68,33 @@ empty_line eol = text_line [] eol
 abbrev pub part_body : Ending → Attached → List TextLine
 part_body eol a = cut (encoded eol a ++ ending_bytes eol)
 
--- the part as an entity
-abbrev pub part_entity : Ending → Attached → Entity
-part_entity eol a = leaf (record { fields = part_fields eol a.media a.name a.said a.base64; separator = Some (empty_line eol) }) (part_body eol a)
+-- the part as an entity, where texts name this charset
+abbrev pub part_entity : Ending → Option (List ℕ) → Attached → Entity
+part_entity eol charset a = leaf (record { fields = part_fields eol a.media (charset_for charset a.media) a.name a.said a.base64; separator = Some (empty_line eol) }) (part_body eol a)
 
-without_name : (t m e c n bytes : List ℕ)
-    → (((t ++ (m ++ [])) ++ e) ++ (((c ++ n) ++ e) ++ (([] ++ e) ++ []))) ++ (bytes ++ e)
-    ≡ ((t ++ (m ++ ([] ++ e))) ++ ([] ++ ((c ++ (n ++ e)) ++ (e ++ bytes)))) ++ e
-without_name t m e c n bytes = simp append_assoc
+without_name : (t m s e c n bytes : List ℕ)
+    → (((t ++ (m ++ (s ++ []))) ++ e) ++ (((c ++ n) ++ e) ++ (([] ++ e) ++ []))) ++ (bytes ++ e)
+    ≡ ((t ++ (m ++ (s ++ ([] ++ e)))) ++ ([] ++ ((c ++ (n ++ e)) ++ (e ++ bytes)))) ++ e
+without_name t m s e c n bytes = simp append_assoc
 
-with_name : (t m p name q s e d c n bytes : List ℕ)
-    → (((t ++ (m ++ (p ++ (name ++ q)))) ++ e) ++ (((d ++ (name ++ (q ++ s))) ++ e) ++ (((c ++ n) ++ e) ++ (([] ++ e) ++ [])))) ++ (bytes ++ e)
-    ≡ ((t ++ (m ++ ((p ++ (name ++ q)) ++ e))) ++ ((d ++ (name ++ (q ++ (s ++ e)))) ++ ((c ++ (n ++ e)) ++ (e ++ bytes)))) ++ e
-with_name t m p name q s e d c n bytes = simp append_assoc
+with_name : (t m s p name q u e d c n bytes : List ℕ)
+    → (((t ++ (m ++ (s ++ (p ++ (name ++ q))))) ++ e) ++ (((d ++ (name ++ (q ++ u))) ++ e) ++ (((c ++ n) ++ e) ++ (([] ++ e) ++ [])))) ++ (bytes ++ e)
+    ≡ ((t ++ (m ++ (s ++ ((p ++ (name ++ q)) ++ e)))) ++ ((d ++ (name ++ (q ++ (u ++ e)))) ++ ((c ++ (n ++ e)) ++ (e ++ bytes)))) ++ e
+with_name t m s p name q u e d c n bytes = simp append_assoc
 
 -- its text
-text_by : (eol : Ending) (media : List ℕ) (name said : Option (List ℕ)) (base64 : Bool) (bytes body : List ℕ) → body ≡ bytes ++ ending_bytes eol
-    → text_of (part_fields eol media name said base64 ++ (empty_line eol ∷ [])) ++ body
-    ≡ ((codes "Content-Type: " ++ (media ++ (name_param name ++ ending_bytes eol))) ++ (disposition_line eol name said ++ (encoding_line eol base64 ++ (ending_bytes eol ++ bytes)))) ++ ending_bytes eol
-text_by eol media None said base64 bytes body h =
-    rw h (without_name (codes "Content-Type: ") media (ending_bytes eol) (codes "Content-Transfer-Encoding: ") (encoding_name base64) bytes)
-text_by eol media (Some name) said base64 bytes body h =
-    rw h (with_name (codes "Content-Type: ") media (codes "; name=\"") name (codes "\"") (said_param said) (ending_bytes eol) (codes "Content-Disposition: attachment; filename=\"") (codes "Content-Transfer-Encoding: ") (encoding_name base64) bytes)
+text_by : (eol : Ending) (media : List ℕ) (charset name said : Option (List ℕ)) (base64 : Bool) (bytes body : List ℕ) → body ≡ bytes ++ ending_bytes eol
+    → text_of (part_fields eol media charset name said base64 ++ (empty_line eol ∷ [])) ++ body
+    ≡ ((codes "Content-Type: " ++ (media ++ (charset_param charset ++ (name_param name ++ ending_bytes eol)))) ++ (disposition_line eol name said ++ (encoding_line eol base64 ++ (ending_bytes eol ++ bytes)))) ++ ending_bytes eol
+text_by eol media charset None said base64 bytes body h =
+    rw h (without_name (codes "Content-Type: ") media (charset_param charset) (ending_bytes eol) (codes "Content-Transfer-Encoding: ") (encoding_name base64) bytes)
+text_by eol media charset (Some name) said base64 bytes body h =
+    rw h (with_name (codes "Content-Type: ") media (charset_param charset) (codes "; name=\"") name (codes "\"") (said_param said) (ending_bytes eol) (codes "Content-Disposition: attachment; filename=\"") (codes "Content-Transfer-Encoding: ") (encoding_name base64) bytes)
 
-pub part_text : (eol : Ending) (a : Attached) → text_of (print (part_entity eol a)) ≡ attached eol a ++ ending_bytes eol
-part_text eol a =
-    text_append (part_fields eol a.media a.name a.said a.base64 ++ (empty_line eol ∷ [])) (part_body eol a)
-    ∙ text_by eol a.media a.name a.said a.base64 (encoded eol a) (text_of (part_body eol a)) (text_cut (encoded eol a ++ ending_bytes eol))
+pub part_text : (eol : Ending) (charset : Option (List ℕ)) (a : Attached) → text_of (print (part_entity eol charset a)) ≡ attached_as eol charset a ++ ending_bytes eol
+part_text eol charset a =
+    text_append (part_fields eol a.media (charset_for charset a.media) a.name a.said a.base64 ++ (empty_line eol ∷ [])) (part_body eol a)
+    ∙ text_by eol a.media (charset_for charset a.media) a.name a.said a.base64 (encoded eol a) (text_of (part_body eol a)) (text_cut (encoded eol a ++ ending_bytes eol))
 
 -- bytes that are no part of an ending
 abbrev is_inner : ℕ → Bool
@@ -116,7 +127,10 @@ inner_return (byte ∷ next ∷ bytes) h = inner_return (next ∷ bytes) (both (
 pub inner_line : (eol : Ending) (content : List ℕ) → is_open eol ≡ false → list_all is_inner content ≡ true → IsLine (text_line content eol)
 inner_line eol content c h = made_line eol content c (inner_feed content h) (inner_return content h)
 
--- the bytes of a media type and of a name
+-- the bytes of a media type, of a charset and of a name
+token_inner : (bytes : List ℕ) → is_token bytes ≡ true → list_all is_inner bytes ≡ true
+token_inner bytes t = inner_all is_token_byte bytes refl refl (both (not (is_nil bytes)) (list_all is_token_byte bytes) t).1
+
 media_inner : (media : List ℕ) → is_media media ≡ true → list_all is_inner media ≡ true
 media_inner media h =
     let p = both (nat_le (length media) longest) (is_token (before 47 media) && (option_map_or is_token (following 47 media) false && is_single (before 47 media))) h in
@@ -124,12 +138,21 @@ media_inner media h =
     let r = both (option_map_or is_token (following 47 media) false) (is_single (before 47 media)) q.1 in
     by_subtype (following 47 media) refl (token_inner (before 47 media) q.0) r.0
   where
-    token_inner : (bytes : List ℕ) → is_token bytes ≡ true → list_all is_inner bytes ≡ true
-    token_inner bytes t = inner_all is_token_byte bytes refl refl (both (not (is_nil bytes)) (list_all is_token_byte bytes) t).1
-
     by_subtype : (o : Option (List ℕ)) → following 47 media ≡ o → list_all is_inner (before 47 media) ≡ true → option_map_or is_token o false ≡ true → list_all is_inner media ≡ true
     by_subtype None e t s = absurd cc
     by_subtype (Some sub) e t s = ap (list_all is_inner) (parted media sub e) ∙ inner_join (before 47 media) (47 ∷ sub) t (token_inner sub s)
+
+charset_inner : (charset : Option (List ℕ)) → option_map_or is_token charset true ≡ true → list_all is_inner (charset_param charset) ≡ true
+charset_inner None h = refl
+charset_inner (Some charset) h = inner_join (codes "; charset=") charset refl (token_inner charset h)
+
+-- the charset of a part is that of all texts, or none
+charset_given : (charset : Option (List ℕ)) (media : List ℕ) → option_map_or is_token charset true ≡ true → option_map_or is_token (charset_for charset media) true ≡ true
+charset_given charset media h = by_type (is_text media)
+  where
+    by_type : (t : Bool) → option_map_or is_token (if t then charset else None) true ≡ true
+    by_type true = h
+    by_type false = refl
 
 name_inner : (name : List ℕ) → is_name name ≡ true → list_all is_inner name ≡ true
 name_inner name h =
@@ -193,25 +216,27 @@ encoding_inner : (base64 : Bool) → list_all is_inner (codes "Content-Transfer-
 encoding_inner true = refl
 encoding_inner false = refl
 
-fields_full : (eol : Ending) (media : List ℕ) (name said : Option (List ℕ)) (base64 : Bool) → is_open eol ≡ false → is_media media ≡ true → option_map_or is_name name true ≡ true → AreFull (part_fields eol media name said base64)
-fields_full eol media name said base64 c h n =
-    let content = codes "Content-Type: " ++ (media ++ name_param name) in
-    full_join (part_type eol media name ∷ []) (disposition eol name said ++ (part_encoding eol base64 ∷ []))
-    (full_one content eol c (inner_line eol content c (inner_join (codes "Content-Type: ") (media ++ name_param name) refl (inner_join media (name_param name) (media_inner media h) (param_inner name n)))))
+fields_full : (eol : Ending) (media : List ℕ) (charset name said : Option (List ℕ)) (base64 : Bool)
+    → is_open eol ≡ false → is_media media ≡ true → option_map_or is_token charset true ≡ true → option_map_or is_name name true ≡ true → AreFull (part_fields eol media charset name said base64)
+fields_full eol media charset name said base64 c h t n =
+    let behind = charset_param charset ++ name_param name in
+    let content = codes "Content-Type: " ++ (media ++ behind) in
+    full_join (part_type eol media charset name ∷ []) (disposition eol name said ++ (part_encoding eol base64 ∷ []))
+    (full_one content eol c (inner_line eol content c (inner_join (codes "Content-Type: ") (media ++ behind) refl (inner_join media behind (media_inner media h) (inner_join (charset_param charset) (name_param name) (charset_inner charset t) (param_inner name n))))))
     (full_join (disposition eol name said) (part_encoding eol base64 ∷ []) (disposition_full eol name said c n)
     (full_one (codes "Content-Transfer-Encoding: " ++ encoding_name base64) eol c (inner_line eol (codes "Content-Transfer-Encoding: " ++ encoding_name base64) c (encoding_inner base64))))
 
-pub part_full : (eol : Ending) (a : Attached) → is_open eol ≡ false → is_media a.media ≡ true → option_map_or is_name a.name true ≡ true → AreLines (print (part_entity eol a)) × AreClosed (print (part_entity eol a))
-part_full eol a c h n =
-    let head = full_join (part_fields eol a.media a.name a.said a.base64) (empty_line eol ∷ []) (fields_full eol a.media a.name a.said a.base64 c h n) (full_one [] eol c (inner_line eol [] c refl)) in
+pub part_full : (eol : Ending) (charset : Option (List ℕ)) (a : Attached) → is_open eol ≡ false → option_map_or is_token charset true ≡ true → is_media a.media ≡ true → option_map_or is_name a.name true ≡ true → AreFull (print (part_entity eol charset a))
+part_full eol charset a c t h n =
+    let fields = part_fields eol a.media (charset_for charset a.media) a.name a.said a.base64 in
+    let head = full_join fields (empty_line eol ∷ []) (fields_full eol a.media (charset_for charset a.media) a.name a.said a.base64 c h (charset_given charset a.media t) n) (full_one [] eol c (inner_line eol [] c refl)) in
     let body : AreFull (part_body eol a) = record { lines = lines_cut (encoded eol a ++ ending_bytes eol); closed = some_closed (part_body eol a) (cut_ended (encoded eol a) eol c) } in
-    let all = full_join (part_fields eol a.media a.name a.said a.base64 ++ (empty_line eol ∷ [])) (part_body eol a) head body in
-    (all.lines, all.closed)
+    full_join (fields ++ (empty_line eol ∷ [])) (part_body eol a) head body
 
 -- no line of it is a mark
-fields_free : (eol : Ending) (media : List ℕ) (name said : Option (List ℕ)) (base64 : Bool) → AreFree (part_fields eol media name said base64 ++ (empty_line eol ∷ []))
-fields_free eol media None said base64 = (refl, (refl, (refl, tt)))
-fields_free eol media (Some name) said base64 = (refl, (refl, (refl, (refl, tt))))
+fields_free : (eol : Ending) (media : List ℕ) (charset name said : Option (List ℕ)) (base64 : Bool) → AreFree (part_fields eol media charset name said base64 ++ (empty_line eol ∷ []))
+fields_free eol media charset None said base64 = (refl, (refl, (refl, tt)))
+fields_free eol media charset (Some name) said base64 = (refl, (refl, (refl, (refl, tt))))
 
 not_missing : (eol : Ending) → is_open eol ≡ false → eol ≢ Missing
 not_missing Crlf c e = cc
@@ -222,44 +247,49 @@ encoded_by : (t : Bool) (P : List ℕ → Type 0) (x y : List ℕ) → (t ≡ tr
 encoded_by true P x y h k = h refl
 encoded_by false P x y h k = k refl
 
-pub part_free : (b : List ℕ) (eol : Ending) (a : Attached) → is_open eol ≡ false → AreBytes a.text → Unmarked b (print (part_entity eol a))
-part_free b eol a c small =
+pub part_free : (b : List ℕ) (eol : Ending) (charset : Option (List ℕ)) (a : Attached) → is_open eol ≡ false → AreBytes a.text → Unmarked b (print (part_entity eol charset a))
+part_free b eol charset a c small =
     let is = not_missing eol c in
+    let head = part_fields eol a.media (charset_for charset a.media) a.name a.said a.base64 ++ (empty_line eol ∷ []) in
     let safe : AreFree (cut (encoded eol a)) =
     encoded_by a.base64 (λ xs. AreFree (cut xs)) (base64_encoded eol a.text) (qp_encoded eol a.text) (λ _. safe_free (cut (base64_encoded eol a.text)) (base64_safe eol a.text is small)) (λ _. safe_free (cut (qp_encoded eol a.text)) (qp_safe eol a.text is small)) in
-    unmarked_join b (part_fields eol a.media a.name a.said a.base64 ++ (empty_line eol ∷ [])) (part_body eol a)
-    (free_unmarked b (part_fields eol a.media a.name a.said a.base64 ++ (empty_line eol ∷ [])) (fields_free eol a.media a.name a.said a.base64))
+    unmarked_join b head (part_body eol a)
+    (free_unmarked b head (fields_free eol a.media (charset_for charset a.media) a.name a.said a.base64))
     (free_unmarked b (part_body eol a) (free_ended (encoded eol a) eol c safe))
 
 -- what its fields say
-type_value : (eol : Ending) (media : List ℕ) (name said : Option (List ℕ)) (base64 : Bool) → field_value (codes "Content-Type") (part_fields eol media name said base64) ≡ Some (32 ∷ (media ++ name_param name))
-type_value eol media None said base64 = ap (λ cs. Some (unwrap_or (following 58 cs) [])) (append_nil (codes "Content-Type: " ++ (media ++ name_param None)))
-type_value eol media (Some name) said base64 = ap (λ cs. Some (unwrap_or (following 58 cs) [])) (append_nil (codes "Content-Type: " ++ (media ++ name_param (Some name))))
+type_value : (eol : Ending) (media : List ℕ) (charset name said : Option (List ℕ)) (base64 : Bool)
+    → field_value (codes "Content-Type") (part_fields eol media charset name said base64) ≡ Some (32 ∷ (media ++ (charset_param charset ++ name_param name)))
+type_value eol media charset None said base64 = ap (λ cs. Some (unwrap_or (following 58 cs) [])) (append_nil (codes "Content-Type: " ++ (media ++ (charset_param charset ++ name_param None))))
+type_value eol media charset (Some name) said base64 = ap (λ cs. Some (unwrap_or (following 58 cs) [])) (append_nil (codes "Content-Type: " ++ (media ++ (charset_param charset ++ name_param (Some name)))))
 
 -- the encoding that is named
 abbrev coding : Bool → Encoding
 coding true = Base64
 coding false = Qp
 
-says_encoding : (eol : Ending) (media : List ℕ) (name said : Option (List ℕ)) (base64 : Bool) → header_encoding (part_fields eol media name said base64) ≡ coding base64
-says_encoding eol media None said true = refl
-says_encoding eol media None said false = refl
-says_encoding eol media (Some name) said true = refl
-says_encoding eol media (Some name) said false = refl
+says_encoding : (eol : Ending) (media : List ℕ) (charset name said : Option (List ℕ)) (base64 : Bool) → header_encoding (part_fields eol media charset name said base64) ≡ coding base64
+says_encoding eol media charset None said true = refl
+says_encoding eol media charset None said false = refl
+says_encoding eol media charset (Some name) said true = refl
+says_encoding eol media charset (Some name) said false = refl
 
-fields_kind : (digest : Bool) (eol : Ending) (media : List ℕ) (name said : Option (List ℕ)) (base64 : Bool) → is_media media ≡ true → option_map_or is_name name true ≡ true → kind (part_fields eol media name said base64) digest ≡ Leaf
+fields_kind : (digest : Bool) (eol : Ending) (media : List ℕ) (charset name said : Option (List ℕ)) (base64 : Bool)
+    → is_media media ≡ true → option_map_or is_token charset true ≡ true → option_map_or is_name name true ≡ true → kind (part_fields eol media charset name said base64) digest ≡ Leaf
 unfolding kind
-fields_kind digest eol media name said base64 h n =
-    ap (λ o. kind_of (type_by digest o) (header_encoding (part_fields eol media name said base64))) (type_value eol media name said base64)
-    ∙ part_kind digest (header_encoding (part_fields eol media name said base64)) media name h n
+fields_kind digest eol media charset name said base64 h t n =
+    ap (λ o. kind_of (type_by digest o) (header_encoding (part_fields eol media charset name said base64))) (type_value eol media charset name said base64)
+    ∙ part_kind digest (header_encoding (part_fields eol media charset name said base64)) media charset name h t n
 
-fields_run : (eol : Ending) (media : List ℕ) (name said : Option (List ℕ)) (base64 : Bool) → IsRun false (part_fields eol media name said base64)
-fields_run eol media None said base64 = (refl, (refl, tt))
-fields_run eol media (Some name) said base64 = (refl, (refl, (refl, tt)))
+fields_run : (eol : Ending) (media : List ℕ) (charset name said : Option (List ℕ)) (base64 : Bool) → IsRun false (part_fields eol media charset name said base64)
+fields_run eol media charset None said base64 = (refl, (refl, tt))
+fields_run eol media charset (Some name) said base64 = (refl, (refl, (refl, tt)))
 
 -- it is read back
-pub part_read : (n : ℕ) (digest : Bool) (eol : Ending) (a : Attached) → is_media a.media ≡ true → option_map_or is_name a.name true ≡ true → IsWellRead (suc n) digest (part_entity eol a)
-part_read n digest eol a h k = (record { run = fields_run eol a.media a.name a.said a.base64; next = refl }, fields_kind digest eol a.media a.name a.said a.base64 h k)
+pub part_read : (n : ℕ) (digest : Bool) (eol : Ending) (charset : Option (List ℕ)) (a : Attached) → option_map_or is_token charset true ≡ true → is_media a.media ≡ true → option_map_or is_name a.name true ≡ true → IsWellRead (suc n) digest (part_entity eol charset a)
+part_read n digest eol charset a t h k =
+    let here = charset_for charset a.media in
+    (record { run = fields_run eol a.media here a.name a.said a.base64; next = refl }, fields_kind digest eol a.media here a.name a.said a.base64 h (charset_given charset a.media t) k)
 
 no_returns : (eol : Ending) (a : Attached) → AreBytes a.text → eol ≡ Lf → list_all is_other (encoded eol a) ≡ true
 no_returns eol a small e =
@@ -271,6 +301,7 @@ content_by eol true text c small = base64_back eol text (not_missing eol c) smal
 content_by eol false text c small = sym (qp_back eol text (not_missing eol c) small)
 
 -- the content of the part, where lines stand after it, is what was attached
-pub part_content : (start : ℕ) (digest : Bool) (eol : Ending) (a : Attached) → is_open eol ≡ false → AreBytes a.text → IsContentOf (record { start = start; followed = true; digest = digest; entity = part_entity eol a }) a.text
-part_content start digest eol a c small =
-    rw (says_encoding eol a.media a.name a.said a.base64, body_content (encoded eol a) eol c (no_returns eol a small)) (content_by eol a.base64 a.text c small)
+pub part_content : (start : ℕ) (digest : Bool) (eol : Ending) (charset : Option (List ℕ)) (a : Attached) → is_open eol ≡ false → AreBytes a.text
+    → IsContentOf (record { start = start; followed = true; digest = digest; entity = part_entity eol charset a }) a.text
+part_content start digest eol charset a c small =
+    rw (says_encoding eol a.media (charset_for charset a.media) a.name a.said a.base64, body_content (encoded eol a) eol c (no_returns eol a small)) (content_by eol a.base64 a.text c small)

@@ -4,6 +4,7 @@ use Rattle.std.specs.List.{list_any}
 use Rattle.std.proofs.lemmas.Bool.{cases_Bool, or_parts}
 use Rattle.std.proofs.lemmas.List.Elements.{filter-append}
 use Rattle.std.proofs.lemmas.List.{map-append}
+use Rattle.std.specs.Option.{option_map_or}
 use Rattle.mk_line.specs.declared.cutting.Ending.{Ending}
 use Rattle.mk_line.specs.Lines.{cut}
 use Rattle.mk_head.specs.Fields.{FieldText, fields_of}
@@ -14,7 +15,7 @@ use Rattle.mk_tree.specs.Sections.{Placed, head_text, section_at, section_fields
 use Rattle.mk_tree.specs.Tree.{field_lines}
 use Rattle.mk_decide.proofs.FieldPlaces.{run_all}
 use Rattle.mk_decide.proofs.SectionSites.{head_cut, head_is_run, site}
-use Rattle.mk_mail.specs.Letters.{PlainPattern, Work, dropped, fields_at, fields_in, is_dropped, names_at, others, prepending, respelling, respelt, same_name, then_do, those, with_first}
+use Rattle.mk_mail.specs.Letters.{PlainPattern, Work, dropped, fields_at, is_dropped, names_at, others, prepending, respelling, respelt, same_name, then_do, those, with_first}
 use Rattle.mk_mail.specs.Prepended.{PlainPrepend}
 use Rattle.mk_decide.specs.Edits.{PlainEdit, RemoveField}
 use Rattle.mk_mailbox.proofs.Intaking.{true_or_false}
@@ -28,7 +29,7 @@ fields_read path text p e =
 
 -- the same of those at a path
 pub fields_found : (path text head : List ℕ) (p : Placed) → Some p ≡ section_at path (tree text) → head ≡ head_text p → fields_of (fields_from false (cut head)) ≡ fields_at path text
-fields_found path text head p e h = ap (λ b. fields_of (fields_from false (cut b))) h ∙ (fields_read path text p (sym e) ∙ ap fields_in e)
+fields_found path text head p e h = ap (λ b. fields_of (fields_from false (cut b))) h ∙ (fields_read path text p (sym e) ∙ ap (λ o. option_map_or section_fields o []) e)
 
 pub names_found : (path text head : List ℕ) (p : Placed) → Some p ≡ section_at path (tree text) → head ≡ head_text p → map (λ f. f.name) (fields_of (fields_from false (cut head))) ≡ names_at path text
 names_found path text head p e h = ap (λ fs. map (λ f. f.name) fs) (fields_found path text head p e h)

@@ -2,9 +2,12 @@
 use Rattle.mk_mailbox.specs.declared.from_lines.FromLines.{FromLines}
 use Rattle.mk_mailbox.specs.declared.from_lines.FromLines.TheVariants.{Any, Dated, Fielded}
 use Rattle.mk_mailbox.specs.Pieces.{is_followed, is_left_alone, is_mail_start, needs_field}
-use Rattle.std.proofs.Common.{◌≡◌, ◌&&◌, ◌||◌, ◌++◌, ℕ, Bool, true, false, not, if◌then◌else◌, Option, None, Some, Result, Ok, Err, List, [], ◌∷◌, drop, filter, refl, ap, sym, ◌∙◌, subst, inl, inr, map, append_assoc}
+use Rattle.std.proofs.Common.{◌+◌, ◌≡◌, ◌&&◌, ◌||◌, ◌++◌, ℕ, Bool, true, false, not, if◌then◌else◌, Option, None, Some, Result, Ok, Err, List, [], ◌∷◌, drop, filter, refl, ap, sym, ◌∙◌, subst, inl, inr, map, append_assoc}
 use Rattle.std.specs.List.{list_any}
 use Rattle.std.proofs.lemmas.Bool.{cases_Bool}
+use Rattle.std.specs.Option.{option_map_or}
+use Rattle.std.specs.Prelude.{nat_lt}
+use Rattle.std.specs.Result.{result_map_both, result_unwrap_or}
 use Rattle.mk_line.specs.declared.cutting.Ending.{Ending}
 use Rattle.mk_line.specs.Kinds.{is_continuation, is_field_start, is_from_line, is_name}
 use Rattle.mk_line.specs.Lines.{TextLine, cut, eol_of, is_nil}
@@ -31,8 +34,8 @@ use Rattle.mk_decide.proofs.Answered.{Holds, field_holds, unless_holds}
 use Rattle.mk_edit.proofs.GroupFacts.{groups_read_back_lem}
 use Rattle.mk_decide.proofs.Late.{IsFair, fair, told}
 use Rattle.mk_decide.proofs.SectionSites.{head_cut, head_is_run, site}
-use Rattle.mk_mail.specs.Filtered.{FilteredStayApart, IsFielded, LettersChangeFieldsAlone, filtered, filtered_in, outcome, text_left}
-use Rattle.mk_mail.specs.Letters.{PlainLetters, PlainPattern, Work, add_if_letter, added, added_full, dropped, edits_of, first_letter, is_bare, is_dropped, last_of, letter, made_old, name_in, next_number, old_name, only_letter, fields_at, letter_edits, next_prepended, prepend_letter, prepending, prefixed_letter, removed_all, rename_letter, renamed_all, respelling, respelt_all, names_at, root_path, same_name, those, untouched, worked}
+use Rattle.mk_mail.specs.Filtered.{FilteredStayApart, IsFielded, LettersChangeFieldsAlone, filtered, filtered_in, outcome_at}
+use Rattle.mk_mail.specs.Letters.{PlainLetters, PlainPattern, Work, add_if_letter, added, added_full, dropped, first_letter, is_bare, is_dropped, letter, made_old, name_in, next_number, old_name, only_letter, fields_at, edits_at, letter_edits, most_prepended, prepending, prefixed_letter, removed_all, rename_letter, replaced, respelling, respelt, names_at, root_path, same_name, those, untouched, worked}
 use Rattle.mk_mail.specs.Prepended.{PlainPrepend}
 use Rattle.mk_mailbox.specs.Dates.{ends_with_date}
 use Rattle.mk_mail.proofs.FieldNames.{both_true}
@@ -87,7 +90,8 @@ dropped_root ps names = mapped (λ own. RemoveField root_path own 1) (filter (is
 
 rename_root : (p : List ℕ × List ℕ) (names : List (List ℕ)) → HasRootEdits (rename_letter root_path p names)
 rename_root p names =
-    either_root (same_name p.0 p.1) (respelt_all root_path p.0 p.1 names) (renamed_all root_path p.0 p.1 names) (respelling_root p.0 p.1 (Some 1) names)
+    either_root (same_name p.0 p.1) (record { names = respelt p.0 p.1 (Some 1) names; edits = respelling root_path p.0 p.1 (Some 1) names })
+    (record { names = replaced p.0 (λ own. p.1) names; edits = map (λ own. RenameField root_path p.0 1 p.1) (those p.0 names) }) (respelling_root p.0 p.1 (Some 1) names)
     (mapped (λ own. RenameField root_path p.0 1 p.1) (those p.0 names) (λ own. refl))
 
 full_root : (eol : Ending) (field : List ℕ) (names : List (List ℕ)) → HasRootEdits (added_full root_path eol field names)
@@ -109,7 +113,7 @@ only_root eol field names =
 first_root : (name : List ℕ) (names : List (List ℕ)) → HasRootEdits (first_letter root_path name names)
 first_root name names = mapped (λ own. RemoveField root_path name 2) (drop 1 (those name names)) (λ own. refl)
 
-last_root : (o : Option (List ℕ)) (names : List (List ℕ)) → AreRootEdits (last_of root_path o names)
+last_root : (o : Option (List ℕ)) (names : List (List ℕ)) → AreRootEdits (option_map_or (λ name. map (λ own. RemoveField root_path name 1) (drop 1 (those name names))) o [])
 last_root None names = tt
 last_root (Some name) names = mapped (λ own. RemoveField root_path name 1) (drop 1 (those name names)) (λ own. refl)
 
@@ -134,25 +138,25 @@ worked_root eol l names =
 named_root : (eol : Ending) (l : PlainLetters) (names : List (List ℕ)) → AreRootEdits (letter_edits root_path eol l names)
 named_root eol l names =
     let w = worked root_path eol l names in
-    joined w.edits (last_of root_path l.last w.names) (worked_root eol l names) (last_root l.last w.names)
+    joined w.edits (option_map_or (λ name. map (λ own. RemoveField root_path name 1) (drop 1 (those name w.names))) l.last []) (worked_root eol l names) (last_root l.last w.names)
 
 prepending_root : (eol : Ending) (p : PlainPrepend) (o : Option ℕ) (fs : List FieldText) → AreRootEdits (prepending root_path eol p o fs)
 prepending_root eol p o [] = tt
 prepending_root eol p None (f ∷ fs) = tt
 prepending_root eol p (Some k) (f ∷ fs) =
     elim (cases_Bool (is_named p.name f)) [
-      | inl t ↦ rw t (refl, prepending_root eol p (next_prepended k) fs)
+      | inl t ↦ rw t (refl, prepending_root eol p (if nat_lt k most_prepended then Some (k + 1) else None) fs)
       | inr n ↦ rw n (prepending_root eol p (Some k) fs)
     ]
 
-prepend_root : (eol : Ending) (o : Option PlainPrepend) (fs : List FieldText) → AreRootEdits (prepend_letter root_path eol o fs)
+prepend_root : (eol : Ending) (o : Option PlainPrepend) (fs : List FieldText) → AreRootEdits (option_map_or (λ p. prepending root_path eol p (Some 1) fs) o [])
 prepend_root eol None fs = tt
 prepend_root eol (Some p) fs = prepending_root eol p (Some 1) fs
 
-edits_root : (text : List ℕ) (l : PlainLetters) → AreRootEdits (edits_of text l)
+edits_root : (text : List ℕ) (l : PlainLetters) → AreRootEdits (edits_at root_path text l)
 edits_root text l =
     let eol = eol_of (cut text) in
-    joined (prepend_letter root_path eol l.prepend (fields_at root_path text)) (letter_edits root_path eol l (names_at root_path text))
+    joined (option_map_or (λ p. prepending root_path eol p (Some 1) (fields_at root_path text)) l.prepend []) (letter_edits root_path eol l (names_at root_path text))
     (prepend_root eol l.prepend (fields_at root_path text)) (named_root eol l (names_at root_path text))
 
 -- ---- what such edits give has other fields, and all else as it was
@@ -326,19 +330,26 @@ fielded_kept way text u n a stable w =
     (some_append front (field_lines t.root) some (run_some false (field_lines t.root) (root_run text))) (some_append front a.fields some (run_some false a.fields run))
     (λ h. ap (begins_from way) new_lines ∙ envelope_begins way (cut text) (a.fields ++ rest) n h) w
 
+-- what the edits at the root give of a message, and the text that is left
+abbrev pub outcome : PlainLetters → List ℕ → Together
+outcome l text = outcome_at root_path l text
+
+abbrev pub text_left : List ℕ → Together → List ℕ
+text_left text r = result_unwrap_or (result_map_both (λ p. printed p.0) (λ q. q) r) text
+
 kept_by : (way : FromLines) (l : PlainLetters) (text : List ℕ) (r : Together) → needs_field way ≡ false → outcome l text ≡ r → FieldedBy (tree text) r → IsWhole way false (cut text) → IsKept way (cut text) (cut (text_left text r))
-kept_by way l text (Ok q) n e a w = fielded_kept way text q.0 n a (groups_read_back_lem (edits_of text l) text q.0 q.1 e) w
+kept_by way l text (Ok q) n e a w = fielded_kept way text q.0 n a (groups_read_back_lem (edits_at root_path text l) text q.0 q.1 e) w
 kept_by way l text (Err q) n e a w = record { whole = w; ends = λ h. h; begins = λ h. h }
 
 fielded_by : (l : PlainLetters) (text : List ℕ) (r : Together) → outcome l text ≡ r → FieldedBy (tree text) r → IsFielded (tree text) (tree (text_left text r))
-fielded_by l text (Ok q) e a = record { fields = a.fields; same = groups_read_back_lem (edits_of text l) text q.0 q.1 e ∙ a.same }
+fielded_by l text (Ok q) e a = record { fields = a.fields; same = groups_read_back_lem (edits_at root_path text l) text q.0 q.1 e ∙ a.same }
 fielded_by l text (Err q) e a = as_it_was (tree text)
 
 pub fields_alone : LettersChangeFieldsAlone
-fields_alone l text = fielded_by l text (outcome l text) refl (together_fielded (edits_of text l) (tree text) (edits_root text l))
+fields_alone l text = fielded_by l text (outcome l text) refl (together_fielded (edits_at root_path text l) (tree text) (edits_root text l))
 
 pub filtered_kept : (way : FromLines) (l : PlainLetters) (text : List ℕ) → needs_field way ≡ false → IsWhole way false (cut text) → IsKept way (cut text) (cut (filtered l text))
-filtered_kept way l text n w = kept_by way l text (outcome l text) n refl (together_fielded (edits_of text l) (tree text) (edits_root text l)) w
+filtered_kept way l text n w = kept_by way l text (outcome l text) n refl (together_fielded (edits_at root_path text l) (tree text) (edits_root text l)) w
 
 kept : (way : FromLines) (l : PlainLetters) (text : List ℕ) (alone : Bool) → needs_field way ≡ false → AreMessage way (cut text) → IsKept way (cut text) (cut (if alone then text else filtered l text))
 kept way l text true n m = record { whole = m.1; ends = λ h. h; begins = λ h. h }

@@ -4,8 +4,8 @@ pub mod BuiltBodies
 pub mod FieldLines
 pub mod BuiltFields
 pub mod BuiltParts
-pub mod BuiltMessages
 pub mod BuiltForwards
+pub mod BuiltMessages
 pub mod SaidNames
 pub mod BuiltNames
 pub mod FieldNames

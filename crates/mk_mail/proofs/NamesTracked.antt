@@ -1,10 +1,9 @@
 -- The names of fields that letters go by are those of the document.
-use Rattle.std.proofs.Common.{◌≡◌, ◌≢◌, ◌++◌, ◌+◌, ◌&&◌, if◌then◌else◌, ℕ, zero, suc, Bool, true, false, not, Option, None, Some, Result, Ok, Err, List, [], ◌∷◌, bytes_eq, codes, drop, filter, length, map, nat_lt, take, ◌||◌, refl, ap, sym, ◌∙◌, subst, append-nil, append_assoc, arith, inl, inr}
+use Rattle.std.proofs.Common.{◌≡◌, ◌++◌, ◌+◌, ◌&&◌, if◌then◌else◌, ℕ, zero, suc, Bool, true, false, not, Option, None, Some, Result, Ok, Err, List, [], ◌∷◌, bytes_eq, drop, filter, length, map, nat_lt, take, ◌||◌, refl, ap, sym, ◌∙◌, subst, append_assoc, arith, inl, inr}
 use Rattle.std.specs.List.{list_all, list_any, prefix_len}
 use Rattle.std.specs.Option.{option_map}
 use Rattle.std.specs.Str.{str_to_ascii_lowercase}
 use Rattle.std.proofs.lemmas.Bool.{cases_Bool}
-use Rattle.std.proofs.lemmas.List.{map-append}
 use Rattle.std.proofs.lemmas.Slice.Eq.{bytes_eq-Decides}
 use Rattle.mk_line.specs.Ascii.{is_name_byte}
 use Rattle.mk_line.specs.declared.cutting.Ending.{Ending}
@@ -12,7 +11,7 @@ use Rattle.mk_line.specs.declared.cutting.Ending.TheVariants.{Crlf, Lf, Missing}
 use Rattle.mk_line.specs.Kinds.{is_name}
 use Rattle.mk_line.specs.Lines.{TextLine, cut, ending_bytes}
 use Rattle.mk_head.specs.Split.{is_more, is_start}
-use Rattle.mk_head.specs.Fields.{FieldText, continuations, field_text, fields_of, is_named, is_one_field, name_of, after_more}
+use Rattle.mk_head.specs.Fields.{continuations, field_text, fields_of, is_named, is_one_field, name_of, after_more}
 use Rattle.mk_head.proofs.FieldRuns.{more_start}
 use Rattle.mk_splice.specs.Splices.{Splice}
 use Rattle.mk_tree.specs.Tree.{Entity, leaf, message, multi, field_lines, with_fields}
@@ -31,7 +30,7 @@ use Rattle.mk_decide.proofs.Late.{fair}
 use Rattle.mk_decide.proofs.PlacesAgain.{section_there}
 use Rattle.mk_decide.proofs.Renaming.{renamed_start}
 use Rattle.mk_edit.specs.Groups.{Together, following, made_on, together}
-use Rattle.mk_mail.specs.Letters.{PlainLetters, PlainPattern, Work, add_if_letter, added, added_full, dropped, first_letter, is_bare, is_dropped, is_meant, letter, made_old, name_in, next_number, old_name, only_letter, others, prefixed_letter, removed_all, rename_letter, renamed_all, replaced, respelling, respelt, respelt_all, same_name, then_do, those, untouched, with_first, worked}
+use Rattle.mk_mail.specs.Letters.{PlainLetters, PlainPattern, Work, add_if_letter, added, added_full, dropped, first_letter, is_bare, is_dropped, is_meant, letter, made_old, name_in, next_number, old_name, only_letter, others, prefixed_letter, removed_all, rename_letter, replaced, respelling, respelt, same_name, then_do, those, with_first, worked}
 use Rattle.mk_view.specs.Listed.{greatest_number}
 use Rattle.mk_mail.specs.Tracked.{NamesAreTracked, own_names}
 use Rattle.mk_mail.proofs.FieldLines.{first_content, name_first, name_one}
@@ -533,7 +532,7 @@ tracks_old path name names = leads_to path (made_old path name names).edits name
 tracks_renamed : (path : List ℕ) (p : List ℕ × List ℕ) (names : List (List ℕ)) → Tracks path names (rename_letter path p names)
 tracks_renamed path p names = elim (cases_Bool (same_name p.0 p.1)) [
   | inl same ↦ rw same (leads_respelt path p.0 p.1 zero (Some 1) [] names same refl refl)
-  | inr other ↦ rw other (leads_to path (renamed_all path p.0 p.1 names).edits names _ _ (all_renamed p.0 (λ own. p.1) names (λ own h. other)) (leads_renamed path p.0 (λ own. p.1) (those p.0 names) names))
+  | inr other ↦ rw other (leads_to path (map (λ own. RenameField path p.0 1 p.1) (those p.0 names)) names _ _ (all_renamed p.0 (λ own. p.1) names (λ own h. other)) (leads_renamed path p.0 (λ own. p.1) (those p.0 names) names))
 ]
 
 -- an ending is no part of a name

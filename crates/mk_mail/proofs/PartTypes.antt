@@ -12,8 +12,13 @@ use Rattle.mk_line.specs.Parting.{before, following}
 use Rattle.mk_head.specs.Types.{type_by}
 use Rattle.mk_head.specs.Values.{Plain, Quoted, uncommented, push_first, pieces, unled, stripped, lowered, parameters, is_token_byte, is_token, MediaType, media_type, typed_as, type_of_pieces, content_type_of}
 use Rattle.mk_tree.specs.Kinds.{Leaf, kind_of}
-use Rattle.mk_build.specs.Building.{longest, is_single, is_media, is_name_byte, name_param, is_name}
+use Rattle.mk_build.specs.Building.{longest, is_single, is_media, is_name_byte, is_name}
+use Rattle.mk_build.specs.Multiparts.{charset_param}
 use Rattle.std.specs.Option.{option_map_or}
+
+-- the name in a type, where there is one
+abbrev pub name_param : Option (List ℕ) → List ℕ
+name_param name = option_map_or (λ n. codes "; name=\"" ++ (n ++ codes "\"")) name []
 
 pub both : (a b : Bool) → (a && b) ≡ true → (a ≡ true) × (b ≡ true)
 both true b h = (refl, h)
@@ -81,12 +86,24 @@ quoted_name name = codes "; name=\"" ++ (name ++ codes "\"")
 name_kept : (name : List ℕ) → InQuotes name → uncommented Plain (codes "; name=\"" ++ (name ++ codes "\"")) ≡ codes "; name=\"" ++ (name ++ codes "\"")
 name_kept name h = ap (λ xs. codes "; name=\"" ++ xs) (quoted_uncommented name h)
 
-after_type : (name : Option (List ℕ)) → option_map_or is_name name true ≡ true → IsBehind (name_param name)
-after_type None h = record { kept = refl; others = []; apart = refl }
-after_type (Some name) h =
+name_behind : (name : Option (List ℕ)) → option_map_or is_name name true ≡ true → IsBehind (name_param name)
+name_behind None h = record { kept = refl; others = []; apart = refl }
+name_behind (Some name) h =
     let p = both (not (is_nil name)) (nat_le (length name) longest && list_all is_name_byte name) h in
     let q = both (nat_le (length name) longest) (list_all is_name_byte name) p.1 in
     record { kept = name_kept name (name_quotes name q.1); others = pieces Plain (codes " name=\"" ++ (name ++ codes "\"")); apart = refl }
+
+-- so may a charset, a token, before a name
+after_type : (charset name : Option (List ℕ)) → option_map_or is_token charset true ≡ true → option_map_or is_name name true ≡ true → IsBehind (charset_param charset ++ name_param name)
+after_type None name t n = name_behind name n
+after_type (Some charset) name t n =
+    let p = both (not (is_nil charset)) (list_all is_token_byte charset) t in
+    let b = name_behind name n in
+    record {
+      kept = ap (λ xs. codes "; charset=" ++ xs) (plain_uncommented charset (name_param name) (token_simple charset p.1) ∙ ap (λ xs. charset ++ xs) b.kept);
+      others = pieces Plain (codes " charset=" ++ (charset ++ name_param name));
+      apart = refl;
+    }
 
 -- a media type is its type, a slash, and its subtype
 pub parted : (media sub : List ℕ) → following 47 media ≡ Some sub → media ≡ before 47 media ++ 47 ∷ sub
@@ -172,19 +189,23 @@ made_main m sub tail h k b =
     not_true false e = refl
 
 -- the type that a part's value says
-pub part_main : (media : List ℕ) (name : Option (List ℕ)) → is_media media ≡ true → option_map_or is_name name true ≡ true → (content_type_of (32 ∷ (media ++ name_param name))).main ≡ lowered (before 47 media)
-part_main media name h n =
+pub part_main : (media : List ℕ) (charset name : Option (List ℕ)) → is_media media ≡ true → option_map_or is_token charset true ≡ true → option_map_or is_name name true ≡ true
+    → (content_type_of (32 ∷ (media ++ (charset_param charset ++ name_param name)))).main ≡ lowered (before 47 media)
+part_main media charset name h t n =
     let p = both (nat_le (length media) longest) (is_token (before 47 media) && (option_map_or is_token (following 47 media) false && is_single (before 47 media))) h in
     let q = both (is_token (before 47 media)) (option_map_or is_token (following 47 media) false && is_single (before 47 media)) p.1 in
     let r = both (option_map_or is_token (following 47 media) false) (is_single (before 47 media)) q.1 in
     by_subtype (following 47 media) refl q.0 r.0
   where
-    by_subtype : (o : Option (List ℕ)) → following 47 media ≡ o → is_token (before 47 media) ≡ true → option_map_or is_token o false ≡ true → (content_type_of (32 ∷ (media ++ name_param name))).main ≡ lowered (before 47 media)
-    by_subtype None e t s = absurd cc
-    by_subtype (Some sub) e t s =
+    tail : List ℕ
+    tail = charset_param charset ++ name_param name
+
+    by_subtype : (o : Option (List ℕ)) → following 47 media ≡ o → is_token (before 47 media) ≡ true → option_map_or is_token o false ≡ true → (content_type_of (32 ∷ (media ++ tail))).main ≡ lowered (before 47 media)
+    by_subtype None e m s = absurd cc
+    by_subtype (Some sub) e m s =
         let same = parted media sub e in
-        ap (λ v. (content_type_of (32 ∷ v)).main) (ap (λ v. v ++ name_param name) same ∙ append_assoc (before 47 media) (47 ∷ sub) (name_param name))
-        ∙ made_main (before 47 media) sub (name_param name) t s (after_type name n)
+        ap (λ v. (content_type_of (32 ∷ v)).main) (ap (λ v. v ++ tail) same ∙ append_assoc (before 47 media) (47 ∷ sub) tail)
+        ∙ made_main (before 47 media) sub tail m s (after_type charset name t n)
 
 single_kind : (t : MediaType) (e : Encoding) (m : List ℕ) → t.main ≡ lowered m → is_single m ≡ true → kind_of t e ≡ Leaf
 single_kind t e m h s =
@@ -198,9 +219,10 @@ single_kind t e m h s =
     off false e = refl
 
 -- a part is a leaf
-pub part_kind : (digest : Bool) (e : Encoding) (media : List ℕ) (name : Option (List ℕ)) → is_media media ≡ true → option_map_or is_name name true ≡ true → kind_of (type_by digest (Some (32 ∷ (media ++ name_param name)))) e ≡ Leaf
-part_kind digest e media name h n =
+pub part_kind : (digest : Bool) (e : Encoding) (media : List ℕ) (charset name : Option (List ℕ)) → is_media media ≡ true → option_map_or is_token charset true ≡ true → option_map_or is_name name true ≡ true
+    → kind_of (type_by digest (Some (32 ∷ (media ++ (charset_param charset ++ name_param name))))) e ≡ Leaf
+part_kind digest e media charset name h t n =
     let p = both (nat_le (length media) longest) (is_token (before 47 media) && (option_map_or is_token (following 47 media) false && is_single (before 47 media))) h in
     let q = both (is_token (before 47 media)) (option_map_or is_token (following 47 media) false && is_single (before 47 media)) p.1 in
     let r = both (option_map_or is_token (following 47 media) false) (is_single (before 47 media)) q.1 in
-    single_kind (content_type_of (32 ∷ (media ++ name_param name))) e (before 47 media) (part_main media name h n) r.1
+    single_kind (content_type_of (32 ∷ (media ++ (charset_param charset ++ name_param name)))) e (before 47 media) (part_main media charset name h t n) r.1

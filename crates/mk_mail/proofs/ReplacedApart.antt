@@ -1,14 +1,20 @@
 -- Messages that are replaced by texts that fit their places, or left out, stay apart.
-use Rattle.std.proofs.Common.{◌≡◌, if◌then◌else◌, ℕ, Bool, true, false, Option, None, Some, List, [], ◌∷◌, refl, sym, subst, inl, inr, map}
+use Rattle.std.proofs.Common.{◌≡◌, ℕ, Bool, true, false, Option, None, Some, List, [], ◌∷◌, refl, sym, subst, inl, inr, map}
 use Rattle.std.proofs.lemmas.Bool.{cases_Bool}
+use Rattle.std.specs.List.{AllZip}
+use Rattle.std.specs.Prelude.{IfSome}
 use Rattle.mk_line.specs.Lines.{TextLine, cut}
 use Rattle.mk_mailbox.specs.declared.from_lines.FromLines.{FromLines}
 use Rattle.mk_mailbox.specs.Pieces.{mailbox_pieces}
-use Rattle.mk_mailbox.specs.Places.{begins_from, ends_empty}
+use Rattle.mk_mailbox.specs.Places.{begins_from, ends_empty, takes_place}
 use Rattle.mk_mail.specs.Filtered.{is_left}
-use Rattle.mk_mail.specs.Replaced.{AreReplaced, ReplacedStayApart, texts_left}
+use Rattle.mk_mail.specs.Replaced.{ReplacedStayApart, texts_left}
 use Rattle.mk_mail.proofs.MailChains.{AreBefore, IsMail, begins_left, mail_of, mail_parted, some_lines}
 use Rattle.mk_mail.proofs.SectionsApart.{placed}
+
+-- each message is left out, or a text that fits there takes its place
+abbrev pub AreReplaced : FromLines → List (List ℕ) → List (Option (List ℕ)) → Type 0
+AreReplaced way ms os = AllZip (λ message o. IfSome o (λ text. takes_place way message text ≡ true)) ms os
 
 -- what may stand after some message may stand after an empty line
 after_empty : (way : FromLines) (e : Bool) (ms : List (List TextLine)) → AreBefore way e ms → AreBefore way true ms

@@ -4,12 +4,12 @@ use Rattle.mk_mailbox.specs.declared.from_lines.FromLines.{FromLines}
 use Rattle.mk_mailbox.specs.Pieces.{is_left_alone, needs_field}
 use Rattle.mk_line.specs.Lines.{TextLine, cut, eol_of, is_lf}
 use Rattle.mk_edit.specs.Groups.{Together}
-use Rattle.mk_mail.specs.Filtered.{outcome, text_left}
+use Rattle.mk_mail.specs.Filtered.{outcome_at}
 use Rattle.mk_mail.specs.Letters.{PlainLetters, root_path}
-use Rattle.mk_mail.specs.Rounds.{Made, OneRoundFilters, PlainRound, RoundsArePiped, RoundsStayApart, letters_for, made_text, round_made_at, rounds_left, rounds_left_in, rounds_made, rounds_made_at}
+use Rattle.mk_mail.specs.Rounds.{Made, OneRoundFilters, PlainRound, RoundsArePiped, RoundsStayApart, letters_for, made_text, rounds_left, rounds_left_in, rounds_made, rounds_made_at}
 use Rattle.mk_line.specs.Results.{made_of}
 use Rattle.std.specs.Result.{result_unwrap_or}
-use Rattle.mk_mail.proofs.FilteredMail.{filtered_kept}
+use Rattle.mk_mail.proofs.FilteredMail.{filtered_kept, outcome, text_left}
 use Rattle.mk_mail.proofs.MailChains.{AreMessage, IsKept, IsWhole, kept_apart}
 
 one_text : (text : List ℕ) (r : Together) → result_unwrap_or (made_of (rounds_made_at root_path []) (made_text r)) text ≡ text_left text r
@@ -32,7 +32,7 @@ piped_on rs more (Err reason) h = refl
 
 pub piped : RoundsArePiped
 piped [] more text = refl
-piped (r ∷ rs) more text = piped_on rs more (round_made_at root_path r text) (λ next. piped rs more next)
+piped (r ∷ rs) more text = piped_on rs more (made_text (outcome_at root_path (letters_for r text) text)) (λ next. piped rs more next)
 
 -- ---- what stays of a message
 
@@ -62,7 +62,7 @@ made_kept way text f (Err reason) k h = tt
 pub rounds_kept : (way : FromLines) (rs : List PlainRound) (text : List ℕ) → needs_field way ≡ false → IsWhole way false (cut text) → IsMadeKept way text (rounds_made rs text)
 rounds_kept way [] text n w = unchanged way (cut text) w
 rounds_kept way (r ∷ rs) text n w =
-    made_kept way text (rounds_made rs) (round_made_at root_path r text) (text_kept way text (outcome (letters_for r text) text) (filtered_kept way (letters_for r text) text n w)) (λ made v. rounds_kept way rs made n v)
+    made_kept way text (rounds_made rs) (made_text (outcome_at root_path (letters_for r text) text)) (text_kept way text (outcome (letters_for r text) text) (filtered_kept way (letters_for r text) text n w)) (λ made v. rounds_kept way rs made n v)
 
 pub left_kept : (way : FromLines) (text : List ℕ) (m : Made) → IsWhole way false (cut text) → IsMadeKept way text m → IsKept way (cut text) (cut (result_unwrap_or m text))
 left_kept way text (Ok made) w k = k

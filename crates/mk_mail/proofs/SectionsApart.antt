@@ -6,9 +6,11 @@ use Rattle.mk_mailbox.specs.Pieces.{is_first, is_left_alone, needs_field}
 use Rattle.mk_mailbox.specs.Places.{begins_from, ends_empty, is_uncut, takes_place}
 use Rattle.mk_mailbox.proofs.PlaceLemmas.{are_whole, uncut}
 use Rattle.mk_line.specs.Lines.{TextLine, cut, is_nil}
-use Rattle.mk_mail.specs.Apart.{SectionsStayApart, always_fits, mail_left, mail_made, placed_made, section_made}
+use Rattle.mk_mail.specs.Apart.{SectionsStayApart, always_fits, mail_left, mail_made, section_made}
 use Rattle.mk_mail.specs.Letters.{is_root, root_path}
 use Rattle.mk_mail.specs.Rounds.{Made, PlainRound}
+use Rattle.mk_decide.specs.Edits.{Recut}
+use Rattle.mk_line.specs.Results.{made_of}
 use Rattle.std.specs.Result.{result_unwrap_or}
 use Rattle.mk_mail.proofs.FieldNames.{both_true}
 use Rattle.mk_mail.proofs.MailChains.{AreMessage, IsKept, IsWhole, kept_apart}
@@ -38,6 +40,10 @@ placed way old new h =
       ends = by_other (ends_empty false (cut old)) (ends_empty false (cut new)) both.1;
       begins = by_other (begins_from way (cut old)) (begins_from way (cut new)) both.0;
     }
+
+-- what was made, where it takes the place of a message
+abbrev pub placed_made : FromLines → List ℕ → Made → Made
+placed_made way text m = made_of (λ made. if takes_place way text made then Ok made else Err Recut) m
 
 placed_kept : (way : FromLines) (text : List ℕ) (m : Made) → IsMadeKept way text (placed_made way text m)
 placed_kept way text (Ok made) =

@@ -1,6 +1,7 @@
 -- Rounds of letters at any section of a message, alone and in a mailbox (own).
 use Rattle.std.specs.Prelude.{◌≡◌, ◌&&◌, if◌then◌else◌, ℕ, Bool, not, Ok, Err, List, filter, is_some, map}
 use Rattle.std.specs.List.{flat_map}
+use Rattle.mk_line.specs.Results.{made_of}
 use Rattle.mk_tree.specs.Documents.{tree}
 use Rattle.mk_tree.specs.Sections.{section_at}
 use Rattle.mk_decide.specs.Edits.{NoSuchSection, Recut}
@@ -20,22 +21,16 @@ has_section path text = is_some (section_at path (tree text))
 abbrev pub section_made : List ℕ → List PlainRound → List ℕ → Made
 section_made path rs text = if has_section path text then rounds_made_at path rs text else Err NoSuchSection
 
--- a text that was made takes the place of a message in a mailbox, or it is refused
-abbrev pub placed_made : FromLines → List ℕ → Made → Made
-placed_made way text (Ok made) = if takes_place way text made then Ok made else Err Recut
-placed_made way text (Err reason) = Err reason
-
 -- at the root each text that is made does, unless a field must follow a From-line: edits may leave none
 abbrev pub always_fits : FromLines → List ℕ → Bool
 always_fits way path = is_root path && not (needs_field way)
 
--- where not each text does, it is looked at
-abbrev pub apart_made : FromLines → List ℕ → List ℕ → Made → Made
-apart_made way path text m = if always_fits way path then m else placed_made way text m
-
--- what rounds make of a section of a message of a mailbox that is cut at these From-lines
+-- what rounds make of a section of a message of a mailbox that is cut at these From-lines: where not each text fits, one that takes
+-- the place of the message in the mailbox, or it is refused
 abbrev pub mail_made : FromLines → List ℕ → List PlainRound → List ℕ → Made
-mail_made way path rs text = apart_made way path text (section_made path rs text)
+mail_made way path rs text =
+    if always_fits way path then section_made path rs text
+    else made_of (λ made. if takes_place way text made then Ok made else Err Recut) (section_made path rs text)
 
 -- what they leave of it
 abbrev pub mail_left : FromLines → List ℕ → List PlainRound → List ℕ → List ℕ

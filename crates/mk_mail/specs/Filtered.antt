@@ -1,6 +1,7 @@
 -- What letters make of the messages of a mailbox (own).
-use Rattle.std.specs.Prelude.{◌≡◌, if◌then◌else◌, ℕ, Bool, false, not, Ok, Err, List, filter, map}
+use Rattle.std.specs.Prelude.{◌≡◌, if◌then◌else◌, ℕ, Bool, false, not, List, filter, map}
 use Rattle.std.specs.List.{flat_map}
+use Rattle.std.specs.Result.{result_map_both, result_unwrap_or}
 use Rattle.mk_line.specs.Lines.{TextLine, is_nil}
 use Rattle.mk_tree.specs.Documents.{Document, printed, tree}
 use Rattle.mk_tree.specs.Tree.{with_fields}
@@ -13,18 +14,9 @@ use Rattle.mk_mailbox.specs.Pieces.{is_left_alone, mailbox_pieces, needs_field}
 abbrev pub outcome_at : List ℕ → PlainLetters → List ℕ → Together
 outcome_at path l text = together (edits_at path text l) (tree text)
 
--- the same at the root
-abbrev pub outcome : PlainLetters → List ℕ → Together
-outcome l text = outcome_at root_path l text
-
--- the text that edits give, or the text as it came where one of them is refused
-abbrev pub text_left : List ℕ → Together → List ℕ
-text_left text (Ok p) = printed p.0
-text_left text (Err q) = text
-
--- what is left of a message by letters
+-- what letters leave of a message: the text that their edits at the root give, or the text as it came where one of them is refused
 abbrev pub filtered : PlainLetters → List ℕ → List ℕ
-filtered l text = text_left text (outcome l text)
+filtered l text = result_unwrap_or (result_map_both (λ p. printed p.0) (λ q. q) (outcome_at root_path l text)) text
 
 -- what is left of a message of a mailbox that is cut at these From-lines
 abbrev pub filtered_in : FromLines → PlainLetters → List ℕ → List ℕ

@@ -1,16 +1,11 @@
 -- Letters in memory as plain data.
-use Rattle.std.specs.Prelude.{ℕ, Option, List, map}
-use Rattle.std.specs.Global.{Vec}
+use Rattle.std.specs.Prelude.{map}
 use Rattle.std.specs.Option.{option_map}
 use Rattle.mk_mail.specs.declared.letters.Letters.{Letters}
 use Rattle.mk_mail.specs.declared.patterns.NamePattern.{NamePattern}
 use Rattle.mk_mail.specs.declared.prepending.Prepend.{Prepend}
 use Rattle.mk_mail.specs.Letters.{PlainLetters, PlainPattern}
 use Rattle.mk_mail.specs.Prepended.{PlainPrepend}
-
--- the bytes of a text, where there is one
-abbrev pub bytes_in : Option (Vec ℕ) → Option (List ℕ)
-bytes_in o = option_map (λ v. v.items) o
 
 -- a pattern as it is
 abbrev pub pattern_of : NamePattern → PlainPattern
@@ -26,12 +21,12 @@ letters_of l = record {
   prepend = option_map prepend_of l.prepend;
   drops = map pattern_of l.drops.items;
   rename = option_map (λ p. (p.0.items, p.1.items)) l.rename;
-  add_if = bytes_in l.add_if;
-  add = bytes_in l.add;
-  prefixed = bytes_in l.prefixed;
-  only = bytes_in l.only;
-  first = bytes_in l.first;
-  last = bytes_in l.last;
-  take = bytes_in l.take;
-  whole = bytes_in l.whole;
+  add_if = option_map (λ v. v.items) l.add_if;
+  add = option_map (λ v. v.items) l.add;
+  prefixed = option_map (λ v. v.items) l.prefixed;
+  only = option_map (λ v. v.items) l.only;
+  first = option_map (λ v. v.items) l.first;
+  last = option_map (λ v. v.items) l.last;
+  take = option_map (λ v. v.items) l.take;
+  whole = option_map (λ v. v.items) l.whole;
 }

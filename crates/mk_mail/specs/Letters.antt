@@ -10,7 +10,7 @@ use Rattle.mk_line.specs.Lines.{cut, ending_bytes, eol_of}
 use Rattle.mk_head.specs.Fields.{FieldText, is_named, is_one_field}
 use Rattle.mk_line.specs.Parting.{following}
 use Rattle.mk_tree.specs.Documents.{tree}
-use Rattle.mk_tree.specs.Sections.{Placed, section_at, section_fields}
+use Rattle.mk_tree.specs.Sections.{section_at, section_fields}
 use Rattle.mk_decide.specs.Edits.{PlainEdit, AddField, RemoveField, RenameField, SetField}
 use Rattle.mk_line.specs.Kinds.{is_name}
 use Rattle.mk_line.specs.Lines.{ends_open}
@@ -58,30 +58,18 @@ is_bare text = list_all is_blank (unwrap_or (following colon text) [])
 abbrev pub is_full_field : List ℕ → Bool
 is_full_field text = is_given_field text && not (is_bare text)
 
--- both are names
-abbrev pub are_names : List ℕ × List ℕ → Bool
-are_names p = is_name p.0 && is_name p.1
-
--- the text of a pattern is a name
-abbrev pub is_pattern : PlainPattern → Bool
-is_pattern p = is_name p.text
-
--- whether a letter is there that works by the names of fields
-abbrev pub edits_by_names : PlainLetters → Bool
-edits_by_names l = not (length l.drops == 0) || is_some l.rename || is_some l.add_if || is_some l.add || is_some l.prefixed || is_some l.only || is_some l.first || is_some l.last
-
 -- whether a letter that edits is there
 abbrev pub edits_some : PlainLetters → Bool
-edits_some l = is_some l.prepend || edits_by_names l
+edits_some l = is_some l.prepend || (not (length l.drops == 0) || is_some l.rename || is_some l.add_if || is_some l.add || is_some l.prefixed || is_some l.only || is_some l.first || is_some l.last)
 
 -- `-x` and `-X` stand alone
 abbrev pub stand_together : PlainLetters → Bool
 stand_together l = not (is_some l.take && is_some l.whole) && not ((is_some l.take || is_some l.whole) && edits_some l)
 
--- the values that letters may have
+-- the values that letters may have; the text of a pattern is a name
 abbrev pub have_values : PlainLetters → Bool
 have_values l =
-    option_map_or is_prepend l.prepend true && list_all is_pattern l.drops && option_map_or are_names l.rename true && option_map_or is_full_field l.add_if true && option_map_or is_full_field l.add true && option_map_or is_given_field l.prefixed true && option_map_or is_given_field l.only true
+    option_map_or is_prepend l.prepend true && list_all (λ p. is_name p.text) l.drops && option_map_or (λ p. is_name p.0 && is_name p.1) l.rename true && option_map_or is_full_field l.add_if true && option_map_or is_full_field l.add true && option_map_or is_given_field l.prefixed true && option_map_or is_given_field l.only true
     && option_map_or is_name l.first true && option_map_or is_name l.last true && option_map_or is_name l.take true && option_map_or is_name l.whole true
 
 -- letters that may be asked for
@@ -131,10 +119,6 @@ is_root (k ∷ n ∷ ks) = false
 abbrev pub replaced : List ℕ → (List ℕ → List ℕ) → List (List ℕ) → List (List ℕ)
 replaced name f names = map (λ own. if same_name name own then f own else own) names
 
--- all fields of a name get another, which isn't the same
-abbrev pub renamed_all : List ℕ → List ℕ → List ℕ → List (List ℕ) → Work
-renamed_all path old new names = record { names = replaced old (λ own. new) names; edits = map (λ own. RenameField path old 1 new) (those old names) }
-
 -- the number after a number, as far as numbers go
 abbrev pub next_number : ℕ → Option ℕ
 next_number k = if nat_lt k greatest_number then Some (k + 1) else None
@@ -152,13 +136,11 @@ respelling path old new None (own ∷ names) = []
 respelling path old new (Some k) (own ∷ names) =
     if same_name old own then RenameField path old k new ∷ respelling path old new (next_number k) names else respelling path old new (Some k) names
 
--- the names and the edits for that
-abbrev pub respelt_all : List ℕ → List ℕ → List ℕ → List (List ℕ) → Work
-respelt_all path old new names = record { names = respelt old new (Some 1) names; edits = respelling path old new (Some 1) names }
-
--- `--rename`
+-- `--rename`: all fields of a name get another, or are spelt in another way where that is the same
 abbrev pub rename_letter : List ℕ → List ℕ × List ℕ → List (List ℕ) → Work
-rename_letter path p names = if same_name p.0 p.1 then respelt_all path p.0 p.1 names else renamed_all path p.0 p.1 names
+rename_letter path p names =
+    if same_name p.0 p.1 then record { names = respelt p.0 p.1 (Some 1) names; edits = respelling path p.0 p.1 (Some 1) names }
+    else record { names = replaced p.0 (λ own. p.1) names; edits = map (λ own. RenameField path p.0 1 p.1) (those p.0 names) }
 
 -- nothing is done
 abbrev pub untouched : List (List ℕ) → Work
@@ -216,19 +198,10 @@ with_first name (own ∷ names) = own ∷ (if same_name name own then others nam
 abbrev pub first_letter : List ℕ → List ℕ → List (List ℕ) → Work
 first_letter path name names = record { names = with_first name names; edits = map (λ own. RemoveField path name 2) (drop 1 (those name names)) }
 
--- `-U`, the last letter
-abbrev pub last_edits : List ℕ → List ℕ → List (List ℕ) → List PlainEdit
-last_edits path name names = map (λ own. RemoveField path name 1) (drop 1 (those name names))
-
 -- a letter's work, where it is asked for
 abbrev pub letter : {X : Type 0} → (X → List (List ℕ) → Work) → Option X → Work → Work
 letter f None w = w
 letter f (Some x) w = then_do w (f x)
-
--- the edits of the last letter, where it is asked for
-abbrev pub last_of : List ℕ → Option (List ℕ) → List (List ℕ) → List PlainEdit
-last_of path None names = []
-last_of path (Some name) names = last_edits path name names
 
 -- the work of all letters but the last, on fields of these names
 abbrev pub worked : List ℕ → Ending → PlainLetters → List (List ℕ) → Work
@@ -240,18 +213,15 @@ worked path eol l names =
     (letter (add_if_letter path eol) l.add_if
     (letter (rename_letter path) l.rename (dropped path l.drops names))))))
 
--- the edits of all letters, on fields of these names
+-- the edits of all letters, on fields of these names: `-U` is the last letter
 abbrev pub letter_edits : List ℕ → Ending → PlainLetters → List (List ℕ) → List PlainEdit
-letter_edits path eol l names = (worked path eol l names).edits ++ last_of path l.last (worked path eol l names).names
+letter_edits path eol l names =
+    let w = worked path eol l names in
+    w.edits ++ option_map_or (λ name. map (λ own. RemoveField path name 1) (drop 1 (those name w.names))) l.last []
 
--- the fields of a section, none where there is no section
-abbrev pub fields_in : Option Placed → List FieldText
-fields_in None = []
-fields_in (Some p) = section_fields p
-
--- the fields of the section at a path
+-- the fields of the section at a path, none where there is no section
 abbrev pub fields_at : List ℕ → List ℕ → List FieldText
-fields_at path text = fields_in (section_at path (tree text))
+fields_at path text = option_map_or section_fields (section_at path (tree text)) []
 
 -- their names
 abbrev pub names_at : List ℕ → List ℕ → List (List ℕ)
@@ -261,28 +231,16 @@ names_at path text = map (λ f. f.name) (fields_at path text)
 abbrev pub most_prepended : ℕ
 most_prepended = 100
 
--- the number after a number, as far as fields get a text
-abbrev pub next_prepended : ℕ → Option ℕ
-next_prepended k = if nat_lt k most_prepended then Some (k + 1) else None
-
 -- the edits that put a text before what the fields of a name say, the next of which has a number, or none has
 abbrev pub prepending : List ℕ → Ending → PlainPrepend → Option ℕ → List FieldText → List PlainEdit
 prepending path eol p number [] = []
 prepending path eol p None (f ∷ fs) = []
 prepending path eol p (Some k) (f ∷ fs) =
-    if is_named p.name f then SetField path p.name k (prepended eol p.text f.raw) ∷ prepending path eol p (next_prepended k) fs
+    if is_named p.name f then SetField path p.name k (prepended eol p.text f.raw) ∷ prepending path eol p (if nat_lt k most_prepended then Some (k + 1) else None) fs
     else prepending path eol p (Some k) fs
 
--- `--prepend`, where it is asked for: it works before the other letters, and leaves the names of all fields
-abbrev pub prepend_letter : List ℕ → Ending → Option PlainPrepend → List FieldText → List PlainEdit
-prepend_letter path eol None fields = []
-prepend_letter path eol (Some p) fields = prepending path eol p (Some 1) fields
-
--- the edits of letters on the section at a path of the document of a text, whose ending they give
+-- the edits of letters on the section at a path of the document of a text, whose ending they give: `--prepend` works before the other
+-- letters, and leaves the names of all fields
 abbrev pub edits_at : List ℕ → List ℕ → PlainLetters → List PlainEdit
 edits_at path text l =
-    prepend_letter path (eol_of (cut text)) l.prepend (fields_at path text) ++ letter_edits path (eol_of (cut text)) l (names_at path text)
-
--- the edits of letters on its root
-abbrev pub edits_of : List ℕ → PlainLetters → List PlainEdit
-edits_of text l = edits_at root_path text l
+    option_map_or (λ p. prepending path (eol_of (cut text)) p (Some 1) (fields_at path text)) l.prepend [] ++ letter_edits path (eol_of (cut text)) l (names_at path text)

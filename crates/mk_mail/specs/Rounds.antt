@@ -34,14 +34,10 @@ abbrev pub made_text : Together → Made
 made_text (Ok p) = Ok (printed p.0)
 made_text (Err q) = Err q.1
 
--- what a round at a path makes of a text
-abbrev pub round_made_at : List ℕ → PlainRound → List ℕ → Made
-round_made_at path r text = made_text (outcome_at path (letters_for r text) text)
-
--- what rounds at a path make of a text, each of what the one before it made, up to the first reason
+-- what rounds at a path make of a text, each by its letters for what the one before it made, up to the first reason
 abbrev pub rounds_made_at : List ℕ → List PlainRound → List ℕ → Made
 rounds_made_at path [] text = Ok text
-rounds_made_at path (r ∷ rs) text = made_of (rounds_made_at path rs) (round_made_at path r text)
+rounds_made_at path (r ∷ rs) text = made_of (rounds_made_at path rs) (made_text (outcome_at path (letters_for r text) text))
 
 -- the same at the root
 abbrev pub rounds_made : List PlainRound → List ℕ → Made

@@ -1,11 +1,12 @@
 //! The fields of a section by their names, and the edits that letters make of them.
 ghost use Rattle.std.specs.Prelude.{◌≡◌, ◌++◌, ◌∷◌, [], Some, false, drop, filter, map, not, IfOk, OnOk};
+ghost use Rattle.std.specs.Option.{option_map, option_map_or};
 ghost use Rattle.mk_line.specs.Lines.{ending_bytes};
 ghost use Rattle.mk_decide.specs.Edits.{AddField, RemoveField, RenameField};
 ghost use Rattle.mk_decide.specs.Views.{edit_of};
 ghost use Rattle.mk_mail.specs.LetterWork.{plain_edits, texts_of, work_of};
-ghost use Rattle.mk_mail.specs.Letters.{add_if_letter, added as added_field, added_full, dropped, first_letter, is_dropped as is_dropped_name, last_of, old_name, only_letter, others, prefixed_letter, rename_letter, replaced, respelling, respelt, names_at, then_do, those, untouched, with_first};
-ghost use Rattle.mk_mail.specs.LetterViews.{bytes_in, pattern_of};
+ghost use Rattle.mk_mail.specs.Letters.{add_if_letter, added as added_field, added_full, dropped, first_letter, is_dropped as is_dropped_name, old_name, only_letter, others, prefixed_letter, rename_letter, replaced, respelling, respelt, names_at, then_do, those, untouched, with_first};
+ghost use Rattle.mk_mail.specs.LetterViews.{pattern_of};
 
 use crate::field_names::{is_bare, name_of};
 use crate::patterns::{NamePattern, is_dropped, is_same};
@@ -146,7 +147,7 @@ impl<'a> Filter<'a> {
         path: &[u32],
         last: &Option<Vec<u8>>,
     ) -> Result<Vec<Edit>, AllocError>
-        ensures { IfOk result (λ edits. plain_edits edits.items ≡ (work_of self.entry).edits ++ last_of path.now (bytes_in last.now) (work_of self.entry).names) }
+        ensures { IfOk result (λ edits. plain_edits edits.items ≡ (work_of self.entry).edits ++ option_map_or (λ name. map (λ own. RemoveField path.now name 1) (drop 1 (those name (work_of self.entry).names))) (option_map (λ v. v.items) last.now) []) }
     {
         match last {
             Some(name) => {

@@ -19,18 +19,20 @@ pub fn built_messages_give_back()
     ensures { BuiltMessagesGiveBack }
 {}
 
-/// The same holds for a message that is built as a multipart of any subtype, a digest too, whose texts name no charset.
+/// The same holds for a message that is built as a multipart: of any subtype, a digest too, and whatever charset its texts name,
+/// or none.
 pub fn built_multiparts_give_back()
     ensures { BuiltMultipartsGiveBack }
 {}
 
-/// The same holds for a message that is built with forwarded messages: each of these is a section of its own after the parts,
-/// and its content is the message without a From-line at its start, byte for byte.
+/// The same holds for a message that is built as any multipart with forwarded messages: each of these is a section of its own
+/// after the parts, and its content is the message without a From-line at its start, byte for byte.
 pub fn forwarded_messages_give_back()
     ensures { ForwardedMessagesGiveBack }
 {}
 
-/// The part of a file whose name is written as people write it has just that name, in each message that is built in UTF-8.
+/// The part of a file whose name is written as people write it has just that name, in each message that is built in UTF-8, as any
+/// multipart and with any forwarded messages.
 pub fn built_names_are_said()
     ensures { BuiltNamesAreSaid }
 {}

@@ -1,12 +1,12 @@
 //! Letters: a filter of the fields of a message (own, after formail).
-ghost use Rattle.std.specs.Prelude.{◌≡◌, true, map, IfOk, OnOk};
+ghost use Rattle.std.specs.Prelude.{◌≡◌, ◌==◌, ◌&&◌, ◌||◌, ℕ, List, true, is_some, length, map, not, IfOk, OnOk};
 ghost use Rattle.std.specs.Option.{option_map, option_map_or};
 ghost use Rattle.mk_line.specs.Kinds.{is_name as is_one_name};
 ghost use Rattle.mk_decide.specs.Views.{edit_of};
-ghost use Rattle.mk_mail.specs.LetterViews.{bytes_in, letters_of, prepend_of};
+ghost use Rattle.mk_mail.specs.LetterViews.{letters_of, prepend_of};
 ghost use Rattle.mk_mail.specs.LetterWork.{work_of};
 ghost use Rattle.mk_mail.specs.Prepended.{is_prepend};
-ghost use Rattle.mk_mail.specs.Letters.{add_if_letter, added, are_allowed, are_names, edits_at, edits_of, edits_by_names as by_names, edits_some as some_edits, first_letter, have_values as values_are_had, is_full_field as full_field, is_given_field as given_field, letter, letter_edits as edits_of_letters, names_at, only_letter, prefixed_letter, rename_letter, stand_together as stand_so};
+ghost use Rattle.mk_mail.specs.Letters.{add_if_letter, added, are_allowed, edits_at, edits_some as some_edits, first_letter, have_values as values_are_had, is_full_field as full_field, is_given_field as given_field, letter, letter_edits as edits_of_letters, names_at, only_letter, prefixed_letter, rename_letter, root_path, stand_together as stand_so};
 
 use crate::field_names::is_bare;
 use crate::filtering::Filter;
@@ -91,7 +91,7 @@ impl Letters {
 
     // Whether there is a letter that works by the names of fields.
     fn edits_by_names(&self) -> bool
-        ensures { result ≡ by_names (letters_of self.now) }
+        ensures { result ≡ let l = letters_of self.now in not (length l.drops == 0) || is_some l.rename || is_some l.add_if || is_some l.add || is_some l.prefixed || is_some l.only || is_some l.first || is_some l.last }
     {
         !self.drops.is_empty()
             || self.rename.is_some()
@@ -107,7 +107,7 @@ impl Letters {
 /// The edits of a document that letters ask for, one after another; all are at its root.
 pub fn field_edits(alloc: Global, doc: &Doc, letters: &Letters) -> Result<Vec<Edit>, AllocError>
     requires { are_allowed (letters_of letters.now) ≡ true }
-    ensures { IfOk result (λ edits. map edit_of edits.items ≡ edits_of doc.now (letters_of letters.now)) }
+    ensures { IfOk result (λ edits. map edit_of edits.items ≡ edits_at root_path doc.now (letters_of letters.now)) }
 {
     field_edits_at(alloc, doc, &ROOT, letters)
 }
@@ -176,7 +176,7 @@ fn add_if<'a>(
     field: &'a Option<Vec<u8>>,
     eol: Ending,
 ) -> Result<(), AllocError>
-    ensures { OnOk result (work_of filter.new ≡ letter (add_if_letter path.now eol) (bytes_in field.now) (work_of filter.old)) }
+    ensures { OnOk result (work_of filter.new ≡ letter (add_if_letter path.now eol) (option_map (λ v. v.items) field.now) (work_of filter.old)) }
 {
     match field {
         Some(field) => filter.add_if(path, field, eol),
@@ -190,7 +190,7 @@ fn add<'a>(
     field: &'a Option<Vec<u8>>,
     eol: Ending,
 ) -> Result<(), AllocError>
-    ensures { OnOk result (work_of filter.new ≡ letter (added path.now eol) (bytes_in field.now) (work_of filter.old)) }
+    ensures { OnOk result (work_of filter.new ≡ letter (added path.now eol) (option_map (λ v. v.items) field.now) (work_of filter.old)) }
 {
     match field {
         Some(field) => filter.add(path, field, eol),
@@ -204,7 +204,7 @@ fn prefix<'a>(
     field: &'a Option<Vec<u8>>,
     eol: Ending,
 ) -> Result<(), AllocError>
-    ensures { OnOk result (work_of filter.new ≡ letter (prefixed_letter path.now eol) (bytes_in field.now) (work_of filter.old)) }
+    ensures { OnOk result (work_of filter.new ≡ letter (prefixed_letter path.now eol) (option_map (λ v. v.items) field.now) (work_of filter.old)) }
 {
     match field {
         Some(field) => filter.prefix(path, field, eol),
@@ -218,7 +218,7 @@ fn replace<'a>(
     field: &'a Option<Vec<u8>>,
     eol: Ending,
 ) -> Result<(), AllocError>
-    ensures { OnOk result (work_of filter.new ≡ letter (only_letter path.now eol) (bytes_in field.now) (work_of filter.old)) }
+    ensures { OnOk result (work_of filter.new ≡ letter (only_letter path.now eol) (option_map (λ v. v.items) field.now) (work_of filter.old)) }
 {
     match field {
         Some(field) => filter.replace(path, field, eol),
@@ -231,7 +231,7 @@ fn keep_first(
     path: &[u32],
     name: &Option<Vec<u8>>,
 ) -> Result<(), AllocError>
-    ensures { OnOk result (work_of filter.new ≡ letter (first_letter path.now) (bytes_in name.now) (work_of filter.old)) }
+    ensures { OnOk result (work_of filter.new ≡ letter (first_letter path.now) (option_map (λ v. v.items) name.now) (work_of filter.old)) }
 {
     match name {
         Some(name) => filter.keep_first(path, name),
@@ -249,7 +249,7 @@ fn may_prepend(prepend: &Option<Prepend>) -> bool
 }
 
 fn may_rename(names: &Option<(Vec<u8>, Vec<u8>)>) -> bool
-    ensures { result ≡ option_map_or are_names (option_map (λ p. (p.0.items, p.1.items)) names.now) true }
+    ensures { result ≡ option_map_or (λ (p : List ℕ × List ℕ). is_one_name p.0 && is_one_name p.1) (option_map (λ p. (p.0.items, p.1.items)) names.now) true }
 {
     match names {
         Some((old, new)) => is_name(old) && is_name(new),
@@ -258,7 +258,7 @@ fn may_rename(names: &Option<(Vec<u8>, Vec<u8>)>) -> bool
 }
 
 fn is_full_field(field: &Option<Vec<u8>>) -> bool
-    ensures { result ≡ option_map_or full_field (bytes_in field.now) true }
+    ensures { result ≡ option_map_or full_field (option_map (λ v. v.items) field.now) true }
 {
     match field {
         Some(field) => is_given(field) && !is_bare(field),
@@ -267,7 +267,7 @@ fn is_full_field(field: &Option<Vec<u8>>) -> bool
 }
 
 fn is_given_field(field: &Option<Vec<u8>>) -> bool
-    ensures { result ≡ option_map_or given_field (bytes_in field.now) true }
+    ensures { result ≡ option_map_or given_field (option_map (λ v. v.items) field.now) true }
 {
     match field {
         Some(field) => is_given(field),
@@ -276,7 +276,7 @@ fn is_given_field(field: &Option<Vec<u8>>) -> bool
 }
 
 fn is_given_name(name: &Option<Vec<u8>>) -> bool
-    ensures { result ≡ option_map_or is_one_name (bytes_in name.now) true }
+    ensures { result ≡ option_map_or is_one_name (option_map (λ v. v.items) name.now) true }
 {
     match name {
         Some(name) => is_name(name),

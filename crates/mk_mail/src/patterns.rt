@@ -2,8 +2,9 @@
 
 ghost use Rattle.std.specs.Prelude.{◌≡◌, map};
 ghost use Rattle.std.specs.List.{list_all};
+ghost use Rattle.mk_line.specs.Kinds.{is_name as is_one_name};
 ghost use Rattle.mk_mail.specs.LetterViews.{pattern_of};
-ghost use Rattle.mk_mail.specs.Letters.{is_dropped as is_dropped_name, is_meant, is_pattern, same_name};
+ghost use Rattle.mk_mail.specs.Letters.{is_dropped as is_dropped_name, is_meant, same_name};
 
 use mk_line::is_name;
 
@@ -19,7 +20,7 @@ pub struct NamePattern {
 impl NamePattern {
     // Whether its text is a name.
     fn ok(&self) -> bool
-        ensures { result ≡ is_pattern (pattern_of self.now) }
+        ensures { result ≡ is_one_name self.now.text.items }
     {
         is_name(&self.text)
     }
@@ -50,7 +51,7 @@ pub(crate) fn is_dropped(drops: &[NamePattern], own: &[u8]) -> bool
 
 /// Whether the text of each pattern is a name.
 pub(crate) fn are_patterns(drops: &[NamePattern]) -> bool
-    ensures { result ≡ list_all is_pattern (map pattern_of drops.now) }
+    ensures { result ≡ list_all (λ p. is_one_name p.text) (map pattern_of drops.now) }
 {
     for pattern in drops {
         if !pattern.ok() {

@@ -1,12 +1,12 @@
 //! `--prepend`: a text put before what fields say.
 
-ghost use Rattle.std.specs.Prelude.{◌≡◌, ◌≢◌, ◌≤◌, Some, IfOk, length};
+ghost use Rattle.std.specs.Prelude.{◌≡◌, ◌≢◌, ◌≤◌, ◌+◌, if◌then◌else◌, None, Some, IfOk, length, nat_lt};
 ghost use Rattle.std.specs.List.{prefix_len};
 ghost use Rattle.mk_decide.specs.Edits.{SetField};
 ghost use Rattle.mk_decide.specs.Views.{edit_of};
 ghost use Rattle.mk_mail.specs.LetterViews.{prepend_of};
 ghost use Rattle.mk_mail.specs.LetterWork.{plain_edits};
-ghost use Rattle.mk_mail.specs.Letters.{fields_at, next_prepended, prepending};
+ghost use Rattle.mk_mail.specs.Letters.{fields_at, most_prepended, prepending};
 ghost use Rattle.mk_mail.specs.Prepended.{before_text as made_before_text, before_word as made_before_word, begins_word as word_begins, ends_blank as blank_ends, gap_after as gap_of, is_break as breaks, is_one_line as one_line, is_white as white, prepended as field_prepended, said_at as says_at, text_before as made_before, text_place as place_of};
 
 use crate::section_names::head_at;
@@ -82,7 +82,7 @@ pub(crate) fn prepend_edits(
 
 // The number of the next field that gets the text, if one more does.
 fn next_number(k: u32) -> Option<u32>
-    ensures { result ≡ next_prepended k }
+    ensures { result ≡ if nat_lt k most_prepended then Some (k + 1) else None }
 {
     if k < MOST_PREPENDED {
         Some(k + 1)

@@ -2,7 +2,8 @@
 use Rattle.std.proofs.Common.{◌≡◌, ◌≤◌, ◌-◌, ◌&&◌, if◌then◌else◌, ℕ, Bool, true, false, List, ap, sym, ◌∙◌, drop, length, length-drop, take}
 use Rattle.std.proofs.Math.Seq.{take-length}
 use Rattle.std.proofs.lemmas.Bool.{le-ltb}
-use Rattle.mk_mailbox.specs.Dates.{begins_with_moment, is_date, is_year}
+use Rattle.mk_mailbox.specs.Dates.{is_date, is_year}
+use Rattle.mk_mailbox.specs.inner.Parts.{begins_with_moment}
 
 -- all that follows a place
 rest_is : (place : ℕ) (text : List ℕ) → take (length text - place) (drop place text) ≡ drop place text

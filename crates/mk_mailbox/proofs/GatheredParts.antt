@@ -8,8 +8,8 @@ use Rattle.std.proofs.lemmas.Bool.{cases_Bool, lt-ltb, ltb-true}
 use Rattle.mk_line.specs.Kinds.{is_field_start}
 use Rattle.mk_line.specs.Lines.{cut, has_line_feed, is_nil}
 use Rattle.mk_mailbox.specs.inner.Gathered.{IsOneLine, IsOnePiece, IsSplit, IsWaiting, IsWholeLine, front_of, later_of, told_by}
-use Rattle.mk_mailbox.specs.Mailboxes.{IsOpenInFront}
-use Rattle.mk_mailbox.specs.Pieces.{is_first, is_mail_start, may_begin, needs_field, mailbox_pieces}
+use Rattle.mk_mailbox.specs.Pieces.{is_first, is_mail_start, mailbox_pieces, may_begin, needs_field}
+use Rattle.mk_mailbox.specs.inner.Parts.{IsOpenInFront}
 use Rattle.mk_mailbox.proofs.LineBytes.{one_line_on}
 use Rattle.mk_mailbox.proofs.MessageLines.{front_first, later_first, starts_line, whole_closed, whole_some}
 use Rattle.mk_mailbox.proofs.LineStarts.{free_first, field_first, begin_some, Goes, goes_on, line_goes, pair_goes}

@@ -11,14 +11,15 @@ use Rattle.mk_line.specs.Lines.{cut, has_line_feed}
 use Rattle.mk_mailbox.specs.inner.Gathered.{IsLastSplit, IsSplit, chunk_bytes, later_of}
 use Rattle.mk_line.specs.Meters.{ticked}
 use Rattle.mk_mailbox.specs.Devices.{IsFull}
-use Rattle.mk_mailbox.specs.Held.{Held, unread}
+use Rattle.mk_mailbox.specs.Held.{Held}
 use Rattle.mk_mailbox.specs.declared.intake.Intake.{Intake}
-use Rattle.mk_mailbox.specs.inner.Intakes.{IsIntake, held_of, kept_by}
-use Rattle.mk_mailbox.specs.Mailboxes.{FitsReads, IsKnownWhole, IsNextPiece, IsOpenInFront, read_limit}
+use Rattle.mk_mailbox.specs.inner.Intakes.{IsIntake, held_of, kept_by, unread}
+use Rattle.mk_mailbox.specs.Mailboxes.{FitsReads, IsKnownWhole, IsNextPiece, read_limit}
 use Rattle.mk_mailbox.specs.inner.Answers.{Answers}
 use Rattle.mk_mailbox.specs.MailboxLaws.{IsReply, call_reply}
 use Rattle.mk_mailbox.specs.declared.mailbox.MailFault.{MailFault}
 use Rattle.mk_mailbox.specs.Pieces.{mailbox_pieces}
+use Rattle.mk_mailbox.specs.inner.Parts.{IsOpenInFront}
 use Rattle.mk_mailbox.proofs.LinesGathered.{gathered_unknown}
 use Rattle.mk_mailbox.proofs.MessageLines.{pieces_of}
 

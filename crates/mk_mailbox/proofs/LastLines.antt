@@ -9,8 +9,9 @@ use Rattle.mk_line.specs.Kinds.{is_field_start}
 use Rattle.mk_line.specs.Lines.{cut, has_line_feed, is_nil, text_line, text_of}
 use Rattle.mk_line.proofs.Cuts.{cut_whole}
 use Rattle.mk_mailbox.specs.inner.Gathered.{IsLastSplit, IsOnePiece, IsWholeLine, front_of, later_of, told_by}
-use Rattle.mk_mailbox.specs.Mailboxes.{IsKnownWhole, KnowsFirst, after_line, is_known_start}
-use Rattle.mk_mailbox.specs.Pieces.{is_first, front, later, may_begin, needs_field, parted, mailbox_pieces, starts_field}
+use Rattle.mk_mailbox.specs.Mailboxes.{IsKnownWhole, is_known_start}
+use Rattle.mk_mailbox.specs.Pieces.{front, is_first, later, mailbox_pieces, may_begin, needs_field, parted, starts_field}
+use Rattle.mk_mailbox.specs.inner.Parts.{KnowsFirst, after_line}
 use Rattle.mk_mailbox.proofs.MessageLines.{front_first, front_line, later_first, later_line, pieces_of, whole_some}
 use Rattle.mk_mailbox.proofs.LineStarts.{other_first, free_first, field_first, bare_first, begin_none, begin_some, later_first_none}
 use Rattle.mk_mailbox.proofs.GatheredParts.{AreParts, front_is, rest_is, last_is, waits, none_waits, one_waits, alone_begins, next_begins, told_alone, told_next, begins_after}

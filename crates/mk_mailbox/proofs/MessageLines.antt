@@ -7,9 +7,9 @@ use Rattle.mk_line.specs.declared.cutting.Ending.TheVariants.{Crlf, Lf, Missing}
 use Rattle.mk_line.specs.Lines.{TextLine, cut, ended, has_line_feed, is_nil, is_open, printed_line, text_line, text_of, with_byte}
 use Rattle.mk_line.proofs.Cuts.{cut_other, text_cut}
 use Rattle.mk_mailbox.specs.inner.Gathered.{IsWholeLine, front_of, later_of}
-use Rattle.mk_mailbox.specs.Mailboxes.{IsOpenInFront}
 use Rattle.mk_line.specs.Kinds.{is_field_start}
 use Rattle.mk_mailbox.specs.Pieces.{is_first, front, later, parted, mailbox_pieces, starts_field}
+use Rattle.mk_mailbox.specs.inner.Parts.{IsOpenInFront}
 
 -- a line with its line feed, and what follows it
 pub cut_line : (before more : List ℕ) → has_line_feed before ≡ false → cut ((before ++ 10 ∷ []) ++ more) ≡ ended before ∷ cut more

@@ -7,9 +7,9 @@ use Rattle.mk_line.specs.declared.cutting.Ending.{Ending}
 use Rattle.mk_line.specs.declared.cutting.Ending.TheVariants.{Crlf, Lf, Missing}
 use Rattle.mk_line.specs.Lines.{AreLines, IsLine, TextLine, cut, is_nil, printed_line, text_line, text_of}
 use Rattle.mk_line.proofs.Cuts.{cut_text, lines_cut, text_cut}
-use Rattle.mk_mailbox.specs.MailboxLaws.{AreOnes, AreSome}
 use Rattle.mk_mailbox.specs.declared.from_lines.FromLines.TheVariants.{Any, Dated, Fielded}
-use Rattle.mk_mailbox.specs.Pieces.{is_first, is_followed, front, later, may_begin, parted, mailbox_pieces}
+use Rattle.mk_mailbox.specs.Pieces.{front, is_first, is_followed, later, mailbox_pieces, may_begin, parted}
+use Rattle.mk_mailbox.specs.inner.Parts.{AreOnes, AreSome}
 use Rattle.mk_mailbox.proofs.LineStarts.{and_false, other_first}
 
 abbrev joined : List (List TextLine) → List ℕ

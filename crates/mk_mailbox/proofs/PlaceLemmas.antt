@@ -4,7 +4,8 @@ use Rattle.std.proofs.lemmas.Bool.{cases_Bool}
 use Rattle.mk_line.specs.Lines.{TextLine, cut, is_nil, text_of}
 use Rattle.mk_mailbox.specs.declared.from_lines.FromLines.{FromLines}
 use Rattle.mk_mailbox.specs.Pieces.{is_first, is_followed, is_mail_start, later, parted}
-use Rattle.mk_mailbox.specs.Places.{at_most_one, is_uncut}
+use Rattle.mk_mailbox.specs.Places.{is_uncut}
+use Rattle.mk_mailbox.specs.inner.Parts.{at_most_one}
 
 -- no line begins a message, where `e` says whether the line before the first is empty
 abbrev pub are_whole : FromLines → Bool → List TextLine → Bool

@@ -1,7 +1,8 @@
 -- Dates at the end of From-lines (RFC 4155, appendix A: as asctime prints them, `Www Mmm DD hh:mm:ss yyyy`; the zone is our own).
-use Rattle.std.specs.Prelude.{◌==◌, ◌&&◌, ◌||◌, ◌+◌, ◌-◌, ◌*◌, ℕ, Bool, false, not, Option, None, Some, List, [], ◌∷◌, codes, drop, length, nat_eq, nat_lt, if◌then◌else◌}
+use Rattle.std.specs.Prelude.{◌==◌, ◌&&◌, ◌||◌, ◌+◌, ◌-◌, ◌*◌, ℕ, Bool, false, not, List, [], ◌∷◌, codes, drop, length, nat_eq, nat_lt, if◌then◌else◌}
 use Rattle.std.specs.Char.{is_ascii_alphabetic, is_ascii_digit}
 use Rattle.std.specs.List.{list_all, starts_with}
+use Rattle.std.specs.Option.{option_map_or}
 use Rattle.mk_line.specs.Ascii.{colon, hyphen, is_blank, space}
 use Rattle.mk_line.specs.Lines.{is_nil}
 use Rattle.mk_line.specs.Parting.{before, following}
@@ -37,10 +38,6 @@ begins_with_month text =
     || starts_with nat_eq text (codes "Nov ")
     || starts_with nat_eq text (codes "Dec ")
 
--- two digits
-abbrev pub are_digits : ℕ → ℕ → Bool
-are_digits tens ones = is_ascii_digit tens && is_ascii_digit ones
-
 -- two digits come first, or a space and a digit, and a space
 abbrev pub begins_with_day : List ℕ → Bool
 begins_with_day [] = false
@@ -53,7 +50,7 @@ abbrev pub begins_below : ℕ → ℕ → List ℕ → Bool
 begins_below limit last [] = false
 begins_below limit last (tens ∷ []) = false
 begins_below limit last (tens ∷ ones ∷ []) = false
-begins_below limit last (tens ∷ ones ∷ next ∷ more) = are_digits tens ones && nat_lt ((tens - 48) * 10 + (ones - 48)) limit && next == last
+begins_below limit last (tens ∷ ones ∷ next ∷ more) = is_ascii_digit tens && is_ascii_digit ones && nat_lt ((tens - 48) * 10 + (ones - 48)) limit && next == last
 
 -- a time comes first, and a space; second 60 is a leap second
 abbrev pub begins_with_time : List ℕ → Bool
@@ -61,38 +58,29 @@ begins_with_time text = begins_below 24 colon text && begins_below 60 colon (dro
 
 -- a year, or the digits of an offset
 abbrev pub are_four_digits : List ℕ → Bool
-are_four_digits (a ∷ b ∷ c ∷ d ∷ []) = are_digits a b && are_digits c d
+are_four_digits (a ∷ b ∷ c ∷ d ∷ []) = (is_ascii_digit a && is_ascii_digit b) && (is_ascii_digit c && is_ascii_digit d)
 are_four_digits text = false
-
--- one letter or more
-abbrev pub are_letters : List ℕ → Bool
-are_letters text = not (is_nil text) && list_all is_ascii_alphabetic text
 
 -- a sign and four digits
 abbrev pub is_offset : List ℕ → Bool
 is_offset [] = false
 is_offset (sign ∷ digits) = (sign == plus_sign || sign == hyphen) && are_four_digits digits
 
--- a zone: letters, or an offset
+-- a zone: one letter or more, or an offset
 abbrev pub is_zone : List ℕ → Bool
-is_zone text = are_letters text || is_offset text
+is_zone text = not (is_nil text) && list_all is_ascii_alphabetic text || is_offset text
 
--- a zone stands before the year or after it
-abbrev pub are_year_and_zone : List ℕ → Option (List ℕ) → Bool
-are_year_and_zone first None = are_four_digits first
-are_year_and_zone first (Some last) = are_four_digits first && is_zone last || is_zone first && are_four_digits last
-
--- a year, with a zone or without one
+-- a year, with a zone before it or after it, or without one
 abbrev pub is_year : List ℕ → Bool
-is_year text = are_year_and_zone (before space text) (following space text)
-
--- a day and its time come first, and a space
-abbrev pub begins_with_moment : List ℕ → Bool
-begins_with_moment text = begins_with_weekday text && begins_with_month (drop 4 text) && begins_with_day (drop 8 text) && begins_with_time (drop 11 text)
+is_year text =
+    let first = before space text in
+    option_map_or (λ last. are_four_digits first && is_zone last || is_zone first && are_four_digits last) (following space text) (are_four_digits first)
 
 -- a date: the shortest has 24 bytes, and the year comes after 20
 abbrev pub is_date : List ℕ → Bool
-is_date text = if nat_lt (length text) 24 then false else begins_with_moment text && is_year (drop 20 text)
+is_date text =
+    if nat_lt (length text) 24 then false
+    else begins_with_weekday text && begins_with_month (drop 4 text) && begins_with_day (drop 8 text) && begins_with_time (drop 11 text) && is_year (drop 20 text)
 
 -- a date stands at the end, after a blank
 abbrev pub ends_with_date : List ℕ → Bool

@@ -1,5 +1,5 @@
 -- What a mailbox holds between two calls.
-use Rattle.std.specs.Prelude.{ℕ, Bool, List, drop, take}
+use Rattle.std.specs.Prelude.{ℕ, Bool, List}
 use Rattle.mk_mailbox.specs.declared.from_lines.FromLines.{FromLines}
 
 -- the bytes that were read and not given yet, whether the input has ended, and which From-lines begin messages
@@ -7,7 +7,3 @@ pub record Held : Type 0 where
   pub kept : List ℕ
   pub ended : Bool
   pub from_lines : FromLines
-
--- the bytes of a chunk that weren't taken from it yet
-abbrev pub unread : List ℕ → ℕ → ℕ → List ℕ
-unread chunk at filled = drop at (take filled chunk)

@@ -2,7 +2,7 @@
 use Rattle.std.specs.Prelude.{◌≡◌, ◌≢◌, ◌<◌, ◌≤◌, ◌&&◌, ◌++◌, ◌⊎◌, ℕ, Bool, true, false, List, [], ◌∷◌, Option, None, Some, Result, Ok, Err, IfErr, OnOk, length}
 use Rattle.std.specs.Global.{Vec}
 use Rattle.std.specs.Io.KnownBytes.{Consumes, IsAtEnd}
-use Rattle.std.specs.List.{flat_map}
+use Rattle.std.specs.List.{AllByRecursion, flat_map}
 use Rattle.mk_mailbox.specs.declared.from_lines.FromLines.{FromLines}
 use Rattle.mk_mailbox.specs.declared.mailbox.MailFault.{MailFault}
 use Rattle.mk_mailbox.specs.declared.mailbox.MailFault.TheVariants.{Memory, ReadFault}
@@ -99,27 +99,17 @@ EndsAreWhole = (way : FromLines) (calls : List Call) (last now : Held) (read : L
 abbrev pub EndsStay : Type 0
 EndsStay = (calls : List Call) (last : Held) (read : List ℕ) (over now : Held) → IsOver last read over → AreCalls over calls now → (read_by calls ≡ []) × (given_by calls ≡ [])
 
--- none of some texts is empty
-abbrev pub AreSome : List (List ℕ) → Type 0
-AreSome [] = Unit {0}
-AreSome (p ∷ ps) = (0 < length p) × AreSome ps
-
 -- the messages of a mailbox, joined, are the mailbox
 abbrev pub PiecesAreAll : Type 0
 PiecesAreAll = (way : FromLines) (text : List ℕ) → flat_map (λ p. p) (mailbox_pieces way text) ≡ text
 
 -- no message is empty
 abbrev pub PiecesAreSome : Type 0
-PiecesAreSome = (way : FromLines) (text : List ℕ) → AreSome (mailbox_pieces way text)
+PiecesAreSome = (way : FromLines) (text : List ℕ) → AllByRecursion (λ p. 0 < length p) (mailbox_pieces way text)
 
--- each message is read as one
-abbrev pub AreOnes : FromLines → List (List ℕ) → Type 0
-AreOnes way [] = Unit {0}
-AreOnes way (p ∷ ps) = (mailbox_pieces way p ≡ p ∷ []) × AreOnes way ps
-
--- no message is cut again
+-- no message is cut again: each is read as one
 abbrev pub PiecesAreUncut : Type 0
-PiecesAreUncut = (way : FromLines) (text : List ℕ) → AreOnes way (mailbox_pieces way text)
+PiecesAreUncut = (way : FromLines) (text : List ℕ) → AllByRecursion (λ p. mailbox_pieces way p ≡ p ∷ []) (mailbox_pieces way text)
 
 -- some lines and those after them are parted: a message ends with an empty line, and the next begins with a From-line that counts
 abbrev pub are_parted : FromLines → List TextLine → List TextLine → Bool

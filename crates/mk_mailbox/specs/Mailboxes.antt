@@ -1,16 +1,12 @@
 -- What the calls of a mailbox answer (own).
-use Rattle.std.specs.Prelude.{◌≡◌, ◌==◌, ◌<◌, ◌≤◌, ◌+◌, ◌*◌, ◌++◌, ◌⊎◌, if◌then◌else◌, ℕ, Bool, true, false, List, [], ◌∷◌, Some, length, slice_get}
+use Rattle.std.specs.Prelude.{◌≡◌, ◌<◌, ◌≤◌, ◌+◌, ◌*◌, ◌++◌, ◌⊎◌, ℕ, Bool, true, false, List, [], ◌∷◌, Some, IsSomeAnd, length, slice_get, unwrap_or}
 use Rattle.mk_line.specs.Ascii.{line_feed}
-use Rattle.mk_line.specs.Lines.{TextLine, cut, has_line_feed, is_open}
+use Rattle.mk_line.specs.Parting.{following}
+use Rattle.mk_line.specs.Lines.{cut, has_line_feed, is_open}
 use Rattle.mk_mailbox.specs.declared.from_lines.FromLines.{FromLines}
 use Rattle.mk_mailbox.specs.Devices.{IsFull}
 use Rattle.mk_mailbox.specs.Held.{Held}
 use Rattle.mk_mailbox.specs.Pieces.{mailbox_pieces, needs_field}
-
--- the first line has no ending
-abbrev pub IsOpenInFront : List TextLine → Type 0
-IsOpenInFront [] = ⊥
-IsOpenInFront (l ∷ ls) = is_open l.ending ≡ true
 
 -- a piece is the first message of what was kept and read, and what follows it is kept
 pub record IsNextPiece (piece : List ℕ) (old : Held) (read : List ℕ) (new : Held) : Type 0 where
@@ -20,28 +16,18 @@ pub record IsNextPiece (piece : List ℕ) (old : Held) (read : List ℕ) (new : 
   pub stays : (more : List ℕ) → (new.ended ≡ true → more ≡ []) → mailbox_pieces old.from_lines ((old.kept ++ read) ++ more) ≡ piece ∷ mailbox_pieces old.from_lines (new.kept ++ more)
   pub some : 0 < length piece
   pub all : new.kept ≡ [] → new.ended ≡ true
-  pub closed : IsOpenInFront (cut new.kept) → new.ended ≡ true
-
--- the bytes after the first line
-abbrev pub after_line : List ℕ → List ℕ
-after_line [] = []
-after_line (byte ∷ bytes) = if byte == line_feed then bytes else after_line bytes
+  -- its first line has no ending only where the input has ended
+  pub closed : IsSomeAnd (slice_get (cut new.kept) 0) (λ l. is_open l.ending ≡ true) → new.ended ≡ true
 
 -- the first line of a message is whole; where a field must follow it, the second one too
 abbrev pub is_known_start : Bool → List ℕ → Bool
 is_known_start false text = has_line_feed text
-is_known_start true text = has_line_feed (after_line text)
+is_known_start true text = has_line_feed (unwrap_or (following line_feed text) [])
 
--- the first of some messages is known to be whole: the line that begins the next one is whole, and the one after it where that
--- must be a field
-abbrev pub KnowsFirst : FromLines → List (List ℕ) → Type 0
-KnowsFirst way [] = ⊥
-KnowsFirst way (p ∷ []) = ⊥
-KnowsFirst way (p ∷ q ∷ ps) = is_known_start (needs_field way) q ≡ true
-
--- the first message of a text is known to be whole, whatever follows
+-- the first message of a text is known to be whole, whatever follows: the line that begins the next one is whole, and the one
+-- after it where that must be a field
 abbrev pub IsKnownWhole : FromLines → List ℕ → Type 0
-IsKnownWhole way text = KnowsFirst way (mailbox_pieces way text)
+IsKnownWhole way text = IsSomeAnd (slice_get (mailbox_pieces way text) 1) (λ next. is_known_start (needs_field way) next ≡ true)
 
 -- nothing was kept or read, and the input has ended
 pub record IsOver (old : Held) (read : List ℕ) (new : Held) : Type 0 where

@@ -1,5 +1,5 @@
 -- Places of messages in a mailbox, and the texts that may stand there (own).
-use Rattle.std.specs.Prelude.{◌&&◌, ◌||◌, ℕ, Bool, true, false, not, List, [], ◌∷◌}
+use Rattle.std.specs.Prelude.{◌&&◌, ◌||◌, ℕ, Bool, false, not, drop, List, [], ◌∷◌}
 use Rattle.mk_line.specs.Lines.{TextLine, cut, is_nil}
 use Rattle.mk_mailbox.specs.declared.from_lines.FromLines.{FromLines}
 use Rattle.mk_mailbox.specs.Pieces.{is_followed, is_mail_start, mailbox_pieces}
@@ -14,14 +14,9 @@ abbrev pub ends_empty : Bool → List TextLine → Bool
 ends_empty e [] = e
 ends_empty e (l ∷ ls) = ends_empty (is_nil l.content) ls
 
--- one message at most
-abbrev pub at_most_one : List (List ℕ) → Bool
-at_most_one [] = true
-at_most_one (p ∷ ps) = is_nil ps
-
--- a text is cut as one message, or is none
+-- a text is cut as one message, or is none: there is nothing after the first
 abbrev pub is_uncut : FromLines → List ℕ → Bool
-is_uncut way text = at_most_one (mailbox_pieces way text)
+is_uncut way text = is_nil (drop 1 (mailbox_pieces way text))
 
 -- a text may stand where a message begins with a From-line that counts, or not, and ends with an empty line, or not
 abbrev pub fits_place : FromLines → Bool → Bool → List ℕ → Bool

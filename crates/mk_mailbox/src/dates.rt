@@ -2,7 +2,8 @@
 ghost use Rattle.std.specs.Prelude.{◌≡◌, ◌≤◌, ◌<◌, ◌+◌, length};
 ghost use Rattle.std.specs.Char.{is_ascii_alphabetic};
 ghost use Rattle.std.specs.List.{list_all};
-ghost use Rattle.mk_mailbox.specs.Dates.{are_digits as digits, are_four_digits as are_four, are_letters as letters, begins_with_moment as moment, begins_below as below, begins_with_day as day, begins_with_month as month, begins_with_time as time, begins_with_weekday as weekday, ends_with_date as dated, is_date as date, is_offset as offset, is_year as year, is_zone as zone};
+ghost use Rattle.mk_mailbox.specs.Dates.{are_four_digits as are_four, begins_below as below, begins_with_day as day, begins_with_month as month, begins_with_time as time, begins_with_weekday as weekday, ends_with_date as dated, is_date as date, is_offset as offset, is_year as year, is_zone as zone};
+ghost use Rattle.mk_mailbox.specs.inner.Parts.{are_digits as digits, are_letters as letters, begins_with_moment as moment};
 
 use mk_line::{is_blank, split_at_first};
 

@@ -7,8 +7,7 @@ ghost use Rattle.mk_line.specs.Lines.{has_line_feed};
 ghost use Rattle.mk_line.specs.Meters.{ticked};
 ghost use Rattle.mk_mailbox.specs.Devices.{IsLong, Rose};
 ghost use Rattle.mk_mailbox.specs.inner.Gathered.{IsChunk, IsGathered, IsLastSplit, IsOneLine, IsSplit, chunk_bytes};
-ghost use Rattle.mk_mailbox.specs.Held.{unread};
-ghost use Rattle.mk_mailbox.specs.inner.Intakes.{IsIntake, held_of, kept_by};
+ghost use Rattle.mk_mailbox.specs.inner.Intakes.{IsIntake, held_of, kept_by, unread};
 ghost use Rattle.mk_mailbox.specs.Mailboxes.{FitsReads, IsKnownWhole};
 ghost use Rattle.mk_mailbox.specs.inner.Answers.{Answers};
 

@@ -5,10 +5,13 @@ use Rattle.std.specs.List.{flat_map}
 use Rattle.mk_mailbox.specs.declared.from_lines.FromLines.{FromLines}
 use Rattle.mk_mailbox.specs.Pieces.{mailbox_pieces}
 use Rattle.mk_mailbox.proofs.PieceLaws.{all_pieces}
-use Rattle.mk_messages.specs.MessageLaws.{start_after}
 use Rattle.mk_messages.specs.MessageLines.{lines_from, mailbox_listing, message_line}
 use Rattle.mk_messages.proofs.Listed.{lines_append}
 use Rattle.mk_messages.proofs.Taken.{size_of}
+
+-- where a message begins after others
+abbrev start_after : List (List ℕ) → ℕ
+start_after before = length (flat_map (λ p. p) before)
 
 joined_append : (ms ns : List (List ℕ)) → flat_map (λ p. p) (ms ++ ns) ≡ flat_map (λ p. p) ms ++ flat_map (λ p. p) ns
 joined_append [] ns = refl

@@ -1,7 +1,7 @@
 -- The separator of lines of which some were looked at.
 use Rattle.std.proofs.Common.{◌≡◌, ℕ, List, [], ◌∷◌, refl}
 use Rattle.mk_line.specs.Lines.{TextLine}
-use Rattle.mk_messages.specs.TakenOut.{empty_length, separator_length}
+use Rattle.mk_messages.specs.inner.Separators.{empty_length, separator_length}
 
 -- how many bytes the separator has, where the last line so far has so many
 abbrev pub length_after : ℕ → List TextLine → ℕ

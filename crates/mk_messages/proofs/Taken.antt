@@ -1,5 +1,5 @@
 -- Messages taken from a mailbox in turn: all that was read is these and what is kept.
-use Rattle.std.proofs.Common.{◌≡◌, ◌≤◌, ◌<◌, ◌+◌, ◌*◌, ◌-◌, ◌⊎◌, ◌++◌, ℕ, zero, suc, Bool, true, false, Option, None, Some, IfSome, List, [], ◌∷◌, refl, ap, sym, ◌∙◌, subst, inl, inr, length, length-append, append_assoc, append-nil, slice_get, arith}
+use Rattle.std.proofs.Common.{◌≡◌, ◌≤◌, ◌+◌, ◌*◌, ◌⊎◌, ◌++◌, ℕ, true, Option, None, Some, IfSome, List, [], ◌∷◌, refl, ap, sym, ◌∙◌, subst, inl, inr, length, length-append, append_assoc, append-nil, slice_get, arith}
 use Rattle.std.specs.Io.KnownBytes.{Consumes, IsAtEnd}
 use Rattle.std.proofs.lemmas.Option.{slice_get_past}
 use Rattle.mk_mailbox.specs.declared.from_lines.FromLines.{FromLines}

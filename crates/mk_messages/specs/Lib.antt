@@ -1,3 +1,4 @@
 pub mod MessageLines
 pub mod TakenOut
 pub mod MessageLaws
+pub mod inner

@@ -1,11 +1,11 @@
 -- The messages of a mailbox, listed by a line for each (own).
 use Rattle.std.specs.Prelude.{◌+◌, ◌++◌, ◌∷◌, [], ℕ, suc, List, codes, decimal, length}
-use Rattle.mk_line.specs.Ascii.{line_feed}
+use Rattle.mk_line.specs.Ascii.{line_feed, space}
 use Rattle.mk_line.specs.Lines.{cut}
 use Rattle.mk_mailbox.specs.declared.from_lines.FromLines.{FromLines}
 use Rattle.mk_mailbox.specs.Pieces.{mailbox_pieces}
 use Rattle.mk_tree.specs.Documents.{tree}
-use Rattle.mk_view.specs.Listing.{column, listing}
+use Rattle.mk_view.specs.Listing.{listing}
 
 -- how many sections a message has: the lines of its listing
 abbrev pub section_count : List ℕ → ℕ
@@ -14,7 +14,7 @@ section_count text = length (cut (listing (tree text)))
 -- the line of a message: its number, where it begins and ends in bytes from 0, and how many sections it has
 abbrev pub message_line : ℕ → ℕ → List ℕ → List ℕ
 message_line number start text =
-    decimal number ++ (column (decimal start) ++ (column (decimal (start + length text)) ++ (column (decimal (section_count text)) ++ line_feed ∷ [])))
+    decimal number ++ (space ∷ decimal start ++ (space ∷ decimal (start + length text) ++ (space ∷ decimal (section_count text) ++ line_feed ∷ [])))
 
 -- the lines of messages in turn, of which the first has this number and begins here
 abbrev pub lines_from : ℕ → ℕ → List (List ℕ) → List ℕ

@@ -1,10 +1,13 @@
 //! A message of a mailbox as it was before it went in.
 
-ghost use Rattle.std.specs.Prelude.{◌≡◌, ◌<◌, ◌≤◌, length, true, IfOk};
+ghost use Rattle.std.specs.Prelude.{◌≡◌, ◌==◌, ◌<◌, ◌≤◌, length, true, IfOk};
 ghost use Rattle.std.specs.List.{prefix_len};
 ghost use Rattle.mk_line.specs.Lines.{cut as lines_of};
 ghost use Rattle.mk_line.specs.Views.{line_of};
-ghost use Rattle.mk_messages.specs.TakenOut.{begins_from as is_from_first, is_mark, is_marked as was_marked, separator_length as length_of_separator, unmarked as unmarked_text, unmarked_line as line_unmarked, without_separator as text_alone};
+ghost use Rattle.mk_mailbox.specs.declared.from_lines.FromLines.TheVariants.{Any};
+ghost use Rattle.mk_mailbox.specs.Places.{begins_from as is_from_first};
+ghost use Rattle.mk_messages.specs.inner.Separators.{separator_length as length_of_separator};
+ghost use Rattle.mk_messages.specs.TakenOut.{is_marked as was_marked, mark, unmarked as unmarked_text, unmarked_line as line_unmarked, without_separator as text_alone};
 
 use mk_line::{Line, cut, is_from_line};
 use std::alloc::{AllocError, Global};
@@ -27,7 +30,7 @@ pub fn without_separator(message: Vec<u8>) -> Vec<u8>
 }
 
 fn begins_from(text: &[u8]) -> bool
-    ensures { result ≡ is_from_first (lines_of text.now) }
+    ensures { result ≡ is_from_first Any (lines_of text.now) }
 {
     match cut(text).next() {
         Some(line) => is_from_line(line.content),
@@ -82,7 +85,7 @@ fn is_marked(content: &[u8]) -> bool
 }
 
 fn leading_marks(content: &[u8]) -> usize
-    ensures front { result ≡ prefix_len is_mark content.now }
+    ensures front { result ≡ prefix_len (λ byte. byte == mark) content.now }
     ensures within { result ≤ length content.now }
 {
     content.iter().take_while(|byte| **byte == MARK).count()

@@ -1,27 +1,18 @@
 //! The text of values with a charset and a language (RFC 2231, 4), whole or in segments (4.1).
 ghost use Rattle.std.specs.Prelude.{◌≡◌, ◌++◌, [], ◌∷◌, nat_lt, map, IfOk, option_and_then, option_map};
-ghost use Rattle.std.specs.List.{flat_map, list_all};
-ghost use Rattle.std.specs.Str.{bytes_eq, str_to_ascii_lowercase};
+ghost use Rattle.std.specs.List.{flat_map};
 ghost use Rattle.std.specs.String.{string_bytes};
-ghost use Rattle.mk_code.specs.EncodedWords.{in_utf8 as bytes_in_utf8, latin_character};
 ghost use Rattle.mk_param.specs.Segments.{Encoded};
 ghost use Rattle.mk_param.specs.Extended.{as_text as text_of_bytes, joined, segment_bytes as bytes_of_segment, segments_text as text_of_segments, text_in as text_of_charset, when};
 ghost use Rattle.mk_param.specs.SegmentViews.{segment_of};
 
 use crate::percent::push_decoded;
 use crate::segments::Segment;
+use mk_code::in_utf8;
 use mk_line::split_at_first;
 use std::alloc::{AllocError, Global};
 
 const APOSTROPHE: u8 = b'\'';
-
-/// The first byte that isn't ASCII.
-const NON_ASCII: u8 = 128;
-
-/// What the first of two bytes of a character in UTF-8 has beside its bits, and what the second has.
-const LEAD_OF_TWO: u8 = 192;
-
-const CONTINUATION: u8 = 128;
 
 /// The text of segments, if they can be read.
 pub(crate) fn segments_text(
@@ -101,8 +92,7 @@ fn push_segment(out: &mut Vec<u8>, segment: &Segment<'_>) -> Result<bool, AllocE
     }
 }
 
-// The text that bytes of a charset are, if it is known and has them. The bytes in UTF-8 are those of an encoded word with this
-// charset, so mk_code's definition says which they are; its code is part of reading such words.
+// The text that bytes of a charset are, if it is known and has them.
 fn text_in(alloc: Global, charset: &[u8], bytes: Vec<u8>) -> Result<Option<String>, AllocError>
     ensures { IfOk result (λ text. option_map string_bytes text ≡ text_of_charset charset.now bytes.items) }
 {
@@ -110,54 +100,6 @@ fn text_in(alloc: Global, charset: &[u8], bytes: Vec<u8>) -> Result<Option<Strin
         Some(bytes) => Ok(as_text(bytes)),
         None => Ok(None),
     }
-}
-
-// The bytes in UTF-8, where the charset is known and has them.
-fn in_utf8(alloc: Global, charset: &[u8], bytes: Vec<u8>) -> Result<Option<Vec<u8>>, AllocError>
-    ensures { IfOk result (λ found. option_map (λ bytes. bytes.items) found ≡ bytes_in_utf8 (str_to_ascii_lowercase charset.now) bytes.items) }
-{
-    if is_named(charset, b"utf-8") {
-        return Ok(Some(bytes));
-    }
-    if is_named(charset, b"us-ascii") {
-        return if is_ascii(&bytes) {
-            Ok(Some(bytes))
-        } else {
-            Ok(None)
-        };
-    }
-    if is_named(charset, b"iso-8859-1") {
-        return Ok(Some(from_latin(alloc, &bytes)?));
-    }
-    Ok(None)
-}
-
-// Whether the name is this one, which is in lower case, without regard to ASCII case.
-fn is_named(name: &[u8], wanted: &[u8]) -> bool
-    ensures { result ≡ bytes_eq (str_to_ascii_lowercase name.now) (str_to_ascii_lowercase wanted.now) }
-{
-    name.eq_ignore_ascii_case(wanted)
-}
-
-fn is_ascii(bytes: &[u8]) -> bool
-    ensures { result ≡ list_all (λ byte. nat_lt byte 128) bytes.now }
-{
-    bytes.iter().all(|byte| byte.is_ascii())
-}
-
-// The characters of iso-8859-1 in UTF-8.
-fn from_latin(alloc: Global, bytes: &[u8]) -> Result<Vec<u8>, AllocError>
-    ensures { IfOk result (λ text. text.items ≡ flat_map latin_character bytes.now) }
-{
-    let mut out = Vec::with_capacity(alloc, bytes.len())?;
-    for byte in bytes {
-        if *byte < NON_ASCII {
-            out.push(*byte)?;
-        } else {
-            out.extend_from_slice(&[LEAD_OF_TWO + *byte / 64, CONTINUATION + *byte % 64])?;
-        }
-    }
-    Ok(out)
 }
 
 /// The bytes as a text, if they are UTF-8.

@@ -1,4 +1,9 @@
+pub mod AppendsTo
+pub mod AttachedNames
+pub mod AttachedParts
+pub mod Attachments
 pub mod InTurn
 pub mod PlainWords
 pub mod RunLemmas
+pub mod TurnedBytes
 pub mod WordsMade

@@ -1,5 +1,5 @@
 -- What a run of a script leaves in its devices, the journal's among them.
-use Rattle.std.specs.Prelude.{◌≡◌, ◌≢◌, ◌⊎◌, ℕ, Bool, true, List, [], Option, Result, Ok, Err}
+use Rattle.std.specs.Prelude.{◌≡◌, ◌≢◌, ◌⊎◌, ℕ, List, [], Option, Result, Ok, Err}
 use Rattle.std.specs.Io.KnownBytes.{Appends, Consumes, Keeps}
 use Rattle.mk_line.specs.Meters.{ticked}
 use Rattle.mk_mailbox.specs.Devices.{AppendsFront, Rose}

@@ -1,3 +1,4 @@
+pub mod AttachLaws
 pub mod Faults
 pub mod Journaling
 pub mod JournalRuns

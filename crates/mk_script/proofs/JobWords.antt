@@ -1,27 +1,22 @@
 -- The words of a script that stand for lists of edits, as they are written.
 use Rattle.std.proofs.Common.{◌≡◌, ℕ, true, if◌then◌else◌, List, ◌∷◌, ◌++◌, Option, Some, None, codes, decimal, refl, sym, ap, ◌∙◌, subst, inl, inr}
 use Rattle.std.proofs.lemmas.Bool.{cases_Bool}
-use Rattle.std.specs.Option.{option_map, option_and_then}
+use Rattle.std.specs.Option.{option_map}
 use Rattle.std.specs.Str.{bytes_eq}
 use Rattle.mk_line.specs.Ascii.{space}
 use Rattle.std.proofs.lemmas.Slice.Eq.{bytes_eq-Decides}
 use Rattle.mk_script.specs.declared.script.ChosenEncoding.{ChosenEncoding}
 use Rattle.mk_script.specs.declared.script.ChosenEncoding.TheVariants.{Qp, QuotedPrintable, Base64, EightBit, Identity}
 use Rattle.mk_script.specs.Paths.{parted, path_of}
-use Rattle.mk_script.specs.Targets.{is_field_name, is_name}
-use Rattle.mk_script.specs.Script.{ScriptWord, SetsContent, SetsText, Encodes, Puts, PutsPiece, DropsAll, Appends, AppendsText, Attaches, AttachesText, chosen, content_by, encoding, past_charset, piece_of, placing, putting, dropping, with_charset, with_name, with_media, with_text, attaching, attaching_text, job_of}
+use Rattle.mk_script.specs.Targets.{as_name, is_field_name, is_name, read_first}
+use Rattle.mk_script.specs.Script.{ScriptWord, SetsContent, SetsText, Encodes, Puts, PutsPiece, DropsAll, Appends, AppendsText, Attaches, AttachesText, chosen, past_charset, piece_of, job_of}
+use Rattle.mk_script.specs.inner.Words.{attaching, attaching_text, content_by, dropping, encoding, placing, putting, with_charset}
 use Rattle.mk_script.specs.Written.{IsPath, IsPiece, encoding_word, written_path, written_place, IsWord, written}
 use Rattle.mk_script.proofs.NumberLemmas.{some_same, none_some}
 use Rattle.mk_script.proofs.PieceLemmas.{parted-append, parted-joined}
 use Rattle.mk_script.proofs.PlacedWords.{named, piece-read, piece-written, placing-read, placing-written}
-use Rattle.mk_script.proofs.WrittenLemmas.{path_of-decimal, path_of-written}
-use Rattle.mk_script.proofs.TargetLemmas.{and_then-some, map-some, path_holds, name_holds}
-
--- a path, and what follows it
-path_front : (rest : List ℕ) (p : List ℕ × List ℕ) (path : List ℕ) → parted space rest ≡ Some p → path_of p.0 ≡ Some path → IsPath path × (rest ≡ written_path path ++ (space ∷ p.1))
-path_front rest p path parts e =
-    let read = path_of-decimal p.0 path e in
-    (read.0, parted-joined space rest p parts ∙ ap (λ front. front ++ (space ∷ p.1)) read.1)
+use Rattle.mk_script.proofs.WrittenLemmas.{path_of-written}
+use Rattle.mk_script.proofs.FirstWords.{and_then-some, map-some, name-read, name_holds, path-read, path_holds}
 
 -- the name of a transfer encoding
 chosen-read : (name : List ℕ) (to : ChosenEncoding) → chosen name ≡ Some to → name ≡ encoding_word to
@@ -44,12 +39,10 @@ chosen-read name to e = elim (cases_Bool (bytes_eq name (codes "qp"))) [
 
 encode-read : (count : ℕ) (rest : List ℕ) (word : ScriptWord) → encoding rest ≡ Some word → IsWord count word × (codes "encode" ++ (space ∷ rest) ≡ written word)
 encode-read count rest word e =
-    let p = and_then-some (λ (p : List ℕ × List ℕ). option_and_then (λ path. option_map (λ to. Encodes path to) (chosen p.1)) (path_of p.0)) (parted space rest) word e in
-    let q = and_then-some (λ path. option_map (λ to. Encodes path to) (chosen p.0.1)) (path_of p.0.0) word p.2 in
-    let k = map-some (λ to. Encodes q.0 to) (chosen p.0.1) word q.2 in
-    let read = path_front rest p.0 q.0 p.1 q.1 in
-    let whole : rest ≡ written_path q.0 ++ (space ∷ encoding_word k.0) = read.1 ∙ ap (λ l. written_path q.0 ++ (space ∷ l)) (chosen-read p.0.1 k.0 k.1) in
-    subst (λ w. IsWord count w × (codes "encode" ++ (space ∷ rest) ≡ written w)) k.2 (read.0, ap (λ l. codes "encode" ++ (space ∷ l)) whole)
+    let p = path-read (λ path name. option_map (λ to. Encodes path to) (chosen name)) rest word e in
+    let k = map-some (λ to. Encodes p.0 to) (chosen p.1) word p.3 in
+    let whole : rest ≡ written_path p.0 ++ (space ∷ encoding_word k.0) = p.4 ∙ ap (λ l. written_path p.0 ++ (space ∷ l)) (chosen-read p.1 k.0 k.1) in
+    subst (λ w. IsWord count w × (codes "encode" ++ (space ∷ rest) ≡ written w)) k.2 (p.2, ap (λ l. codes "encode" ++ (space ∷ l)) whole)
 
 chosen-written : (to : ChosenEncoding) → chosen (encoding_word to) ≡ Some to
 chosen-written Qp = refl
@@ -63,10 +56,8 @@ encoding-written path to h = rw (parted-append space (written_path path) (encodi
 
 put-read : (count : ℕ) (rest : List ℕ) (word : ScriptWord) → putting rest ≡ Some word → IsWord count word × (codes "put" ++ (space ∷ rest) ≡ written word)
 put-read count rest word e =
-    let p = and_then-some (λ (p : List ℕ × List ℕ). option_map (λ path. Puts path p.1) (path_of p.0)) (parted space rest) word e in
-    let q = map-some (λ path. Puts path p.0.1) (path_of p.0.0) word p.2 in
-    let read = path_front rest p.0 q.0 p.1 q.1 in
-    subst (λ w. IsWord count w × (codes "put" ++ (space ∷ rest) ≡ written w)) q.2 (read.0, ap (λ l. codes "put" ++ (space ∷ l)) read.1)
+    let p = path-read (λ path field. Some (Puts path field)) rest word e in
+    subst (λ w. IsWord count w × (codes "put" ++ (space ∷ rest) ≡ written w)) (some_same p.3) (p.2, ap (λ l. codes "put" ++ (space ∷ l)) p.4)
 
 pub putting-written : (path field : List ℕ) → IsPath path → putting (written_path path ++ (space ∷ field)) ≡ Some (Puts path field)
 putting-written path field h = rw (parted-append space (written_path path) field (path_holds path h), path_of-written path h) refl
@@ -79,75 +70,41 @@ drop-named path name word e = elim (cases_Bool (is_field_name name)) [
 
 drop-read : (count : ℕ) (rest : List ℕ) (word : ScriptWord) → dropping rest ≡ Some word → IsWord count word × (codes "drop" ++ (space ∷ rest) ≡ written word)
 drop-read count rest word e =
-    let p = and_then-some (λ (p : List ℕ × List ℕ). option_and_then (λ path. if is_field_name p.1 then Some (DropsAll path p.1) else None) (path_of p.0)) (parted space rest) word e in
-    let q = and_then-some (λ path. if is_field_name p.0.1 then Some (DropsAll path p.0.1) else None) (path_of p.0.0) word p.2 in
-    let read = path_front rest p.0 q.0 p.1 q.1 in
-    let said = drop-named q.0 p.0.1 word q.2 in
-    subst (λ w. IsWord count w × (codes "drop" ++ (space ∷ rest) ≡ written w)) said.1 ((read.0, said.0), ap (λ l. codes "drop" ++ (space ∷ l)) read.1)
+    let p = path-read (λ path name. if is_field_name name then Some (DropsAll path name) else None) rest word e in
+    let said = drop-named p.0 p.1 word p.3 in
+    subst (λ w. IsWord count w × (codes "drop" ++ (space ∷ rest) ≡ written w)) said.1 ((p.2, said.0), ap (λ l. codes "drop" ++ (space ∷ l)) p.4)
 
 pub dropping-written : (path name : List ℕ) → IsPath path → is_field_name name ≡ true → dropping (written_path path ++ (space ∷ name)) ≡ Some (DropsAll path name)
 dropping-written path name h n = rw (parted-append space (written_path path) name (path_holds path h), path_of-written path h, n) refl
 
--- a name and a piece
-name-read : (count : ℕ) (path media : List ℕ) (p : List ℕ × List ℕ) (word : ScriptWord) → with_name count path media p ≡ Some word
-    → (piece : ℕ) × IsPiece count piece × (is_name p.0 ≡ true) × (p.1 ≡ decimal piece) × (Attaches path media p.0 piece ≡ word)
-name-read count path media p word e = elim (cases_Bool (is_name p.0)) [
-  | inr f ↦ absurd (none_some (rw f at e))
-  | inl t ↦
-      let k = map-some (λ piece. Attaches path media p.0 piece) (piece_of count p.1) word (rw t at e) in
-      let read = piece-read count p.1 k.0 k.1 in
-      (k.0, read.0, t, read.1, k.2)
-]
-
 -- a type, a name and a piece
-media-read : (count : ℕ) (path : List ℕ) (p : List ℕ × List ℕ) (word : ScriptWord) → IsPath path → with_media count path p ≡ Some word
-    → IsWord count word × (codes "attach" ++ (space ∷ (written_path path ++ (space ∷ (p.0 ++ (space ∷ p.1))))) ≡ written word)
-media-read count path p word h e = elim (cases_Bool (is_name p.0)) [
-  | inr f ↦ absurd (none_some (rw f at e))
-  | inl t ↦
-      let q = and_then-some (with_name count path p.0) (parted space p.1) word (rw t at e) in
-      let r = name-read count path p.0 q.0 word q.2 in
-      let second : p.1 ≡ q.0.0 ++ (space ∷ decimal r.0) = parted-joined space p.1 q.0 q.1 ∙ ap (λ n. q.0.0 ++ (space ∷ n)) r.3 in
-      subst (λ w. IsWord count w × (codes "attach" ++ (space ∷ (written_path path ++ (space ∷ (p.0 ++ (space ∷ p.1))))) ≡ written w)) r.4
-      ((h, t, r.2, r.1), ap (λ l. codes "attach" ++ (space ∷ (written_path path ++ (space ∷ (p.0 ++ (space ∷ l)))))) second)
-]
-
 attach-read : (count : ℕ) (rest : List ℕ) (word : ScriptWord) → attaching count rest ≡ Some word → IsWord count word × (codes "attach" ++ (space ∷ rest) ≡ written word)
 attach-read count rest word e =
-    let p = and_then-some (λ (p : List ℕ × List ℕ). option_and_then (λ path. option_and_then (with_media count path) (parted space p.1)) (path_of p.0)) (parted space rest) word e in
-    let q = and_then-some (λ path. option_and_then (with_media count path) (parted space p.0.1)) (path_of p.0.0) word p.2 in
-    let s = and_then-some (with_media count q.0) (parted space p.0.1) word q.2 in
-    let read = path_front rest p.0 q.0 p.1 q.1 in
-    let r = media-read count q.0 s.0 word read.0 s.2 in
-    let whole : rest ≡ written_path q.0 ++ (space ∷ (s.0.0 ++ (space ∷ s.0.1))) = read.1 ∙ ap (λ l. written_path q.0 ++ (space ∷ l)) (parted-joined space p.0.1 s.0 s.1) in
-    (r.0, ap (λ l. codes "attach" ++ (space ∷ l)) whole ∙ r.1)
+    let p = path-read (λ path. read_first as_name (λ media. read_first as_name (λ name number. option_map (λ piece. Attaches path media name piece) (piece_of count number)))) rest word e in
+    let m = name-read (λ media. read_first as_name (λ name number. option_map (λ piece. Attaches p.0 media name piece) (piece_of count number))) p.1 word p.3 in
+    let n = name-read (λ name number. option_map (λ piece. Attaches p.0 m.0 name piece) (piece_of count number)) m.1 word m.3 in
+    let k = map-some (λ piece. Attaches p.0 m.0 n.0 piece) (piece_of count n.1) word n.3 in
+    let read = piece-read count n.1 k.0 k.1 in
+    let third : m.1 ≡ n.0 ++ (space ∷ decimal k.0) = n.4 ∙ ap (λ l. n.0 ++ (space ∷ l)) read.1 in
+    let whole : rest ≡ written_path p.0 ++ (space ∷ (m.0 ++ (space ∷ (n.0 ++ (space ∷ decimal k.0))))) =
+    p.4 ∙ ap (λ l. written_path p.0 ++ (space ∷ l)) (m.4 ∙ ap (λ l. m.0 ++ (space ∷ l)) third) in
+    subst (λ w. IsWord count w × (codes "attach" ++ (space ∷ rest) ≡ written w)) k.2 ((p.2, m.2, n.2, read.0), ap (λ l. codes "attach" ++ (space ∷ l)) whole)
 
 pub attaching-written : (count : ℕ) (path media name : List ℕ) (piece : ℕ) → IsPath path → is_name media ≡ true → is_name name ≡ true → IsPiece count piece
     → attaching count (written_path path ++ (space ∷ (media ++ (space ∷ (name ++ (space ∷ decimal piece)))))) ≡ Some (Attaches path media name piece)
 attaching-written count path media name piece h m n k =
     rw (parted-append space (written_path path) (media ++ (space ∷ (name ++ (space ∷ decimal piece)))) (path_holds path h), path_of-written path h, parted-append space media (name ++ (space ∷ decimal piece)) (name_holds media m), m, parted-append space name (decimal piece) (name_holds name n), n, piece-written count piece k) refl
 
--- a piece after a path and a type
-text-read : (count : ℕ) (path : List ℕ) (p : List ℕ × List ℕ) (word : ScriptWord) → IsPath path → with_text count path p ≡ Some word
-    → IsWord count word × (codes "attach-text" ++ (space ∷ (written_path path ++ (space ∷ (p.0 ++ (space ∷ p.1))))) ≡ written word)
-text-read count path p word h e = elim (cases_Bool (is_name p.0)) [
-  | inr f ↦ absurd (none_some (rw f at e))
-  | inl t ↦
-      let k = map-some (λ piece. AttachesText path p.0 piece) (piece_of count p.1) word (rw t at e) in
-      let read = piece-read count p.1 k.0 k.1 in
-      subst (λ w. IsWord count w × (codes "attach-text" ++ (space ∷ (written_path path ++ (space ∷ (p.0 ++ (space ∷ p.1))))) ≡ written w)) k.2
-      ((h, t, read.0), ap (λ l. codes "attach-text" ++ (space ∷ (written_path path ++ (space ∷ (p.0 ++ (space ∷ l)))))) read.1)
-]
-
+-- a type and a piece
 attach_text-read : (count : ℕ) (rest : List ℕ) (word : ScriptWord) → attaching_text count rest ≡ Some word → IsWord count word × (codes "attach-text" ++ (space ∷ rest) ≡ written word)
 attach_text-read count rest word e =
-    let p = and_then-some (λ (p : List ℕ × List ℕ). option_and_then (λ path. option_and_then (with_text count path) (parted space p.1)) (path_of p.0)) (parted space rest) word e in
-    let q = and_then-some (λ path. option_and_then (with_text count path) (parted space p.0.1)) (path_of p.0.0) word p.2 in
-    let s = and_then-some (with_text count q.0) (parted space p.0.1) word q.2 in
-    let read = path_front rest p.0 q.0 p.1 q.1 in
-    let r = text-read count q.0 s.0 word read.0 s.2 in
-    let whole : rest ≡ written_path q.0 ++ (space ∷ (s.0.0 ++ (space ∷ s.0.1))) = read.1 ∙ ap (λ l. written_path q.0 ++ (space ∷ l)) (parted-joined space p.0.1 s.0 s.1) in
-    (r.0, ap (λ l. codes "attach-text" ++ (space ∷ l)) whole ∙ r.1)
+    let p = path-read (λ path. read_first as_name (λ media number. option_map (λ piece. AttachesText path media piece) (piece_of count number))) rest word e in
+    let m = name-read (λ media number. option_map (λ piece. AttachesText p.0 media piece) (piece_of count number)) p.1 word p.3 in
+    let k = map-some (λ piece. AttachesText p.0 m.0 piece) (piece_of count m.1) word m.3 in
+    let read = piece-read count m.1 k.0 k.1 in
+    let whole : rest ≡ written_path p.0 ++ (space ∷ (m.0 ++ (space ∷ decimal k.0))) =
+    p.4 ∙ ap (λ l. written_path p.0 ++ (space ∷ l)) (m.4 ∙ ap (λ l. m.0 ++ (space ∷ l)) read.1) in
+    subst (λ w. IsWord count w × (codes "attach-text" ++ (space ∷ rest) ≡ written w)) k.2 ((p.2, m.2, read.0), ap (λ l. codes "attach-text" ++ (space ∷ l)) whole)
 
 pub attaching_text-written : (count : ℕ) (path media : List ℕ) (piece : ℕ) → IsPath path → is_name media ≡ true → IsPiece count piece
     → attaching_text count (written_path path ++ (space ∷ (media ++ (space ∷ decimal piece)))) ≡ Some (AttachesText path media piece)
@@ -158,17 +115,11 @@ attaching_text-written count path media piece h m k =
 charset-read : (count : ℕ) (rest : List ℕ) (word : ScriptWord) → with_charset count rest ≡ Some word
     → IsWord count word × (codes "content" ++ (space ∷ (codes "--charset" ++ (space ∷ rest))) ≡ written word)
 charset-read count rest word e =
-    let p = and_then-some (λ (p : List ℕ × List ℕ). if is_name p.0 then placing count (λ path piece. SetsText p.0 path piece) p.1 else None) (parted space rest) word e in
-    let whole : rest ≡ p.0.0 ++ (space ∷ p.0.1) = parted-joined space rest p.0 p.1 in
-    elim (cases_Bool (is_name p.0.0)) [
-      | inr f ↦ absurd (none_some (rw f at p.2))
-      | inl t ↦
-          let front = codes "content" ++ (space ∷ (codes "--charset" ++ (space ∷ p.0.0))) in
-          let read = placing-read count front (λ path piece. SetsText p.0.0 path piece) p.0.1 word (λ path piece h k. ((t, h, k), refl)) (rw t at p.2) in
-          (read.0, ap (λ l. codes "content" ++ (space ∷ (codes "--charset" ++ (space ∷ l)))) whole ∙ read.1)
-    ]
+    let m = name-read (λ charset place. placing count (λ path piece. SetsText charset path piece) place) rest word e in
+    let front = codes "content" ++ (space ∷ (codes "--charset" ++ (space ∷ m.0))) in
+    let read = placing-read count front (λ path piece. SetsText m.0 path piece) m.1 word (λ path piece h k. ((m.2, h, k), refl)) m.3 in
+    (read.0, ap (λ l. codes "content" ++ (space ∷ (codes "--charset" ++ (space ∷ l)))) m.4 ∙ read.1)
 
--- what stands after `--charset`
 past-read : (rest more : List ℕ) → past_charset rest ≡ Some more → rest ≡ codes "--charset" ++ (space ∷ more)
 past-read rest more e =
     let p = and_then-some (λ (p : List ℕ × List ℕ). if bytes_eq p.0 (codes "--charset") then Some p.1 else None) (parted space rest) more e in

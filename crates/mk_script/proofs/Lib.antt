@@ -1,6 +1,7 @@
 pub mod NumberLemmas
 pub mod PathLemmas
 pub mod PieceLemmas
+pub mod FirstWords
 pub mod TargetLemmas
 pub mod WordLemmas
 pub mod LineLemmas
@@ -8,6 +9,7 @@ pub mod ScriptTurns
 pub mod WrittenLemmas
 pub mod PieceWords
 pub mod PlacedWords
+pub mod FaultyWords
 pub mod JobWords
 pub mod TurnedLines
 pub mod ScriptsWritten

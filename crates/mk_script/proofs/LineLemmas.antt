@@ -7,7 +7,7 @@ use Rattle.std.specs.Str.{bytes_eq}
 use Rattle.mk_script.specs.Script.{ScriptWord, ScriptLine, Edits, Undoes, Redoes, Begins, Ends, word_of, line_of}
 use Rattle.mk_script.specs.Written.{written, IsLine, written_line}
 use Rattle.mk_script.proofs.NumberLemmas.{some_same, none_some}
-use Rattle.mk_script.proofs.TargetLemmas.{map-some}
+use Rattle.mk_script.proofs.FirstWords.{map-some}
 use Rattle.mk_script.proofs.WordLemmas.{word_of-read, word_of-written}
 
 -- a line that is one name

@@ -8,7 +8,8 @@ use Rattle.std.specs.Fmt.{decimal}
 use Rattle.std.specs.List.{list_all}
 use Rattle.std.specs.Char.{digit_value, is_digit}
 use Rattle.std.specs.Str.Parse.{AllDigits, digits_value}
-use Rattle.mk_script.specs.Paths.{number_of, number_after, zero_digit}
+use Rattle.mk_script.specs.Paths.{number_of, zero_digit}
+use Rattle.mk_script.specs.inner.Numbers.{number_after}
 
 pub some_same : {A : Type 0} {a b : A} → Some a ≡ Some b → a ≡ b
 some_same e = cc

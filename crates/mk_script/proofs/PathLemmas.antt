@@ -3,10 +3,11 @@ use Rattle.std.proofs.Common.{◌≡◌, ◌==◌, ◌+◌, ◌*◌, ◌^◌, �
 use Rattle.std.proofs.Math.Seq.{drop-cons}
 use Rattle.std.proofs.lemmas.Bool.{cases_Bool, le-ltb, lt-ltb, ltb-true, ltb-false}
 use Rattle.std.proofs.lemmas.List.{drop_all}
-use Rattle.std.specs.List.{list_all, position_or_len}
+use Rattle.std.specs.List.{list_all, onto_first, position_or_len}
 use Rattle.std.specs.Char.{digit_value, is_digit}
 use Rattle.std.specs.Str.Parse.{digits_value_after}
-use Rattle.mk_script.specs.Paths.{number_after, pieces_of, parted, onto_first_piece}
+use Rattle.mk_script.specs.Paths.{parted}
+use Rattle.mk_script.specs.inner.Numbers.{number_after, pieces_of}
 
 -- more digits make no smaller number
 digits_value_after-ge : (n : ℕ) (digits : List ℕ) → n ≤ digits_value_after 10 n digits
@@ -56,7 +57,7 @@ pieces_of-at separator (byte ∷ bytes) h = elim (cases_Bool (byte == separator)
       let e : 1 + place_of separator bytes ≡ suc (place_of separator bytes) = omega arith in
       let within : 1 + place_of separator bytes < suc (length bytes) = rw f at h in
       let rest = pieces_of-at separator bytes (omega arith) in
-      rw (f, e) (ap (onto_first_piece byte) rest)
+      rw (f, e) (ap (onto_first byte) rest)
 ]
 
 pieces_of-alone : (separator : ℕ) (text : List ℕ) → length text ≤ place_of separator text → pieces_of separator text ≡ text ∷ []
@@ -66,7 +67,7 @@ pieces_of-alone separator (byte ∷ bytes) h = elim (cases_Bool (byte == separat
   | inr f ↦
       let past : suc (length bytes) ≤ 1 + place_of separator bytes = rw f at h in
       let rest = pieces_of-alone separator bytes (omega arith) in
-      rw f (ap (onto_first_piece byte) rest)
+      rw f (ap (onto_first byte) rest)
 ]
 
 -- a text with a separator is the piece before it and the pieces after it

@@ -2,11 +2,12 @@
 use Rattle.std.proofs.Common.{◌≡◌, ◌≢◌, ◌==◌, ◌+◌, ◌<◌, ◌≤◌, ℕ, suc, true, false, nat_lt, List, [], ◌∷◌, ◌++◌, length, Some, None, Option, refl, sym, ap, ◌∙◌, inl, inr, arith}
 use Rattle.std.proofs.lemmas.Bool.{cases_Bool, eq-eqb, ne_eqb, lt-ltb, le-ltb, ltb-true, ltb-false}
 use Rattle.std.proofs.lemmas.Bool.Decides.{eqb_tells}
-use Rattle.std.specs.List.{join_with_byte, position_or_len}
+use Rattle.std.specs.List.{join_with_byte, onto_first, position_or_len}
 use Rattle.std.specs.Option.{option_map}
 use Rattle.std.specs.Char.{digit_value}
 use Rattle.std.specs.Str.Parse.{AllDigits}
-use Rattle.mk_script.specs.Paths.{parted, pieces_of, onto_first_piece}
+use Rattle.mk_script.specs.Paths.{parted}
+use Rattle.mk_script.specs.inner.Numbers.{pieces_of}
 use Rattle.mk_script.proofs.NumberLemmas.{some_same, none_some}
 
 -- a byte does not stand in a text
@@ -41,13 +42,13 @@ pieces_of-append : (separator : ℕ) (piece rest : List ℕ) → HoldsNo separat
 pieces_of-append separator [] rest h = let here : (separator == separator) ≡ true = eq-eqb separator separator refl in rw here refl
 pieces_of-append separator (byte ∷ bytes) rest h =
     let other : (byte == separator) ≡ false = ne_eqb byte separator h.0 in
-    rw other (ap (onto_first_piece byte) (pieces_of-append separator bytes rest h.1))
+    rw other (ap (onto_first byte) (pieces_of-append separator bytes rest h.1))
 
 pieces_of-one : (separator : ℕ) (piece : List ℕ) → HoldsNo separator piece → pieces_of separator piece ≡ piece ∷ []
 pieces_of-one separator [] h = refl
 pieces_of-one separator (byte ∷ bytes) h =
     let other : (byte == separator) ≡ false = ne_eqb byte separator h.0 in
-    rw other (ap (onto_first_piece byte) (pieces_of-one separator bytes h.1))
+    rw other (ap (onto_first byte) (pieces_of-one separator bytes h.1))
 
 pub pieces_of-join : (separator : ℕ) (piece : List ℕ) (pieces : List (List ℕ)) → AllHoldNo separator (piece ∷ pieces)
     → pieces_of separator (join_with_byte separator (piece ∷ pieces)) ≡ piece ∷ pieces
@@ -55,7 +56,7 @@ pieces_of-join separator piece [] h = pieces_of-one separator piece h.0
 pieces_of-join separator piece (next ∷ pieces) h =
     pieces_of-append separator piece (join_with_byte separator (next ∷ pieces)) h.0 ∙ ap (λ rest. piece ∷ rest) (pieces_of-join separator next pieces h.1)
 
-join-onto_first : (separator byte : ℕ) (pieces : List (List ℕ)) → join_with_byte separator (onto_first_piece byte pieces) ≡ byte ∷ join_with_byte separator pieces
+join-onto_first : (separator byte : ℕ) (pieces : List (List ℕ)) → join_with_byte separator (onto_first byte pieces) ≡ byte ∷ join_with_byte separator pieces
 join-onto_first separator byte [] = refl
 join-onto_first separator byte (piece ∷ []) = refl
 join-onto_first separator byte (piece ∷ next ∷ pieces) = refl
@@ -65,7 +66,7 @@ abbrev pub HasFirst : List (List ℕ) → Type 0
 HasFirst [] = ⊥
 HasFirst (piece ∷ pieces) = Unit {0}
 
-HasFirst-onto : (byte : ℕ) (pieces : List (List ℕ)) → HasFirst (onto_first_piece byte pieces)
+HasFirst-onto : (byte : ℕ) (pieces : List (List ℕ)) → HasFirst (onto_first byte pieces)
 HasFirst-onto byte [] = tt
 HasFirst-onto byte (piece ∷ pieces) = tt
 

@@ -5,13 +5,14 @@ use Rattle.std.proofs.lemmas.Slice.Eq.{bytes_eq-Decides}
 use Rattle.std.specs.Option.{option_map}
 use Rattle.std.specs.Str.{bytes_eq}
 use Rattle.mk_line.specs.Ascii.{space}
-use Rattle.mk_script.specs.Paths.{parted, number_of, path_of}
-use Rattle.mk_script.specs.Script.{ScriptWord, piece_of, with_piece, placed, placing}
+use Rattle.mk_script.specs.Paths.{number_of}
+use Rattle.mk_script.specs.Script.{ScriptWord, piece_of, placed}
+use Rattle.mk_script.specs.inner.Words.{placing}
 use Rattle.mk_script.specs.Written.{IsPath, IsPiece, written_path, written_place, IsWord, written}
 use Rattle.mk_script.proofs.NumberLemmas.{some_same, none_some, number_of-decimal, number_of-written}
-use Rattle.mk_script.proofs.PieceLemmas.{parted-append, parted-joined}
-use Rattle.mk_script.proofs.WrittenLemmas.{path_of-decimal, path_of-written}
-use Rattle.mk_script.proofs.TargetLemmas.{and_then-some, map-some, path_holds}
+use Rattle.mk_script.proofs.PieceLemmas.{parted-append}
+use Rattle.mk_script.proofs.WrittenLemmas.{path_of-written}
+use Rattle.mk_script.proofs.FirstWords.{and_then-some, map-some, path-read, path_holds}
 
 -- a word's name, a space and what it is given make up the line
 pub named : (name line : List ℕ) (word : ScriptWord) (p : List ℕ × List ℕ) → line ≡ p.0 ++ (space ∷ p.1) → bytes_eq p.0 name ≡ true
@@ -33,22 +34,14 @@ piece-read count text piece e =
 pub piece-written : (count piece : ℕ) → IsPiece count piece → piece_of count (decimal piece) ≡ Some piece
 piece-written count piece h = let there : nat_le piece count ≡ true = le-leb piece count h.there in rw (number_of-written piece h.some h.fits, there) refl
 
--- a path and a piece
-with_piece-read : (count : ℕ) (p : List ℕ × List ℕ) (found : List ℕ × ℕ) → with_piece count p ≡ Some found
-    → IsPath found.0 × IsPiece count found.1 × (p.0 ≡ written_path found.0) × (p.1 ≡ decimal found.1)
-with_piece-read count p found e =
-    let q = and_then-some (λ path. option_map (λ piece. (path, piece)) (piece_of count p.1)) (path_of p.0) found e in
-    let k = map-some (λ piece. (q.0, piece)) (piece_of count p.1) found q.2 in
-    let path = path_of-decimal p.0 q.0 q.1 in
-    let piece = piece-read count p.1 k.0 k.1 in
-    subst (λ (f : List ℕ × ℕ). IsPath f.0 × IsPiece count f.1 × (p.0 ≡ written_path f.0) × (p.1 ≡ decimal f.1)) k.2 (path.0, piece.0, path.1, piece.1)
+-- ---- a path and a piece
 
 placed-read : (count : ℕ) (rest : List ℕ) (found : List ℕ × ℕ) → placed count rest ≡ Some found → IsPath found.0 × IsPiece count found.1 × (rest ≡ written_place found.0 found.1)
 placed-read count rest found e =
-    let p = and_then-some (with_piece count) (parted space rest) found e in
-    let r = with_piece-read count p.0 found p.2 in
-    let joined : rest ≡ p.0.0 ++ (space ∷ p.0.1) = parted-joined space rest p.0 p.1 in
-    (r.0, r.1, joined ∙ (ap (λ front. front ++ (space ∷ p.0.1)) r.2 ∙ ap (λ n. written_path found.0 ++ (space ∷ n)) r.3))
+    let p = path-read (λ path number. option_map (λ piece. (path, piece)) (piece_of count number)) rest found e in
+    let k = map-some (λ piece. (p.0, piece)) (piece_of count p.1) found p.3 in
+    let read = piece-read count p.1 k.0 k.1 in
+    subst (λ (f : List ℕ × ℕ). IsPath f.0 × IsPiece count f.1 × (rest ≡ written_place f.0 f.1)) k.2 (p.2, read.0, p.4 ∙ ap (λ n. written_path p.0 ++ (space ∷ n)) read.1)
 
 -- a word that is given a path and a piece is the one that is made of them
 pub placing-read : (count : ℕ) (name : List ℕ) (make : List ℕ → ℕ → ScriptWord) (rest : List ℕ) (word : ScriptWord)

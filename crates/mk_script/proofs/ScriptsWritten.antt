@@ -1,12 +1,13 @@
 -- Steps come back from the lines that they are written as.
-use Rattle.std.proofs.Common.{◌≡◌, ◌+◌, ◌++◌, if◌then◌else◌, ℕ, Bool, true, false, Option, None, Some, Result, Ok, List, [], ◌∷◌, length, map, refl, ap, sym, ◌∙◌, subst, append-nil, append_assoc, arith}
+use Rattle.std.proofs.Common.{◌≡◌, ◌+◌, ◌++◌, if◌then◌else◌, ℕ, Bool, true, false, Option, None, Some, Result, Ok, Err, List, [], ◌∷◌, length, map, refl, ap, sym, ◌∙◌, subst, append-nil, append_assoc, arith}
 use Rattle.std.proofs.lemmas.List.{map-append}
 use Rattle.std.specs.List.{flat_map}
+use Rattle.std.specs.Option.{option_map_or}
 use Rattle.mk_line.specs.declared.cutting.Ending.TheVariants.{Lf}
 use Rattle.mk_line.specs.Lines.{AreLines, TextLine, cut, text_line, text_of}
 use Rattle.mk_line.proofs.Cuts.{cut_text}
 use Rattle.mk_script.specs.Script.{ScriptWord, Adds, Deletes, Renames, Sets, Bodies, Replaces, Inserts, Removes, Wraps, SetsContent, SetsText, Encodes, Puts, PutsPiece, DropsAll, Appends, AppendsText, Attaches, AttachesText, ScriptLine, Edits, Undoes, Redoes, Begins, Ends, NumberedLine, is_skipped, line_of, lines_from, lines_of}
-use Rattle.mk_script.specs.ScriptSteps.{ScriptStep, Makes, Groups, TakesBack, MakesAgain, first_fault, has_end, script_of, steps_from, unless_fault}
+use Rattle.mk_script.specs.ScriptSteps.{ScriptStep, Makes, Groups, TakesBack, MakesAgain, first_fault, has_end, script_of, steps_from}
 use Rattle.mk_script.specs.Written.{IsLine, IsWord, written, written_line}
 use Rattle.mk_script.specs.WrittenScripts.{AreSteps, AreWords, IsWrittenStep, ScriptsAreWritten, step_lines, written_steps}
 use Rattle.mk_script.proofs.LineLemmas.{line_of-written}
@@ -138,5 +139,5 @@ pub scripts_written : ScriptsAreWritten
 scripts_written count steps are lines =
     let said = flat_map step_lines steps in
     let read : lines_of count (text_of (written_steps steps)) ≡ numbered 1 said = ap (lines_from count 1) (cut_text (written_steps steps) lines) ∙ lines_read count 1 said (steps_stand count 1 steps are) in
-    ap (λ ls. unless_fault (first_fault false ls) (steps_from None ls)) read
-    ∙ (ap (λ f. unless_fault f (steps_from None (numbered 1 said))) (sound count 1 steps) ∙ ap Ok (back count 1 steps are))
+    ap (λ ls. option_map_or Err (first_fault false ls) (Ok (steps_from None ls))) read
+    ∙ (ap (λ f. option_map_or Err f (Ok (steps_from None (numbered 1 said)))) (sound count 1 steps) ∙ ap Ok (back count 1 steps are))

@@ -1,11 +1,16 @@
 -- Lines with another ending are lines.
 use Rattle.std.proofs.Common.{◌≡◌, ◌≢◌, ◌⊎◌, ◌==◌, ◌&&◌, ◌||◌, ◌++◌, ◌∙◌, if◌then◌else◌, ℕ, Bool, true, false, List, [], ◌∷◌, map, refl, ap, sym, subst, inl, inr}
 use Rattle.std.proofs.lemmas.Bool.{cases_Bool, eqb-true}
+use Rattle.std.specs.List.{list_all}
 use Rattle.mk_line.specs.declared.cutting.Ending.{Ending}
 use Rattle.mk_line.specs.declared.cutting.Ending.TheVariants.{Crlf, Lf, Missing}
 use Rattle.mk_line.specs.Lines.{AreLines, IsLine, TextLine, cut, ends_in_return, has_line_feed, text_line, text_of}
 use Rattle.mk_line.proofs.Cuts.{cut_text, lines_cut}
-use Rattle.mk_script.specs.Endings.{HaveEnding, are_returns, content_before, turned_ending, turned_line, turned_to, without_returns}
+use Rattle.mk_script.specs.Endings.{HaveEnding, content_before, turned_ending, turned_line, turned_to, without_returns}
+
+-- no byte but carriage returns
+abbrev pub are_returns : List ℕ → Bool
+are_returns bytes = list_all (λ byte. byte == 13) bytes
 
 -- a carriage return more at the end
 returns_more : (xs : List ℕ) → are_returns (xs ++ 13 ∷ []) ≡ are_returns xs

@@ -1,41 +1,32 @@
 -- The words of a script, as they are written.
-use Rattle.std.proofs.Common.{◌≡◌, ℕ, Bool, true, false, if◌then◌else◌, List, ◌∷◌, ◌++◌, Some, None, Option, codes, decimal, map, refl, ap, ◌∙◌, subst, inl, inr}
+use Rattle.std.proofs.Common.{◌≡◌, ℕ, Bool, true, false, if◌then◌else◌, List, ◌∷◌, ◌++◌, Some, None, Option, codes, decimal, map, refl, ap, subst, inl, inr}
 use Rattle.std.proofs.lemmas.Bool.{cases_Bool}
 use Rattle.std.specs.List.{join_with_byte}
-use Rattle.std.specs.Option.{option_map, option_and_then}
+use Rattle.std.specs.Option.{option_and_then}
 use Rattle.std.specs.Str.{bytes_eq}
 use Rattle.mk_line.specs.Ascii.{space}
-use Rattle.mk_script.specs.Paths.{parted, path_of}
+use Rattle.mk_script.specs.Paths.{parted}
 use Rattle.mk_script.specs.Targets.{Target, is_name, whole_target, target_front}
-use Rattle.mk_script.specs.Script.{ScriptWord, Adds, Deletes, Renames, Sets, Bodies, Replaces, Inserts, Removes, Wraps, SetsContent, SetsText, Encodes, Puts, PutsPiece, DropsAll, Appends, AppendsText, Attaches, AttachesText, adding, deleting, renaming, setting, word_at, word_with, word_of}
+use Rattle.mk_script.specs.Script.{ScriptWord, Adds, Deletes, Renames, Sets, Bodies, Replaces, Inserts, Removes, Wraps, SetsContent, SetsText, Encodes, Puts, PutsPiece, DropsAll, Appends, AppendsText, Attaches, AttachesText, word_at, word_with, word_of}
+use Rattle.mk_script.specs.inner.Words.{adding, deleting, renaming, setting}
 use Rattle.mk_script.specs.Written.{IsPath, encoding_word, written_path, written_target, written_place, IsWord, written}
 use Rattle.mk_script.proofs.NumberLemmas.{some_same, none_some}
 use Rattle.mk_script.proofs.PieceLemmas.{parted-append, parted-joined}
-use Rattle.mk_script.proofs.WrittenLemmas.{path_of-decimal, path_of-written}
+use Rattle.mk_script.proofs.WrittenLemmas.{path_of-written}
 use Rattle.mk_script.proofs.PlacedWords.{named, placing-written}
 use Rattle.mk_script.proofs.PieceWords.{word_on-parts, inserting-written, removing-written, wrapping-written}
 use Rattle.mk_script.proofs.JobWords.{attaching-written, attaching_text-written, charset-written, content-written, dropping-written, encoding-written, putting-written}
-use Rattle.mk_script.proofs.TargetLemmas.{and_then-some, map-some, name_holds, path_holds, whole_target-read, whole_target-written, target_front-read, target_front-written}
+use Rattle.mk_script.proofs.TargetLemmas.{whole_target-read, whole_target-written, target_front-read, target_front-written}
+use Rattle.mk_script.proofs.FirstWords.{and_then-some, map-some, name_holds, path-read, path_holds}
 
 -- the name of a word that adds a field
 abbrev name_of : Bool → List ℕ
 name_of top = if top then codes "top" else codes "add"
 
-adding-path : (count : ℕ) (top : Bool) (rest : List ℕ) (word : ScriptWord) (p : List ℕ × List ℕ) (path : Option (List ℕ))
-    → rest ≡ p.0 ++ (space ∷ p.1) → path_of p.0 ≡ path → option_map (λ numbers. Adds numbers top p.1) path ≡ Some word
-    → IsWord count word × (name_of top ++ (space ∷ rest) ≡ written word)
-adding-path count top rest word p None parts e said = absurd (none_some said)
-adding-path count top rest word p (Some path) parts e said =
-    let same : Adds path top p.1 ≡ word = some_same said in
-    let read = path_of-decimal p.0 path e in
-    let is : rest ≡ written_path path ++ (space ∷ p.1) = parts ∙ ap (λ front. front ++ (space ∷ p.1)) read.1 in
-    subst (λ w. IsWord count w × (name_of top ++ (space ∷ rest) ≡ written w)) same (read.0, ap (λ l. name_of top ++ (space ∷ l)) is)
-
-adding-parts : (count : ℕ) (top : Bool) (rest : List ℕ) (word : ScriptWord) (parts : Option (List ℕ × List ℕ))
-    → parted space rest ≡ parts → option_and_then (λ p. option_map (λ path. Adds path top p.1) (path_of p.0)) parts ≡ Some word
-    → IsWord count word × (name_of top ++ (space ∷ rest) ≡ written word)
-adding-parts count top rest word None e said = absurd (none_some said)
-adding-parts count top rest word (Some p) e said = adding-path count top rest word p (path_of p.0) (parted-joined space rest p e) refl said
+adding-read : (count : ℕ) (top : Bool) (rest : List ℕ) (word : ScriptWord) → adding top rest ≡ Some word → IsWord count word × (name_of top ++ (space ∷ rest) ≡ written word)
+adding-read count top rest word e =
+    let p = path-read (λ path field. Some (Adds path top field)) rest word e in
+    subst (λ w. IsWord count w × (name_of top ++ (space ∷ rest) ≡ written w)) (some_same p.3) (p.2, ap (λ l. name_of top ++ (space ∷ l)) p.4)
 
 deleting-read : (count : ℕ) (rest : List ℕ) (word : ScriptWord) → deleting rest ≡ Some word → IsWord count word × (codes "del" ++ (space ∷ rest) ≡ written word)
 deleting-read count rest word said =
@@ -76,9 +67,9 @@ word_at-parts count line word p parts said = elim (cases_Bool (bytes_eq p.0 (cod
 word_with-parts : (count : ℕ) (line : List ℕ) (word : ScriptWord) (p : List ℕ × List ℕ) → line ≡ p.0 ++ (space ∷ p.1) → word_with count p ≡ Some word
     → IsWord count word × (line ≡ written word)
 word_with-parts count line word p parts said = elim (cases_Bool (bytes_eq p.0 (codes "add"))) [
-  | inl add ↦ let read = adding-parts count false p.1 word (parted space p.1) refl (rw add at said) in (read.0, named (codes "add") line word p parts add read.1)
+  | inl add ↦ let read = adding-read count false p.1 word (rw add at said) in (read.0, named (codes "add") line word p parts add read.1)
   | inr other ↦ elim (cases_Bool (bytes_eq p.0 (codes "top"))) [
-    | inl top ↦ let read = adding-parts count true p.1 word (parted space p.1) refl (rw (other, top) at said) in (read.0, named (codes "top") line word p parts top read.1)
+    | inl top ↦ let read = adding-read count true p.1 word (rw (other, top) at said) in (read.0, named (codes "top") line word p parts top read.1)
     | inr neither ↦ word_at-parts count line word p parts (rw (other, neither) at said)
   ]
 ]

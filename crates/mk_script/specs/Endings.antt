@@ -1,5 +1,5 @@
 -- Texts with other endings at their lines (own).
-use Rattle.std.specs.Prelude.{◌≡◌, ◌≢◌, ◌⊎◌, ◌==◌, if◌then◌else◌, ℕ, Bool, List, [], ◌∷◌, map}
+use Rattle.std.specs.Prelude.{◌≡◌, ◌≢◌, ◌⊎◌, ◌==◌, if◌then◌else◌, ℕ, List, [], ◌∷◌, map}
 use Rattle.std.specs.List.{list_all}
 use Rattle.mk_line.specs.Ascii.{carriage_return}
 use Rattle.mk_line.specs.declared.cutting.Ending.{Ending}
@@ -12,14 +12,10 @@ turned_ending eol Crlf = eol
 turned_ending eol Lf = eol
 turned_ending eol Missing = Missing
 
--- no byte but carriage returns
-abbrev pub are_returns : List ℕ → Bool
-are_returns bytes = list_all (λ byte. byte == carriage_return) bytes
-
 -- bytes without the carriage returns at their end
 abbrev pub without_returns : List ℕ → List ℕ
 without_returns [] = []
-without_returns (byte ∷ bytes) = if are_returns (byte ∷ bytes) then [] else byte ∷ without_returns bytes
+without_returns (byte ∷ bytes) = if list_all (λ b. b == carriage_return) (byte ∷ bytes) then [] else byte ∷ without_returns bytes
 
 -- a content before an ending: a line feed alone has no carriage return before it, which would be read as part of the ending (own)
 abbrev pub content_before : Ending → List ℕ → List ℕ

@@ -7,3 +7,4 @@ pub mod Targets
 pub mod Written
 pub mod WrittenScripts
 pub mod Reasons
+pub mod inner

@@ -1,13 +1,14 @@
 -- What a script says (own): one word a line, with what it is given, parted by one space.
 use Rattle.std.specs.Prelude.{◌==◌, ◌+◌, if◌then◌else◌, ℕ, Bool, true, false, List, [], ◌∷◌, Option, None, Some, codes, nat_le}
-use Rattle.std.specs.Option.{option_map, option_and_then}
+use Rattle.std.specs.List.{slice_split}
+use Rattle.std.specs.Option.{option_map, option_map_or, option_and_then}
 use Rattle.std.specs.Str.{bytes_eq}
 use Rattle.mk_line.specs.Ascii.{space}
 use Rattle.mk_line.specs.Lines.{TextLine, cut}
 use Rattle.mk_script.specs.declared.script.ChosenEncoding.{ChosenEncoding}
 use Rattle.mk_script.specs.declared.script.ChosenEncoding.TheVariants.{Qp, QuotedPrintable, Base64, EightBit, Identity}
-use Rattle.mk_script.specs.Paths.{parted, pieces_of, number_of, path_of}
-use Rattle.mk_script.specs.Targets.{Target, is_name, is_field_name, count_of, whole_target, target_front}
+use Rattle.mk_script.specs.Paths.{parted, number_of, read_each, path_of}
+use Rattle.mk_script.specs.Targets.{Target, as_name, is_name, is_field_name, count_of, read_first, whole_target, target_front}
 
 -- b'#'
 abbrev pub number_sign : ℕ
@@ -43,79 +44,13 @@ pub data ScriptLine : Type 0 where
   Begins : ScriptLine
   Ends : ScriptLine
 
--- `add` and `top` are given a path and then a field, which may hold spaces and may be empty
-abbrev pub adding : Bool → List ℕ → Option ScriptWord
-adding top rest = option_and_then (λ p. option_map (λ path. Adds path top p.1) (path_of p.0)) (parted space rest)
-
--- `del` is given the field to take out
-abbrev pub deleting : List ℕ → Option ScriptWord
-deleting rest = option_map (λ target. Deletes target) (whole_target rest)
-
--- `ren` is given a field and its new name
-abbrev pub renaming : List ℕ → Option ScriptWord
-renaming rest = option_and_then (λ p. if is_name p.1 then Some (Renames p.0 p.1) else None) (target_front rest)
-
--- `set` is given a field and the one for its place, which may hold spaces and may be empty
-abbrev pub setting : List ℕ → Option ScriptWord
-setting rest = option_map (λ p. Sets p.0 p.1) (target_front rest)
-
--- the number of a piece that a text writes, where there are so many
-abbrev pub within : ℕ → Option ℕ → Option ℕ
-within count number = option_and_then (λ k. if nat_le k count then Some k else None) number
-
--- the piece that a text names by its number
+-- the piece that a text names by its number, where there are so many
 abbrev pub piece_of : ℕ → List ℕ → Option ℕ
-piece_of count text = within count (number_of text)
-
--- a path, and a piece after it
-abbrev pub with_piece : ℕ → List ℕ × List ℕ → Option (List ℕ × ℕ)
-with_piece count p = option_and_then (λ path. option_map (λ piece. (path, piece)) (piece_of count p.1)) (path_of p.0)
+piece_of count text = option_and_then (λ k. if nat_le k count then Some k else None) (number_of text)
 
 -- a path and a piece, parted by one space
 abbrev pub placed : ℕ → List ℕ → Option (List ℕ × ℕ)
-placed count rest = option_and_then (with_piece count) (parted space rest)
-
--- `body`, `replace`, `content`, `put-piece`, `append` and `append-text` are given a path and a piece
-abbrev pub placing : ℕ → (List ℕ → ℕ → ScriptWord) → List ℕ → Option ScriptWord
-placing count word rest = option_map (λ p. word p.0 p.1) (placed count rest)
-
--- `insert` is given a path, how many parts stand before the new one, and a piece
-abbrev pub with_place : ℕ → List ℕ → List ℕ × List ℕ → Option ScriptWord
-with_place count path p = option_and_then (λ place. option_map (λ piece. Inserts path place piece) (piece_of count p.1)) (count_of p.0)
-
--- `insert` is given a path, and then a place and a piece
-abbrev pub with_places : ℕ → List ℕ × List ℕ → Option ScriptWord
-with_places count p = option_and_then (λ path. option_and_then (with_place count path) (parted space p.1)) (path_of p.0)
-
--- what `insert` is given, parted at its first space
-abbrev pub inserting : ℕ → List ℕ → Option ScriptWord
-inserting count rest = option_and_then (with_places count) (parted space rest)
-
--- a path before others, where all are there
-abbrev pub with_path : Option (List ℕ) → Option (List (List ℕ)) → Option (List (List ℕ))
-with_path None paths = None
-with_path (Some path) paths = option_map (λ ps. path ∷ ps) paths
-
--- the paths that texts write, where each writes one
-abbrev pub paths_of : List (List ℕ) → Option (List (List ℕ))
-paths_of [] = Some []
-paths_of (text ∷ texts) = with_path (path_of text) (paths_of texts)
-
--- `remove` is given one path or more, parted by one space
-abbrev pub removing : List ℕ → Option ScriptWord
-removing rest = option_map (λ paths. Removes paths) (paths_of (pieces_of space rest))
-
--- `wrap` is given a path, a subtype, and a boundary, which may hold spaces and may be empty
-abbrev pub with_subtype : List ℕ → List ℕ × List ℕ → Option ScriptWord
-with_subtype path p = if is_name p.0 then Some (Wraps path p.0 p.1) else None
-
--- `wrap` is given a path, and then a subtype and a boundary
-abbrev pub with_wrapping : List ℕ × List ℕ → Option ScriptWord
-with_wrapping p = option_and_then (λ path. option_and_then (with_subtype path) (parted space p.1)) (path_of p.0)
-
--- the words after `wrap`
-abbrev pub wrapping : List ℕ → Option ScriptWord
-wrapping rest = option_and_then with_wrapping (parted space rest)
+placed count rest = read_first path_of (λ path number. option_map (λ piece. (path, piece)) (piece_of count number)) rest
 
 -- the transfer encoding of a name: a short one, or one of the listing
 abbrev pub chosen : List ℕ → Option ChosenEncoding
@@ -126,85 +61,51 @@ chosen name =
     else (if bytes_eq name (codes "8bit") then Some EightBit
     else (if bytes_eq name (codes "identity") then Some Identity else None))))
 
--- `encode` is given a path and a transfer encoding
-abbrev pub encoding : List ℕ → Option ScriptWord
-encoding rest = option_and_then (λ p. option_and_then (λ path. option_map (λ to. Encodes path to) (chosen p.1)) (path_of p.0)) (parted space rest)
-
--- `put` is given a path and then a field, which may hold spaces and may be empty
-abbrev pub putting : List ℕ → Option ScriptWord
-putting rest = option_and_then (λ p. option_map (λ path. Puts path p.1) (path_of p.0)) (parted space rest)
-
--- `drop` is given a path and the name of fields, with its colon or without it
-abbrev pub dropping : List ℕ → Option ScriptWord
-dropping rest = option_and_then (λ p. option_and_then (λ path. if is_field_name p.1 then Some (DropsAll path p.1) else None) (path_of p.0)) (parted space rest)
-
--- a name and a piece after a path and a type
-abbrev pub with_name : ℕ → List ℕ → List ℕ → List ℕ × List ℕ → Option ScriptWord
-with_name count path media p = if is_name p.0 then option_map (λ piece. Attaches path media p.0 piece) (piece_of count p.1) else None
-
--- a type, and then a name and a piece, after a path
-abbrev pub with_media : ℕ → List ℕ → List ℕ × List ℕ → Option ScriptWord
-with_media count path p = if is_name p.0 then option_and_then (with_name count path p.0) (parted space p.1) else None
-
--- `attach` is given a path, a media type, a name and a piece
-abbrev pub attaching : ℕ → List ℕ → Option ScriptWord
-attaching count rest = option_and_then (λ p. option_and_then (λ path. option_and_then (with_media count path) (parted space p.1)) (path_of p.0)) (parted space rest)
-
--- a piece after a path and a media type
-abbrev pub with_text : ℕ → List ℕ → List ℕ × List ℕ → Option ScriptWord
-with_text count path p = if is_name p.0 then option_map (λ piece. AttachesText path p.0 piece) (piece_of count p.1) else None
-
--- `attach-text` is given a path, a media type and a piece
-abbrev pub attaching_text : ℕ → List ℕ → Option ScriptWord
-attaching_text count rest = option_and_then (λ p. option_and_then (λ path. option_and_then (with_text count path) (parted space p.1)) (path_of p.0)) (parted space rest)
-
--- `content --charset` is given a charset, a path and a piece
-abbrev pub with_charset : ℕ → List ℕ → Option ScriptWord
-with_charset count rest = option_and_then (λ p. if is_name p.0 then placing count (λ path piece. SetsText p.0 path piece) p.1 else None) (parted space rest)
-
 -- what stands after `--charset`, where a text begins with it
 abbrev pub past_charset : List ℕ → Option (List ℕ)
 past_charset rest = option_and_then (λ p. if bytes_eq p.0 (codes "--charset") then Some p.1 else None) (parted space rest)
 
--- `content` is given a path and a piece, after a charset where there is one
-abbrev pub content_by : ℕ → List ℕ → Option (List ℕ) → Option ScriptWord
-content_by count rest None = placing count (λ path piece. SetsContent path piece) rest
-content_by count rest (Some more) = with_charset count more
-
--- a word that stands for more than one edit, where there are so many pieces
+-- a word that stands for more than one edit, where there are so many pieces. `content`, `put-piece`, `append` and `append-text`
+-- are given a path and a piece, and `content` a charset before them after `--charset`; `encode` a path and a transfer encoding;
+-- `put` a path and a field; `drop` a path and the name of fields; `attach` a path, a media type, a name and a piece;
+-- `attach-text` the same without the name. A field may hold spaces and may be empty.
 abbrev pub job_of : ℕ → List ℕ × List ℕ → Option ScriptWord
 job_of count p =
-    if bytes_eq p.0 (codes "content") then content_by count p.1 (past_charset p.1)
-    else (if bytes_eq p.0 (codes "encode") then encoding p.1
-    else (if bytes_eq p.0 (codes "put") then putting p.1
-    else (if bytes_eq p.0 (codes "put-piece") then placing count (λ path piece. PutsPiece path piece) p.1
-    else (if bytes_eq p.0 (codes "drop") then dropping p.1
-    else (if bytes_eq p.0 (codes "append") then placing count (λ path piece. Appends path piece) p.1
-    else (if bytes_eq p.0 (codes "append-text") then placing count (λ path piece. AppendsText path piece) p.1
-    else (if bytes_eq p.0 (codes "attach") then attaching count p.1
-    else (if bytes_eq p.0 (codes "attach-text") then attaching_text count p.1 else None))))))))
+    if bytes_eq p.0 (codes "content") then option_map_or (read_first as_name (λ charset place. option_map (λ q. SetsText charset q.0 q.1) (placed count place))) (past_charset p.1) (option_map (λ q. SetsContent q.0 q.1) (placed count p.1))
+    else (if bytes_eq p.0 (codes "encode") then read_first path_of (λ path name. option_map (λ to. Encodes path to) (chosen name)) p.1
+    else (if bytes_eq p.0 (codes "put") then read_first path_of (λ path field. Some (Puts path field)) p.1
+    else (if bytes_eq p.0 (codes "put-piece") then option_map (λ q. PutsPiece q.0 q.1) (placed count p.1)
+    else (if bytes_eq p.0 (codes "drop") then read_first path_of (λ path name. if is_field_name name then Some (DropsAll path name) else None) p.1
+    else (if bytes_eq p.0 (codes "append") then option_map (λ q. Appends q.0 q.1) (placed count p.1)
+    else (if bytes_eq p.0 (codes "append-text") then option_map (λ q. AppendsText q.0 q.1) (placed count p.1)
+    else (if bytes_eq p.0 (codes "attach") then read_first path_of (λ path. read_first as_name (λ media. read_first as_name (λ name number. option_map (λ piece. Attaches path media name piece) (piece_of count number)))) p.1
+    else (if bytes_eq p.0 (codes "attach-text") then read_first path_of (λ path. read_first as_name (λ media number. option_map (λ piece. AttachesText path media piece) (piece_of count number))) p.1 else None))))))))
 
--- a word that changes more than fields, where there are so many pieces
+-- a word that changes more than fields, where there are so many pieces. `body` and `replace` are given a path and a piece;
+-- `insert` a path, how many parts stand before the new one, and a piece; `remove` one path or more; `wrap` a path, a subtype,
+-- and a boundary, which may hold spaces and may be empty.
 abbrev pub word_on : ℕ → List ℕ × List ℕ → Option ScriptWord
 word_on count p =
-    if bytes_eq p.0 (codes "body") then placing count (λ path piece. Bodies path piece) p.1
-    else (if bytes_eq p.0 (codes "replace") then placing count (λ path piece. Replaces path piece) p.1
-    else (if bytes_eq p.0 (codes "insert") then inserting count p.1
-    else (if bytes_eq p.0 (codes "remove") then removing p.1
-    else (if bytes_eq p.0 (codes "wrap") then wrapping p.1 else job_of count p))))
+    if bytes_eq p.0 (codes "body") then option_map (λ q. Bodies q.0 q.1) (placed count p.1)
+    else (if bytes_eq p.0 (codes "replace") then option_map (λ q. Replaces q.0 q.1) (placed count p.1)
+    else (if bytes_eq p.0 (codes "insert") then read_first path_of (λ path. read_first count_of (λ place number. option_map (λ piece. Inserts path place piece) (piece_of count number))) p.1
+    else (if bytes_eq p.0 (codes "remove") then option_map (λ paths. Removes paths) (read_each path_of (slice_split (λ byte. byte == space) p.1))
+    else (if bytes_eq p.0 (codes "wrap") then read_first path_of (λ path. read_first as_name (λ subtype boundary. Some (Wraps path subtype boundary))) p.1
+    else job_of count p))))
 
--- a word that changes a field which is there
+-- a word that changes a field which is there. `del` is given the field to take out; `ren` the field and its new name; `set` the
+-- field and the one for its place, which may hold spaces and may be empty.
 abbrev pub word_at : ℕ → List ℕ × List ℕ → Option ScriptWord
 word_at count p =
-    if bytes_eq p.0 (codes "del") then deleting p.1
-    else (if bytes_eq p.0 (codes "ren") then renaming p.1
-    else (if bytes_eq p.0 (codes "set") then setting p.1 else word_on count p))
+    if bytes_eq p.0 (codes "del") then option_map (λ target. Deletes target) (whole_target p.1)
+    else (if bytes_eq p.0 (codes "ren") then option_and_then (λ q. if is_name q.1 then Some (Renames q.0 q.1) else None) (target_front p.1)
+    else (if bytes_eq p.0 (codes "set") then option_map (λ q. Sets q.0 q.1) (target_front p.1) else word_on count p))
 
--- a word that is given something
+-- a word that is given something. `add` and `top` are given a path and then a field, which may hold spaces and may be empty.
 abbrev pub word_with : ℕ → List ℕ × List ℕ → Option ScriptWord
 word_with count p =
-    if bytes_eq p.0 (codes "add") then adding false p.1
-    else (if bytes_eq p.0 (codes "top") then adding true p.1 else word_at count p)
+    if bytes_eq p.0 (codes "add") then read_first path_of (λ path field. Some (Adds path false field)) p.1
+    else (if bytes_eq p.0 (codes "top") then read_first path_of (λ path field. Some (Adds path true field)) p.1 else word_at count p)
 
 -- the word that a line says, where it is one and there are so many pieces
 abbrev pub word_of : ℕ → List ℕ → Option ScriptWord

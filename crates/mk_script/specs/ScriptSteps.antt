@@ -1,5 +1,6 @@
 -- The steps of a script: its lines, those between `begin` and `end` together, or all lines together; and its faults (own).
 use Rattle.std.specs.Prelude.{◌||◌, ◌++◌, if◌then◌else◌, not, ℕ, Bool, true, false, List, [], ◌∷◌, Option, None, Some, Result, Ok, Err}
+use Rattle.std.specs.Option.{option_map_or}
 use Rattle.mk_script.specs.Script.{ScriptWord, ScriptLine, Edits, Undoes, Redoes, Begins, Ends, NumberedLine, lines_of}
 
 -- a step: an edit, with the number of its line; edits as a group; or undoing and redoing
@@ -63,14 +64,9 @@ abbrev pub steps_from : Option (List (ℕ × ScriptWord)) → List NumberedLine 
 steps_from group [] = []
 steps_from group (line ∷ lines) = steps_at line.0 line.1 group ++ steps_from (group_after line.0 line.1 group) lines
 
--- steps, where there is no fault
-abbrev pub unless_fault : Option ℕ → List ScriptStep → Result (List ScriptStep) ℕ
-unless_fault None steps = Ok steps
-unless_fault (Some number) steps = Err number
-
 -- the steps of a script that is given so many pieces, or the number of its first fault
 abbrev pub script_of : ℕ → List ℕ → Result (List ScriptStep) ℕ
-script_of count script = unless_fault (first_fault false (lines_of count script)) (steps_from None (lines_of count script))
+script_of count script = option_map_or Err (first_fault false (lines_of count script)) (Ok (steps_from None (lines_of count script)))
 
 -- the number of the first line that is no edit
 abbrev pub first_other : List NumberedLine → Option ℕ
@@ -84,10 +80,6 @@ edits_in [] = []
 edits_in ((number, Some (Edits word)) ∷ lines) = (number, word) ∷ edits_in lines
 edits_in (line ∷ lines) = edits_in lines
 
--- lines of edits as one group, where each is one
-abbrev pub lines_as_one : List NumberedLine → Result (List ScriptStep) ℕ
-lines_as_one lines = unless_fault (first_other lines) (Groups (edits_in lines) ∷ [])
-
 -- a script all of which is one group (`edit --all`), or the number of its first fault
 abbrev pub script_as_one : ℕ → List ℕ → Result (List ScriptStep) ℕ
-script_as_one count script = lines_as_one (lines_of count script)
+script_as_one count script = option_map_or Err (first_other (lines_of count script)) (Ok (Groups (edits_in (lines_of count script)) ∷ []))

@@ -1,12 +1,8 @@
 -- The code's words as words of a script.
 use Rattle.std.specs.Prelude.{◌≡◌, ℕ, List, Result, Err, map}
 use Rattle.std.specs.Global.{Vec}
-use Rattle.std.specs.Option.{option_map}
 use Rattle.mk_script.specs.declared.script.Word.{Word}
 use Rattle.mk_script.specs.declared.script.Word.TheVariants.{Add, Delete, Rename, Set, Body, Replace, Insert, Remove, Wrap, Content, Text, Encode, Put, PutPiece, DropAll, Append, AppendText, Attach, AttachText}
-use Rattle.mk_script.specs.declared.script.Said.{Said}
-use Rattle.mk_script.specs.declared.script.Said.TheVariants.{Edit, Undo, Redo, Begin, End}
-use Rattle.mk_script.specs.declared.script.NumberedLine.{NumberedLine as NumberedLineIn}
 use Rattle.mk_script.specs.declared.groups.Step.{Step}
 use Rattle.mk_script.specs.declared.groups.Step.TheVariants.{Edit as EditAlone, Group, Undo as UndoAt, Redo as RedoAt}
 use Rattle.mk_script.specs.declared.script.NumberedWord.{NumberedWord}
@@ -14,7 +10,7 @@ use Rattle.mk_script.specs.declared.groups.ScriptError.{ScriptError}
 use Rattle.mk_script.specs.declared.groups.ScriptError.TheVariants.{Syntax, Memory}
 use Rattle.mk_script.specs.declared.targets.Target.{Target as TargetIn}
 use Rattle.mk_script.specs.Targets.{Target}
-use Rattle.mk_script.specs.Script.{ScriptWord, Adds, Deletes, Renames, Sets, Bodies, Replaces, Inserts, Removes, Wraps, SetsContent, SetsText, Encodes, Puts, PutsPiece, DropsAll, Appends, AppendsText, Attaches, AttachesText, ScriptLine, Edits, Undoes, Redoes, Begins, Ends, NumberedLine}
+use Rattle.mk_script.specs.Script.{ScriptWord, Adds, Deletes, Renames, Sets, Bodies, Replaces, Inserts, Removes, Wraps, SetsContent, SetsText, Encodes, Puts, PutsPiece, DropsAll, Appends, AppendsText, Attaches, AttachesText}
 use Rattle.mk_script.specs.ScriptSteps.{ScriptStep, Makes, Groups, TakesBack, MakesAgain}
 
 -- the field that a word picks
@@ -46,18 +42,6 @@ said_by (Append path piece) = Appends path.items piece
 said_by (AppendText path piece) = AppendsText path.items piece
 said_by (Attach path media name piece) = Attaches path.items media.items name.items piece
 said_by (AttachText path media piece) = AttachesText path.items media.items piece
-
--- what a line says
-abbrev pub line_by : Said → ScriptLine
-line_by (Edit word) = Edits (said_by word)
-line_by Undo = Undoes
-line_by Redo = Redoes
-line_by Begin = Begins
-line_by End = Ends
-
--- a line with its number
-abbrev pub line_in : NumberedLineIn → NumberedLine
-line_in l = (l.number, option_map line_by l.said)
 
 -- a word with the number of its line
 abbrev pub numbered : NumberedWord → ℕ × ScriptWord

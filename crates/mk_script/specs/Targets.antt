@@ -1,7 +1,7 @@
 -- How a script picks a field (own): by a path, a name, and its number among the fields of that name, parted by one space.
 use Rattle.std.specs.Prelude.{◌==◌, ◌&&◌, if◌then◌else◌, ℕ, Bool, not, List, Option, None, Some, codes}
 use Rattle.std.specs.List.{list_any}
-use Rattle.std.specs.Option.{option_map, option_and_then}
+use Rattle.std.specs.Option.{option_map, option_map_or, option_and_then}
 use Rattle.std.specs.Str.{bytes_eq}
 use Rattle.mk_line.specs.Ascii.{colon, space}
 use Rattle.mk_line.specs.Kinds as field
@@ -18,14 +18,9 @@ pub record Target : Type 0 where
 abbrev pub is_name : List ℕ → Bool
 is_name text = not (is_nil text) && not (list_any (λ byte. byte == space) text)
 
--- what stands before a colon at the end of a text, or the whole text where there is none
-abbrev pub before_colon : List ℕ → Option (List ℕ × List ℕ) → List ℕ
-before_colon text None = text
-before_colon text (Some p) = if is_nil p.1 then p.0 else text
-
--- the name of fields that a text writes, with its colon or without it
+-- the name of fields that a text writes: what stands before a colon at its end, or the whole text where there is none
 abbrev pub field_name_in : List ℕ → List ℕ
-field_name_in text = before_colon text (parted colon text)
+field_name_in text = option_map_or (λ p. if is_nil p.1 then p.0 else text) (parted colon text) text
 
 -- a text that writes the name of a field (RFC 5322, 2.2)
 abbrev pub is_field_name : List ℕ → Bool
@@ -35,22 +30,18 @@ is_field_name text = field.is_name (field_name_in text)
 abbrev pub count_of : List ℕ → Option ℕ
 count_of text = if bytes_eq text (codes "0") then Some 0 else number_of text
 
--- the k-th field of a name, where the number is one
-abbrev pub with_count : List ℕ → List ℕ → Option ℕ → Option Target
-with_count path name number = option_map (λ k. record { path = path; name = name; k = k }) number
+-- what stands before the first space is read, and then what follows it
+abbrev pub read_first : {A B : Type 0} → (List ℕ → Option A) → (A → List ℕ → Option B) → List ℕ → Option B
+read_first read next text = option_and_then (λ p. option_and_then (λ first. next first p.1) (read p.0)) (parted space text)
 
--- the field that is picked by the texts of a path, a name and a number
-abbrev pub target_of : List ℕ → List ℕ → List ℕ → Option Target
-target_of place name number = option_and_then (λ path. if is_name name then with_count path name (count_of number) else None) (path_of place)
+-- a text, where it is a name
+abbrev pub as_name : List ℕ → Option (List ℕ)
+as_name text = if is_name text then Some text else None
 
--- the field that a whole text picks
+-- the field that a whole text picks: a path, a name, and the number among the fields of the name
 abbrev pub whole_target : List ℕ → Option Target
-whole_target text = option_and_then (λ p. option_and_then (λ q. target_of p.0 q.0 q.1) (parted space p.1)) (parted space text)
-
--- a field with what follows it
-abbrev pub before_rest : List ℕ → Option Target → Option (Target × List ℕ)
-before_rest rest target = option_map (λ t. (t, rest)) target
+whole_target text = read_first path_of (λ path. read_first as_name (λ name number. option_map (λ k. record { path = path; name = name; k = k }) (count_of number))) text
 
 -- the field that the front of a text picks, and what follows the space after it
 abbrev pub target_front : List ℕ → Option (Target × List ℕ)
-target_front text = option_and_then (λ p. option_and_then (λ q. option_and_then (λ r. before_rest r.1 (target_of p.0 q.0 r.0)) (parted space q.1)) (parted space p.1)) (parted space text)
+target_front text = read_first path_of (λ path. read_first as_name (λ name. read_first count_of (λ k rest. Some (record { path = path; name = name; k = k }, rest)))) text

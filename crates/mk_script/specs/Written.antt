@@ -1,6 +1,6 @@
 -- How the lines of a script are written. A line says something exactly where it is that as it is written (`laws`).
 use Rattle.std.specs.Prelude.{◌≡◌, ◌<◌, ◌≤◌, ◌^◌, ◌↔◌, if◌then◌else◌, true, ℕ, List, [], ◌∷◌, ◌++◌, Some, length, map, codes, decimal}
-use Rattle.std.specs.List.{join_with_byte}
+use Rattle.std.specs.List.{AllByRecursion, join_with_byte}
 use Rattle.mk_line.specs.Ascii.{space, full_stop}
 use Rattle.mk_script.specs.declared.script.ChosenEncoding.{ChosenEncoding}
 use Rattle.mk_script.specs.declared.script.ChosenEncoding.TheVariants.{Qp, QuotedPrintable, Base64, EightBit, Identity}
@@ -8,16 +8,11 @@ use Rattle.mk_script.specs.Paths.{max_components}
 use Rattle.mk_script.specs.Targets.{Target, is_field_name, is_name}
 use Rattle.mk_script.specs.Script.{ScriptWord, Adds, Deletes, Renames, Sets, Bodies, Replaces, Inserts, Removes, Wraps, SetsContent, SetsText, Encodes, Puts, PutsPiece, DropsAll, Appends, AppendsText, Attaches, AttachesText, ScriptLine, Edits, Undoes, Redoes, Begins, Ends, line_of}
 
--- numbers from 1 on that fit 32 bits
-abbrev pub AreComponents : List ℕ → Type 0
-AreComponents [] = Unit {0}
-AreComponents (number ∷ numbers) = (0 < number) × (number < 2 ^ 32) × AreComponents numbers
-
--- numbers that may lead to a section
+-- numbers that may lead to a section: from 1 on, and each fits 32 bits
 pub record IsPath (path : List ℕ) : Type 0 where
   pub some : 0 < length path
   pub short : length path ≤ max_components
-  pub fit : AreComponents path
+  pub fit : AllByRecursion (λ number. (0 < number) × (number < 2 ^ 32)) path
 
 -- a path is written as its numbers, with dots between them
 abbrev pub written_path : List ℕ → List ℕ
@@ -39,11 +34,6 @@ pub record IsPiece (count piece : ℕ) : Type 0 where
   pub fits : piece < 2 ^ 32
   pub there : piece ≤ count
 
--- each of some paths may lead to a section
-abbrev pub ArePaths : List (List ℕ) → Type 0
-ArePaths [] = Unit {0}
-ArePaths (path ∷ paths) = IsPath path × ArePaths paths
-
 -- a word that may be written where there are so many pieces: what it is given may be
 abbrev pub IsWord : ℕ → ScriptWord → Type 0
 IsWord count (Adds path top field) = IsPath path
@@ -53,7 +43,7 @@ IsWord count (Sets target field) = IsTarget target
 IsWord count (Bodies path piece) = IsPath path × IsPiece count piece
 IsWord count (Replaces path piece) = IsPath path × IsPiece count piece
 IsWord count (Inserts path place piece) = IsPath path × (place < 2 ^ 32) × IsPiece count piece
-IsWord count (Removes paths) = (0 < length paths) × ArePaths paths
+IsWord count (Removes paths) = (0 < length paths) × AllByRecursion IsPath paths
 IsWord count (Wraps path subtype boundary) = IsPath path × (is_name subtype ≡ true)
 IsWord count (SetsContent path piece) = IsPath path × IsPiece count piece
 IsWord count (SetsText charset path piece) = (is_name charset ≡ true) × IsPath path × IsPiece count piece

@@ -1,9 +1,10 @@
 //! The steps of scripts: the edits between `begin` and `end` are one, or those of the whole script (own).
 
-ghost use Rattle.std.specs.Prelude.{◌≡◌, ◌∷◌, [], false, None, map, Ok, IfOk, IfErr};
-ghost use Rattle.std.specs.Option.{option_map};
-ghost use Rattle.mk_script.specs.ScriptSteps.{first_fault as fault_of, has_end as ends, is_fault as faulty, lines_as_one, script_as_one, script_of, steps_from, Groups};
-ghost use Rattle.mk_script.specs.ScriptViews.{line_by, line_in, numbered, step_by, Explains};
+ghost use Rattle.std.specs.Prelude.{◌≡◌, ◌∷◌, [], false, None, map, Ok, Err, IfOk, IfErr};
+ghost use Rattle.std.specs.Option.{option_map, option_map_or};
+ghost use Rattle.mk_script.specs.ScriptSteps.{first_fault as fault_of, edits_in, first_other, has_end as ends, is_fault as faulty, script_as_one, script_of, steps_from, Groups};
+ghost use Rattle.mk_script.specs.ScriptViews.{numbered, step_by, Explains};
+ghost use Rattle.mk_script.specs.inner.Lines.{line_by, line_in};
 ghost use Rattle.mk_script.specs.declared.groups.ScriptError.TheVariants.{Memory};
 
 use crate::script::{NumberedLine, NumberedWord, Said, lines};
@@ -140,8 +141,8 @@ pub fn steps_as_one(alloc: Global, script: &[u8], pieces: usize) -> Result<Vec<S
 
 // The edits that lines are, where each is one.
 fn edits(alloc: Global, lines: Vec<NumberedLine>) -> Result<Vec<NumberedWord>, ScriptError>
-    ensures read { IfOk result (λ words. lines_as_one (map line_in lines.items) ≡ Ok (Groups (map numbered words.items) ∷ [])) }
-    ensures refused { IfErr result (λ e. Explains e (lines_as_one (map line_in lines.items))) }
+    ensures read { IfOk result (λ words. option_map_or Err (first_other (map line_in lines.items)) (Ok (Groups (edits_in (map line_in lines.items)) ∷ [])) ≡ Ok (Groups (map numbered words.items) ∷ [])) }
+    ensures refused { IfErr result (λ e. Explains e (option_map_or Err (first_other (map line_in lines.items)) (Ok (Groups (edits_in (map line_in lines.items)) ∷ [])))) }
 {
     let mut words = Vec::new(alloc);
     for line in lines {

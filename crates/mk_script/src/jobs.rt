@@ -2,7 +2,8 @@
 
 ghost use Rattle.std.specs.Prelude.{◌≡◌, IfOk};
 ghost use Rattle.std.specs.Option.{option_map};
-ghost use Rattle.mk_script.specs.Script.{attaching, attaching_text, chosen, content_by, dropping, encoding, job_of, past_charset, placing, putting, with_charset, Appends, AppendsText, PutsPiece};
+ghost use Rattle.mk_script.specs.Script.{chosen, job_of, past_charset, Appends, AppendsText, PutsPiece};
+ghost use Rattle.mk_script.specs.inner.Words.{attaching, attaching_text, content_by, dropping, encoding, placing, putting, with_charset};
 ghost use Rattle.mk_script.specs.ScriptViews.{said_by};
 
 use crate::paths::{parted, path};

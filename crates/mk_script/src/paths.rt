@@ -1,9 +1,9 @@
 //! The paths of sections, as scripts write them.
 
-ghost use Rattle.std.specs.Prelude.{◌≡◌, ◌<◌, ◌==◌, ◌∷◌, length, option_copied, IfOk, IfSome};
-ghost use Rattle.std.specs.List.{position};
-ghost use Rattle.std.specs.Option.{option_map};
-ghost use Rattle.mk_script.specs.Paths.{parted as parted_at, pieces_of, pieces_after, number_of, numbers_of, path_of};
+ghost use Rattle.std.specs.Prelude.{◌≡◌, ◌<◌, ◌==◌, [], ◌∷◌, length, option_copied, IfOk, IfSome};
+ghost use Rattle.std.specs.List.{position, slice_split};
+ghost use Rattle.std.specs.Option.{option_map, option_map_or};
+ghost use Rattle.mk_script.specs.Paths.{parted as parted_at, number_of, path_of, read_each};
 ghost use Rattle.mk_line.specs.Ascii.{full_stop};
 ghost use Rattle.mk_script.specs.Targets.{count_of};
 
@@ -52,7 +52,7 @@ pub fn path(alloc: Global, text: &[u8]) -> Result<Option<Vec<u32>>, AllocError>
 
 /// The numbers that a text writes: from 1, without leading zeros, joined by dots. `None` where it writes none.
 pub fn numbers(alloc: Global, text: &[u8]) -> Result<Option<Vec<u32>>, AllocError>
-    ensures { IfOk result (λ path. option_map (λ numbers. numbers.items) path ≡ numbers_of (pieces_of full_stop text.now)) }
+    ensures { IfOk result (λ path. option_map (λ numbers. numbers.items) path ≡ read_each number_of (slice_split (λ byte. byte == full_stop) text.now)) }
 {
     let mut numbers = Vec::new(alloc);
     let mut rest = text;
@@ -71,7 +71,7 @@ pub fn numbers(alloc: Global, text: &[u8]) -> Result<Option<Vec<u32>>, AllocErro
 
 /// The text before the first separator, and the text after it.
 pub(crate) fn first_piece(text: &[u8], separator: u8) -> (&[u8], Option<&[u8]>)
-    ensures pieces { pieces_of separator text.now ≡ result.0.now ∷ pieces_after separator (option_copied result.1) }
+    ensures pieces { slice_split (λ byte. byte == separator) text.now ≡ result.0.now ∷ option_map_or (slice_split (λ byte. byte == separator)) (option_copied result.1) [] }
     ensures less { IfSome result.1 (λ rest. length rest.now < length text.now) }
 {
     match parted(text, separator) {

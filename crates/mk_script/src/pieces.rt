@@ -1,10 +1,12 @@
 //! Words of a script that change more than fields, most by a piece: a text that the script names by its number (own).
 
-ghost use Rattle.std.specs.Prelude.{◌≡◌, IfOk};
+ghost use Rattle.std.specs.Prelude.{◌≡◌, ◌==◌, IfOk};
 ghost use Rattle.mk_line.specs.Ascii.{space};
 ghost use Rattle.std.specs.Option.{option_map};
-ghost use Rattle.mk_script.specs.Script.{inserting, paths_of, piece_of, placed as placed_in, placing, removing, word_on, wrapping, Bodies, Replaces};
-ghost use Rattle.mk_script.specs.Paths.{pieces_of};
+ghost use Rattle.std.specs.List.{slice_split};
+ghost use Rattle.mk_script.specs.Script.{piece_of, placed as placed_in, word_on, Bodies, Replaces};
+ghost use Rattle.mk_script.specs.inner.Words.{inserting, placing, removing, wrapping};
+ghost use Rattle.mk_script.specs.Paths.{path_of, read_each};
 ghost use Rattle.mk_script.specs.ScriptViews.{said_by, items_of};
 
 use crate::jobs::read_job;
@@ -126,7 +128,7 @@ fn read_remove(alloc: Global, rest: &[u8]) -> Result<Option<Word>, AllocError>
 
 // The paths that a text writes, parted by one space.
 fn paths(alloc: Global, text: &[u8]) -> Result<Option<Vec<Vec<u32>>>, AllocError>
-    ensures { IfOk result (λ found. option_map (λ v. items_of v.items) found ≡ paths_of (pieces_of space text.now)) }
+    ensures { IfOk result (λ found. option_map (λ v. items_of v.items) found ≡ read_each path_of (slice_split (λ byte. byte == space) text.now)) }
 {
     let mut all = Vec::new(alloc);
     let mut rest = text;

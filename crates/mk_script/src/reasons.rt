@@ -1,22 +1,52 @@
 //! Why a line of a script is invalid: the first thing that is wrong with it (own).
 
-ghost use Rattle.std.specs.Prelude.{◌≡◌, IfOk};
-ghost use Rattle.std.specs.Option.{option_map};
-ghost use Rattle.mk_line.specs.Lines.{cut as lines_of_text};
-ghost use Rattle.mk_script.specs.Reasons.{are_given_piece, are_given_text, arguments_fault as fault_of_arguments, arguments_of, bare_fault as fault_of_bare, begins_blank as begins_with_blank, fault_at as fault_there, fault_of as own_fault_of, first_invalid as first_invalid_line, given_fault as fault_of_given, is_argument as may_stand, is_bare as takes_nothing, last_fault as fault_of_last, line_text as text_of_line, other_arguments_of as others_of, past_option, place_fault as fault_of_place, steps_of, word_arguments_fault as fault_of_word_arguments, word_fault as fault_of_word};
+ghost use Rattle.std.specs.Prelude.{◌≡◌, if◌then◌else◌, List, [], ◌∷◌, true, None, IfOk, codes, drop, find, option_copied};
+ghost use Rattle.std.specs.List.{list_any};
+ghost use Rattle.std.specs.Option.{option_map, option_map_or};
 ghost use Rattle.std.specs.Result.{result_err};
-ghost use Rattle.mk_script.specs.ScriptViews.{line_by};
+ghost use Rattle.std.specs.Str.{bytes_eq};
+ghost use Rattle.mk_line.specs.Ascii.{space};
+ghost use Rattle.mk_line.specs.Lines.{cut as lines_of_text, is_nil};
+ghost use Rattle.mk_line.specs.Parting.{before, following};
+ghost use Rattle.mk_script.specs.declared.reasons.LineFault.TheVariants.{Missing, Spaces, UnknownWord};
+ghost use Rattle.mk_script.specs.Reasons.{arguments_fault as fault_of_arguments, arguments_of, fault_of as own_fault_of, first_invalid as first_invalid_line, given_fault as fault_of_given, holds_spaces as may_hold_spaces, is_argument as may_stand, last_fault as fault_of_last, line_text as text_of_line, place_fault as fault_of_place, steps_of, word_fault as fault_of_word, words};
+ghost use Rattle.mk_script.specs.Script.{past_charset};
+ghost use Rattle.mk_script.specs.inner.Lines.{line_by};
 
 use crate::groups::{ScriptError, steps, steps_as_one};
 use crate::jobs::after_charset;
-use crate::paths::{count, number, parted, path};
+use crate::paths::{count, number, path};
 use crate::script::{Said, read_line};
 use crate::targets::{SPACE, is_field_name, is_name};
-use mk_line::cut;
+use mk_line::{cut, split_at_first};
 use std::alloc::{AllocError, Global};
 
 /// What `content --charset` takes.
 const TEXT_ARGUMENTS: &[Argument] = &[Argument::Name, Argument::Path, Argument::Piece];
+
+/// What `ren` takes.
+const RENAMED: &[Argument] = &[
+    Argument::Path,
+    Argument::Name,
+    Argument::Count,
+    Argument::Name,
+];
+
+/// What `set` takes.
+const SET: &[Argument] = &[
+    Argument::Path,
+    Argument::Name,
+    Argument::Count,
+    Argument::Text,
+];
+
+/// What `attach` takes.
+const ATTACHED: &[Argument] = &[
+    Argument::Path,
+    Argument::Name,
+    Argument::Name,
+    Argument::Piece,
+];
 
 /// What a word takes at a place.
 #[derive(Clone, Copy, Debug, PartialEq, Eq)]
@@ -146,49 +176,52 @@ fn place_fault(said: &Said, as_one: bool) -> LineFault
 fn word_fault(alloc: Global, line: &[u8]) -> Result<LineFault, AllocError>
     ensures { IfOk result (λ fault. fault ≡ fault_of_word line.now) }
 {
-    match parted(line, SPACE) {
-        Some((name, rest)) => given_fault(alloc, name, rest),
-        None => Ok(bare_fault(line)),
+    match first_word(line) {
+        (name, Some(rest)) => given_fault(alloc, name, rest),
+        (_, None) => Ok(bare_fault(line)),
+    }
+}
+
+// What stands before the first space, and what follows it.
+fn first_word(text: &[u8]) -> (&[u8], Option<&[u8]>)
+    ensures word { result.0.now ≡ before space text.now }
+    ensures others { option_copied result.1 ≡ following space text.now }
+{
+    match split_at_first(text, SPACE) {
+        Some((word, others)) => (word, Some(others)),
+        None => (text, None),
     }
 }
 
 // What is wrong with a word that nothing follows.
 fn bare_fault(name: &[u8]) -> LineFault
-    ensures { result ≡ fault_of_bare name.now }
+    ensures { result ≡ (if option_map_or is_nil (arguments_of name.now) true then UnknownWord else Missing) }
 {
-    if arguments(name).is_empty() {
-        LineFault::UnknownWord
-    } else {
-        LineFault::Missing
+    match arguments(name) {
+        Some([_, ..]) => LineFault::Missing,
+        Some([]) | None => LineFault::UnknownWord,
     }
 }
 
-// What is wrong with a word that something follows.
+// What is wrong with a word that something follows. A charset may stand before the arguments of `content`.
 fn given_fault(alloc: Global, name: &[u8], rest: &[u8]) -> Result<LineFault, AllocError>
-    ensures { IfOk result (λ fault. fault ≡ fault_of_given (name.now, rest.now)) }
+    ensures { IfOk result (λ fault. fault ≡ fault_of_given name.now rest.now) }
 {
     if name.is_empty() {
         return Ok(LineFault::Spaces);
     }
-    if is_bare(name) {
-        return Ok(LineFault::Extra);
+    if let Some(more) = after_option(name, rest) {
+        return arguments_fault(alloc, TEXT_ARGUMENTS, more);
     }
-    word_arguments_fault(alloc, name, rest)
-}
-
-// What is wrong with what a word is given. A charset may stand before the arguments of `content`.
-fn word_arguments_fault(alloc: Global, name: &[u8], rest: &[u8]) -> Result<LineFault, AllocError>
-    ensures { IfOk result (λ fault. fault ≡ fault_of_word_arguments (name.now, rest.now)) }
-{
-    match after_option(name, rest) {
-        Some(more) => arguments_fault(alloc, TEXT_ARGUMENTS, more),
-        None => arguments_fault(alloc, arguments(name), rest),
+    match arguments(name) {
+        Some(arguments) => arguments_fault(alloc, arguments, rest),
+        None => Ok(LineFault::UnknownWord),
     }
 }
 
 // What stands after the option of a word; `content` alone has one.
 fn after_option<'a>(name: &[u8], rest: &'a [u8]) -> Option<&'a [u8]>
-    ensures { option_map (λ more. more.now) result ≡ past_option name.now rest.now }
+    ensures { option_map (λ more. more.now) result ≡ (if bytes_eq name.now (codes "content") then past_charset rest.now else None) }
 {
     if name == b"content".as_slice() {
         after_charset(rest)
@@ -197,83 +230,60 @@ fn after_option<'a>(name: &[u8], rest: &'a [u8]) -> Option<&'a [u8]>
     }
 }
 
-// Whether a word takes nothing.
-fn is_bare(name: &[u8]) -> bool
-    ensures { result ≡ takes_nothing name.now }
-{
-    name == b"undo".as_slice()
-        || name == b"redo".as_slice()
-        || name == b"begin".as_slice()
-        || name == b"end".as_slice()
-}
-
-// What a word of a name takes; nothing where there is no such word.
-fn arguments(name: &[u8]) -> &'static [Argument]
-    ensures { result.now ≡ arguments_of name.now }
+// What a word of a name takes, where there is such a word.
+fn arguments(name: &[u8]) -> Option<&'static [Argument]>
+    ensures { option_copied result ≡ arguments_of name.now }
 {
     if takes_text(name) {
-        &[Argument::Path, Argument::Text]
+        Some(&[Argument::Path, Argument::Text])
     } else if takes_piece(name) {
-        &[Argument::Path, Argument::Piece]
+        Some(&[Argument::Path, Argument::Piece])
     } else if name == b"del".as_slice() {
-        &[Argument::Path, Argument::Name, Argument::Count]
+        Some(&[Argument::Path, Argument::Name, Argument::Count])
     } else if name == b"ren".as_slice() {
-        &[
-            Argument::Path,
-            Argument::Name,
-            Argument::Count,
-            Argument::Name,
-        ]
+        Some(RENAMED)
     } else if name == b"set".as_slice() {
-        &[
-            Argument::Path,
-            Argument::Name,
-            Argument::Count,
-            Argument::Text,
-        ]
+        Some(SET)
     } else if name == b"insert".as_slice() {
-        &[Argument::Path, Argument::Count, Argument::Piece]
+        Some(&[Argument::Path, Argument::Count, Argument::Piece])
     } else {
         other_arguments(name)
     }
 }
 
 // The same for the words that are left.
-fn other_arguments(name: &[u8]) -> &'static [Argument]
-    ensures { result.now ≡ others_of name.now }
+fn other_arguments(name: &[u8]) -> Option<&'static [Argument]>
+    ensures { option_copied result ≡ option_map (λ row. row.1) (find (λ row. list_any (bytes_eq name.now) row.0) (drop 6 words)) }
 {
     if name == b"remove".as_slice() {
-        &[Argument::Paths]
+        Some(&[Argument::Paths])
     } else if name == b"wrap".as_slice() {
-        &[Argument::Path, Argument::Name, Argument::Text]
+        Some(&[Argument::Path, Argument::Name, Argument::Text])
     } else if name == b"encode".as_slice() {
-        &[Argument::Path, Argument::Encoding]
+        Some(&[Argument::Path, Argument::Encoding])
     } else if name == b"drop".as_slice() {
-        &[Argument::Path, Argument::FieldName]
+        Some(&[Argument::Path, Argument::FieldName])
     } else if name == b"attach".as_slice() {
-        &[
-            Argument::Path,
-            Argument::Name,
-            Argument::Name,
-            Argument::Piece,
-        ]
+        Some(ATTACHED)
     } else if name == b"attach-text".as_slice() {
-        &[Argument::Path, Argument::Name, Argument::Piece]
+        Some(&[Argument::Path, Argument::Name, Argument::Piece])
+    } else if takes_nothing(name) {
+        Some(&[])
     } else {
-        &[]
+        None
     }
 }
 
 // Whether a word takes a path and a text.
 fn takes_text(name: &[u8]) -> bool
-    ensures { result ≡ are_given_text name.now }
+    ensures { result ≡ list_any (bytes_eq name.now) (codes "add" ∷ codes "top" ∷ codes "put" ∷ []) }
 {
     name == b"add".as_slice() || name == b"top".as_slice() || name == b"put".as_slice()
 }
 
 // Whether a word takes a path and a piece.
 fn takes_piece(name: &[u8]) -> bool
-    ensures { result ≡ are_given_piece name.now }
+    ensures { result ≡ list_any (bytes_eq name.now) (codes "body" ∷ codes "replace" ∷ codes "content" ∷ codes "put-piece" ∷ codes "append" ∷ codes "append-text" ∷ []) }
 {
     name == b"body".as_slice()
         || name == b"replace".as_slice()
@@ -281,6 +291,16 @@ fn takes_piece(name: &[u8]) -> bool
         || name == b"put-piece".as_slice()
         || name == b"append".as_slice()
         || name == b"append-text".as_slice()
+}
+
+// Whether a word takes nothing.
+fn takes_nothing(name: &[u8]) -> bool
+    ensures { result ≡ list_any (bytes_eq name.now) (codes "undo" ∷ codes "redo" ∷ codes "begin" ∷ codes "end" ∷ []) }
+{
+    name == b"undo".as_slice()
+        || name == b"redo".as_slice()
+        || name == b"begin".as_slice()
+        || name == b"end".as_slice()
 }
 
 // What is wrong with arguments: where all but the last are right, it is the last.
@@ -297,10 +317,7 @@ fn arguments_fault(
         if others.is_empty() {
             return Ok(last_fault(*argument, rest));
         }
-        let (word, more) = match parted(rest, SPACE) {
-            Some((word, more)) => (word, Some(more)),
-            None => (rest, None),
-        };
+        let (word, more) = first_word(rest);
         if !is_argument(alloc, *argument, word)? {
             return Ok(fault_at(*argument, word));
         }
@@ -310,7 +327,7 @@ fn arguments_fault(
         left = others;
         rest = more;
     }
-    Ok(LineFault::UnknownWord)
+    Ok(LineFault::Extra)
 }
 
 // Whether a text may stand for an argument that others follow.
@@ -330,29 +347,26 @@ fn is_argument(alloc: Global, argument: Argument, text: &[u8]) -> Result<bool, A
 fn last_fault(argument: Argument, text: &[u8]) -> LineFault
     ensures { result ≡ fault_of_last argument text.now }
 {
-    if begins_blank(text) {
-        return LineFault::Spaces;
-    }
-    match argument {
-        Argument::Paths | Argument::Text => own_fault(argument, text),
-        _ if text.contains(&SPACE) => LineFault::Extra,
-        _ => own_fault(argument, text),
+    let (word, more) = first_word(text);
+    if word.is_empty() {
+        LineFault::Spaces
+    } else if !holds_spaces(argument) && more.is_some() {
+        LineFault::Extra
+    } else {
+        own_fault(argument, text)
     }
 }
 
-// Whether a text begins with a space, or is empty.
-fn begins_blank(text: &[u8]) -> bool
-    ensures { result ≡ begins_with_blank text.now }
+// Whether an argument may hold spaces.
+fn holds_spaces(argument: Argument) -> bool
+    ensures { result ≡ may_hold_spaces argument }
 {
-    match text {
-        [first, ..] => *first == SPACE,
-        [] => true,
-    }
+    matches!(argument, Argument::Paths | Argument::Text)
 }
 
 // What is wrong with an argument. An empty one stands where a space stands twice.
 fn fault_at(argument: Argument, text: &[u8]) -> LineFault
-    ensures { result ≡ fault_there argument text.now }
+    ensures { result ≡ (if is_nil text.now then Spaces else own_fault_of argument text.now) }
 {
     if text.is_empty() {
         LineFault::Spaces

@@ -2,8 +2,10 @@
 
 ghost use Rattle.std.specs.Prelude.{◌≡◌, ◌+◌, map, IfOk};
 ghost use Rattle.std.specs.Option.{option_map};
-ghost use Rattle.mk_script.specs.Script.{adding, deleting, renaming, setting, word_at, word_with, word_of, line_of, lines_of, is_skipped as skips};
-ghost use Rattle.mk_script.specs.ScriptViews.{said_by, line_by, line_in};
+ghost use Rattle.mk_script.specs.Script.{word_at, word_with, word_of, line_of, lines_of, is_skipped as skips};
+ghost use Rattle.mk_script.specs.inner.Words.{adding, deleting, renaming, setting};
+ghost use Rattle.mk_script.specs.ScriptViews.{said_by};
+ghost use Rattle.mk_script.specs.inner.Lines.{line_by, line_in};
 
 use crate::paths::{parted, path};
 use crate::pieces::read_on;

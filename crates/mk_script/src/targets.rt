@@ -3,7 +3,8 @@
 ghost use Rattle.std.specs.Prelude.{◌≡◌, IfOk};
 ghost use Rattle.std.specs.Option.{option_map};
 ghost use Rattle.mk_script.specs.ScriptViews.{picked_by};
-ghost use Rattle.mk_script.specs.Targets.{field_name_in, is_field_name as names_fields, is_name as names, target_of, whole_target as whole_of, target_front as front_of};
+ghost use Rattle.mk_script.specs.Targets.{field_name_in, is_field_name as names_fields, is_name as names, whole_target as whole_of, target_front as front_of};
+ghost use Rattle.mk_script.specs.inner.Words.{target_of};
 
 use crate::paths::{count, parted, path};
 use mk_line as lines;

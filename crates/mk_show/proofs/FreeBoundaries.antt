@@ -3,7 +3,7 @@ use Rattle.std.proofs.Common.{◌≡◌, ◌≤◌, ◌<◌, ◌+◌, ◌-◌, �
 use Rattle.std.proofs.lemmas.Bool.{cases_Bool}
 use Rattle.std.proofs.lemmas.Fmt.{length-decimal-le}
 use Rattle.std.specs.Char.{is_ascii_digit}
-use Rattle.std.specs.List.{flat_map, list_all}
+use Rattle.std.specs.List.{flat_map, list_all, position_or_len, range_with_len}
 use Rattle.mk_line.specs.Ascii.{space}
 use Rattle.mk_line.proofs.Cuts.{append_nil}
 use Rattle.mk_head.specs.Boundaries.{ends_in_space, is_boundary, is_boundary_byte}
@@ -13,9 +13,35 @@ use Rattle.mk_splice.proofs.Decimals.{is_decimal}
 use Rattle.mk_splice.proofs.Hexes.{digest_good}
 use Rattle.mk_build.specs.Building.{Attached}
 use Rattle.mk_build.specs.Forwards.{Forwarded}
-use Rattle.mk_show.specs.FreeBoundary.{all_packed_with, are_clear, first_boundary, free_boundary, free_from, last_number, number_mark}
+use Rattle.mk_show.specs.FreeBoundary.{all_packed_with, are_clear, first_boundary, free_boundary, last_number, number_mark}
 use Rattle.mk_show.specs.OwnBoundary.{digits_kept, measured, measured_part, own_boundary}
 use Rattle.mk_show.proofs.OwnBoundaries.{AreHex, few, no_space, stands, taken}
+
+-- the first that is free from a number on, or where none of so many is, the one after them
+abbrev pub free_from : List ℕ → List Forwarded → ℕ → ℕ → List ℕ
+free_from first messages zero n = first ++ number_mark n
+free_from first messages (suc more) n = if are_clear (first ++ number_mark n) messages then (first ++ number_mark n) else free_from first messages more (suc n)
+
+-- how many after a number aren't free
+abbrev passed : List ℕ → List Forwarded → ℕ → ℕ → ℕ
+passed first messages more n = position_or_len (λ k. are_clear (first ++ number_mark k) messages) (range_with_len n more)
+
+-- it is that of the least number
+from_least : (first : List ℕ) (messages : List Forwarded) (more n : ℕ) → free_from first messages more n ≡ (first ++ number_mark (n + passed first messages more n))
+from_least first messages zero n = ap (λ k. first ++ number_mark k) (omega arith)
+from_least first messages (suc more) n = elim (cases_Bool (are_clear (first ++ number_mark n) messages)) [
+  | inl y ↦ rw y (ap (λ k. first ++ number_mark k) (omega arith))
+  | inr h ↦
+      let next : suc n ≡ n + 1 = omega arith in
+      let later = ap (λ k. free_from first messages more k) next ∙ from_least first messages more (n + 1) in
+      rw h (later ∙ ap (λ k. first ++ number_mark k) (omega arith))
+]
+
+pub free_found : (fields : List (List ℕ)) (parts : List Attached) (messages : List Forwarded) → free_from (first_boundary fields parts messages) messages last_number 0 ≡ free_boundary fields parts messages
+unfolding free_boundary
+free_found fields parts messages =
+    let first = first_boundary fields parts messages in
+    from_least first messages last_number 0 ∙ ap (λ k. first ++ number_mark k) (omega arith)
 
 pub last_is : last_number ≡ 18446744073709551615
 unfolding last_number
@@ -27,11 +53,11 @@ at_once first zero n h = absurd (omega (arith, h))
 at_once first (suc more) n h = refl
 
 pub free_own : (fields : List (List ℕ)) (parts : List Attached) → free_boundary fields parts [] ≡ own_boundary fields parts
-unfolding free_boundary
 free_own fields parts =
-    at_once (first_boundary fields parts []) last_number 0 (omega (arith, last_is))
+    sym (free_found fields parts [])
+    ∙ (at_once (first_boundary fields parts []) last_number 0 (omega (arith, last_is))
     ∙ (append_nil (first_boundary fields parts [])
-    ∙ ap (λ t. codes "=_" ++ take digits_kept (digest_of (flat_map measured fields ++ t))) (append_nil (flat_map measured_part parts)))
+    ∙ ap (λ t. codes "=_" ++ take digits_kept (digest_of (flat_map measured fields ++ t))) (append_nil (flat_map measured_part parts))))
 
 -- one step of the search
 pub search_on : (first : List ℕ) (messages : List Forwarded) (n : ℕ) (goal_text : List ℕ) → n < last_number → are_clear (first ++ number_mark n) messages ≡ false → free_from first messages (last_number - n) n ≡ goal_text → free_from first messages (last_number - (n + 1)) (n + 1) ≡ goal_text
@@ -58,8 +84,7 @@ search_last first messages n goal_text is e =
     ap (λ n. first ++ number_mark n) (sym is) ∙ (ap (λ m. free_from first messages m n) (sym none) ∙ e)
 
 pub free_is : (fields : List (List ℕ)) (parts : List Attached) (messages : List Forwarded) (first : List ℕ) → first ≡ first_boundary fields parts messages → free_from first messages last_number 0 ≡ free_boundary fields parts messages
-unfolding free_boundary
-free_is fields parts messages first e = ap (λ f. free_from f messages last_number 0) e
+free_is fields parts messages first e = ap (λ f. free_from f messages last_number 0) e ∙ free_found fields parts messages
 
 either : (P : List ℕ → Type 0) (t : Bool) (x y : List ℕ) → P x → P y → P (if t then x else y)
 either P true x y p q = p
@@ -129,10 +154,10 @@ good_plain : (cs : List ℕ) → ArePlain cs → length cs ≤ 68 → is_boundar
 good_plain cs h less = rw (plain_stand cs h, plain_end 95 cs refl h, short (length cs) less) refl
 
 pub free_is_boundary : (fields : List (List ℕ)) (parts : List Attached) (messages : List Forwarded) → is_boundary (free_boundary fields parts messages) ≡ true
-unfolding free_boundary
 free_is_boundary fields parts messages =
     let all = all_packed_with fields parts messages in
     let digits = take 24 (digest_of all) in
-    found_by (λ b. is_boundary b ≡ true) (first_boundary fields parts messages) messages last_number 0 (λ k l.
+    subst (λ b. is_boundary b ≡ true) (free_found fields parts messages)
+    (found_by (λ b. is_boundary b ≡ true) (first_boundary fields parts messages) messages last_number 0 (λ k l.
     let m = mark_good k (omega (arith, l, last_is)) in
-    good_plain (digits ++ number_mark k) (plain_join digits (number_mark k) (plain_hex digits (taken 24 64 (digest_of all) (digest_good all))) m.0) (omega (arith, length-append digits (number_mark k), few 24 (digest_of all), m.1)))
+    good_plain (digits ++ number_mark k) (plain_join digits (number_mark k) (plain_hex digits (taken 24 64 (digest_of all) (digest_good all))) m.0) (omega (arith, length-append digits (number_mark k), few 24 (digest_of all), m.1))))

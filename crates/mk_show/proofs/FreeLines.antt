@@ -13,8 +13,8 @@ use Rattle.mk_line.specs.Marks.{dashed}
 use Rattle.mk_splice.specs.Grammar.{AreDigits}
 use Rattle.mk_build.specs.Building.{Attached}
 use Rattle.mk_build.specs.Forwards.{Forwarded, is_clear}
-use Rattle.mk_show.specs.FreeBoundary.{are_clear, first_boundary, free_boundary, free_from, last_number, line_count, number_mark}
-use Rattle.mk_show.proofs.FreeBoundaries.{decimal_digits, last_is, mark_is}
+use Rattle.mk_show.specs.FreeBoundary.{are_clear, first_boundary, free_boundary, last_number, line_count, number_mark}
+use Rattle.mk_show.proofs.FreeBoundaries.{decimal_digits, free_found, free_from, last_is, mark_is}
 
 -- digits before an underscore are told from what follows
 no_digit : is_ascii_digit 95 ≡ true → ⊥
@@ -162,10 +162,9 @@ found_free first messages (suc more) n k h l t =
     found_free first messages more (suc n) k (past n k h (λ e. two_of (are_clear (first ++ number_mark n) messages) (subst (λ m. are_clear (first ++ number_mark m) messages ≡ true) (sym e) t) f)) (omega (arith, l)) t)
 
 pub free_is_free : (fields : List (List ℕ)) (parts : List Attached) (messages : List Forwarded) → line_count messages < last_number → are_clear (free_boundary fields parts messages) messages ≡ true
-unfolding free_boundary
 free_is_free fields parts messages less =
     let first = first_boundary fields parts messages in
     let count = line_count messages in
     let ks = upto 1 (suc count) in
     let r = one_passes first (all_lines messages) (λ k. k ≤ suc count) ks (upto_tried (suc count) 1 (suc count) (omega arith) (omega arith) (omega (arith, less, last_is))) (omega (arith, lines_counted messages, upto_length 1 (suc count))) in
-    found_free first messages last_number 0 r.0 (omega arith) (omega (arith, r.1, less)) (sym (lines_clear first r.0 messages) ∙ r.2)
+    subst (λ b. are_clear b messages ≡ true) (free_found fields parts messages) (found_free first messages last_number 0 r.0 (omega arith) (omega (arith, r.1, less)) (sym (lines_clear first r.0 messages) ∙ r.2))

@@ -9,13 +9,16 @@ use Rattle.mk_head.specs.Split.{after_head, head_lines, head_of}
 use Rattle.mk_head.specs.Fields.{HeaderView, header_view}
 use Rattle.std.specs.Prelude.{not}
 use Rattle.mk_head.proofs.Splits.{head_body}
-use Rattle.mk_script.specs.Paths.{parted, pieces_of}
+use Rattle.mk_script.specs.Paths.{parted}
+use Rattle.mk_script.specs.inner.Numbers.{pieces_of}
 use Rattle.mk_show.specs.Parts.{last_of}
 use Rattle.mk_build.specs.declared.building.BuildError.TheVariants as refused
-use Rattle.mk_build.specs.Building.{Attached, build_refusal, built, first_failing, is_free_field}
+use Rattle.mk_build.specs.Building.{Attached, is_free_field}
+use Rattle.mk_build.specs.Forwards.{build_refusal, built}
 use Rattle.mk_build.specs.declared.attachment.Attach.{Attach}
 use Rattle.mk_build.specs.BuildViews.{attached_of}
-use Rattle.mk_build.proofs.Envelopes.{none_held}
+use Rattle.mk_build.proofs.Failing.{position_here, position_more}
+use Rattle.std.specs.List.{position}
 use Rattle.mk_show.specs.Packing.{Manner, fields_given, fields_in_front, has_body, packed, packed_in, told, usual_manner}
 use Rattle.mk_transfer.specs.Said.{shown}
 use Rattle.mk_script.proofs.PathLemmas.{pieces_of-parted, pieces_of-whole}
@@ -67,25 +70,25 @@ more_or : (o : Option ℕ) (n : ℕ) → unwrap_or (option_map suc o) (suc n) �
 more_or None n = refl
 more_or (Some k) n = refl
 
--- after others one fails
-failing_after : {X : Type 0} (test : X → Bool) (xs : List X) (y : X) → test y ≡ false → first_failing test (xs ++ y ∷ []) ≡ Some (unwrap_or (first_failing test xs) (length xs))
-failing_after test [] y h = rw h refl
-failing_after test (x ∷ xs) y h = elim (cases_Bool (test x)) [
-  | inl t ↦ rw t (ap (option_map suc) (failing_after test xs y h) ∙ ap (λ n. Some n) (sym (more_or (first_failing test xs) (length xs))))
-  | inr f ↦ rw f refl
+-- after others one is found
+failing_after : {X : Type 0} (p : X → Bool) (xs : List X) (y : X) → p y ≡ true → position p (xs ++ y ∷ []) ≡ Some (unwrap_or (position p xs) (length xs))
+failing_after p [] y h = position_here p y [] h
+failing_after p (x ∷ xs) y h = elim (cases_Bool (p x)) [
+  | inl t ↦ position_here p x (xs ++ y ∷ []) t ∙ ap (λ o. Some (unwrap_or o (suc (length xs)))) (sym (position_here p x xs t))
+  | inr f ↦
+      position_more p x (xs ++ y ∷ []) f
+      ∙ (ap (option_map suc) (failing_after p xs y h)
+      ∙ (ap (λ n. Some n) (sym (more_or (position p xs) (length xs))) ∙ ap (λ o. Some (unwrap_or o (suc (length xs)))) (sym (position_more p x xs f))))
 ]
 
 pub body_refused : (text : List ℕ) (parts : List Attached) (boundary : List ℕ) → has_body (cut text) ≡ true
-    → build_refusal (fields_given (cut text)) parts boundary ≡ Some (refused.BadField (unwrap_or (first_failing is_free_field (fields_in_front (cut text))) (length (fields_in_front (cut text)))))
-body_refused text parts boundary has = rw (has, failing_after is_free_field (fields_in_front (cut text)) [] refl) refl
+    → build_refusal (fields_given (cut text)) parts boundary ≡ Some (refused.BadField (unwrap_or (position (λ f. not (is_free_field f)) (fields_in_front (cut text))) (length (fields_in_front (cut text)))))
+body_refused text parts boundary has = rw (has, failing_after (λ f. not (is_free_field f)) (fields_in_front (cut text)) [] refl) refl
 
 -- where only a boundary is given, and no message, the message is that of the fields and the parts
 pub packed_plainly : (m : Manner) (boundary : List ℕ) (parts : List Attach) (text : List ℕ) → m ≡ between boundary → packed_in m parts [] text ≡ packed boundary (map attached_of parts) text
 packed_plainly m boundary parts text e =
-    let fields = fields_given (cut text) in
-    let listed = map attached_of parts in
     ap (λ (k : Manner). packed_in k parts [] text) e
-    ∙ ap (told (built (eol_of (cut text)) fields listed boundary)) (none_held boundary (build_refusal fields listed boundary))
 
 -- a boundary in the manner where nothing is asked for
 pub between_of : (m : Manner) (boundary : List ℕ) → m ≡ usual_manner → record { utf8_names = m.utf8_names; subtype = m.subtype; charset = m.charset; boundary = Some boundary; turned = m.turned } ≡ between boundary

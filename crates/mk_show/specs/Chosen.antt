@@ -1,9 +1,8 @@
 -- Which leaves are unpacked: all that are stored, or those at and below the sections at some paths (own).
 use Rattle.mk_script.specs.ScriptViews.{items_of}
-use Rattle.std.specs.Prelude.{◌≡◌, if◌then◌else◌, ℕ, Bool, nat_eq, is_none, List, [], Option, None, Some, map}
+use Rattle.std.specs.Prelude.{◌≡◌, if◌then◌else◌, ℕ, Bool, nat_eq, is_none, List, [], Option, None, Some}
 use Rattle.std.specs.List.{filter, flat_map, list_any, starts_with}
 use Rattle.std.specs.Option.{option_map}
-use Rattle.std.specs.Global.{Vec}
 use Rattle.mk_tree.specs.Documents.{Document}
 use Rattle.mk_tree.specs.Sections.{section_at}
 use Rattle.mk_view.specs.declared.extracting.ExtractError.TheVariants.{NoSuchSection}

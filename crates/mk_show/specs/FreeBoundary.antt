@@ -1,6 +1,6 @@
 -- The boundary that is made of what is packed where messages are forwarded: it begins no line of theirs (own).
-use Rattle.std.specs.Prelude.{◌≡◌, ◌++◌, ◌==◌, ◌+◌, ◌<◌, if◌then◌else◌, ℕ, zero, suc, Bool, true, List, [], ◌∷◌, codes, decimal, length, take}
-use Rattle.std.specs.List.{flat_map, list_all}
+use Rattle.std.specs.Prelude.{◌≡◌, ◌++◌, ◌==◌, ◌+◌, ◌<◌, if◌then◌else◌, ℕ, Bool, true, List, [], ◌∷◌, codes, decimal, length, take}
+use Rattle.std.specs.List.{flat_map, list_all, position_or_len, range_with_len}
 use Rattle.mk_line.specs.Ascii.{underscore}
 use Rattle.mk_line.specs.Lines.{cut}
 use Rattle.mk_head.specs.Boundaries.{is_boundary}
@@ -29,18 +29,15 @@ number_mark n = if n == 0 then [] else underscore ∷ (decimal n ++ underscore �
 abbrev pub are_clear : List ℕ → List Forwarded → Bool
 are_clear boundary messages = list_all (λ f. is_clear boundary f.text) messages
 
--- the first that is free from a number on, or where none of so many is, the one after them
-abbrev pub free_from : List ℕ → List Forwarded → ℕ → ℕ → List ℕ
-free_from first messages zero n = first ++ number_mark n
-free_from first messages (suc more) n = if are_clear (first ++ number_mark n) messages then (first ++ number_mark n) else free_from first messages more (suc n)
-
 -- the greatest number that is tried
 unfoldable pub last_number : ℕ
 last_number = 18446744073709551615
 
--- the first that is free
+-- the one of the least number that is free, or of the greatest number
 unfoldable pub free_boundary : List (List ℕ) → List Attached → List Forwarded → List ℕ
-free_boundary fields parts messages = free_from (first_boundary fields parts messages) messages last_number 0
+free_boundary fields parts messages =
+    let first = first_boundary fields parts messages in
+    first ++ number_mark (position_or_len (λ n. are_clear (first ++ number_mark n) messages) (range_with_len 0 last_number))
 
 -- how many lines messages have
 abbrev pub line_count : List Forwarded → ℕ

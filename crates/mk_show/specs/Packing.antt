@@ -1,4 +1,5 @@
 -- A message packed from fields and files (own).
+use Rattle.std.specs.List.{position}
 use Rattle.std.specs.Option.{option_map}
 use Rattle.std.specs.Prelude.{◌≡◌, ◌++◌, if◌then◌else◌, ℕ, Bool, true, false, Option, None, Some, unwrap_or, List, [], ◌∷◌, codes, decimal, length, map, not}
 use Rattle.mk_line.specs.Ascii.{line_feed, space}
@@ -11,8 +12,8 @@ use Rattle.mk_build.specs.declared.attachment.Attach.{Attach}
 use Rattle.mk_build.specs.declared.building.BuildError.{BuildError}
 use Rattle.mk_build.specs.declared.building.BuildError.TheVariants as refused
 use Rattle.mk_build.specs.BuildViews.{attached_of, written_in}
-use Rattle.mk_build.specs.Building.{Attached, build_refusal, built, first_failing, is_free_field}
-use Rattle.mk_build.specs.Forwards.{Forwarded, built_with, refusal_with}
+use Rattle.mk_build.specs.Building.{Attached, is_free_field}
+use Rattle.mk_build.specs.Forwards.{Forwarded, build_refusal, built, built_with, refusal_with}
 use Rattle.mk_build.specs.Multiparts.{Multipart}
 use Rattle.mk_show.specs.declared.packing.PackOptions.{PackOptions}
 use Rattle.mk_show.specs.FreeBoundary.{free_boundary}
@@ -113,21 +114,17 @@ parts_in m text parts = turned_parts m.turned (eol_of (cut text)) (map (written_
 abbrev pub multipart_with : Manner → List ℕ → Multipart
 multipart_with m boundary = record { subtype = m.subtype; charset = m.charset; boundary = boundary }
 
--- the boundary that is given, or else one that is made of the fields, the parts and the messages
-abbrev pub boundary_with : Option (List ℕ) → List (List ℕ) → List Attached → List Forwarded → List ℕ
-boundary_with None fields parts messages = free_boundary fields parts messages
-boundary_with (Some boundary) fields parts messages = boundary
-
 -- the message of the fields that a text gives, of these parts and of messages, with the line ending of the text
 abbrev pub packed_with : Multipart → List Attached → List Forwarded → List ℕ → Run
 packed_with m parts messages text =
     let fields = fields_given (cut text) in
     told (built_with (eol_of (cut text)) fields parts messages m) (refusal_with fields parts messages m)
 
--- the message of the fields that a text gives, of these parts and of messages, packed in a manner
+-- the message of the fields that a text gives, of these parts and of messages, packed in a manner: between the boundary that is
+-- given, or else one that is made of the fields, the parts and the messages
 abbrev pub packed_in : Manner → List Attach → List Forwarded → List ℕ → Run
 packed_in m parts messages text =
-    packed_with (multipart_with m (boundary_with m.boundary (fields_given (cut text)) (files_in m text parts) messages)) (parts_in m text parts) messages text
+    packed_with (multipart_with m (unwrap_or m.boundary (free_boundary (fields_given (cut text)) (files_in m text parts) messages))) (parts_in m text parts) messages text
 
 -- the same as a fact
 abbrev pub IsPackedWith : Manner → List Attach → List Forwarded → List ℕ → Run → Type 0
@@ -137,4 +134,4 @@ IsPackedWith m parts messages text run = run ≡ packed_in m parts messages text
 abbrev pub BodiesAreRefused : Type 0
 BodiesAreRefused = (text : List ℕ) (parts : List Attached) (boundary : List ℕ) → has_body (cut text) ≡ true →
     let fields = fields_in_front (cut text) in
-    build_refusal (fields_given (cut text)) parts boundary ≡ Some (refused.BadField (unwrap_or (first_failing is_free_field fields) (length fields)))
+    build_refusal (fields_given (cut text)) parts boundary ≡ Some (refused.BadField (unwrap_or (position (λ f. not (is_free_field f)) fields) (length fields)))

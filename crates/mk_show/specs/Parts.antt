@@ -1,11 +1,12 @@
 -- The files that are packed, as the command line names them: TYPE:FILE (own).
-use Rattle.std.specs.Prelude.{if◌then◌else◌, ℕ, Bool, false, not, Option, None, Some, List, [], ◌∷◌, codes}
-use Rattle.std.specs.Option.{option_map}
+use Rattle.std.specs.Prelude.{◌==◌, if◌then◌else◌, ℕ, Bool, false, not, Option, None, Some, List, [], ◌∷◌, codes}
+use Rattle.std.specs.List.{slice_split}
+use Rattle.std.specs.Option.{option_map, option_map_or}
 use Rattle.std.specs.Str.{bytes_eq}
 use Rattle.mk_line.specs.Ascii.{colon, slash}
 use Rattle.mk_head.specs.Values.{lowered}
 use Rattle.mk_build.specs.Building.{Attached}
-use Rattle.mk_script.specs.Paths.{parted, pieces_of}
+use Rattle.mk_script.specs.Paths.{parted}
 use Rattle.mk_show.specs.declared.parts.Spec as declared
 
 -- a media type, and the path of a file
@@ -25,16 +26,11 @@ last_of (x ∷ y ∷ ys) = last_of (y ∷ ys)
 
 -- the name of a file is what follows the last slash of its path
 abbrev pub file_name : List ℕ → List ℕ
-file_name path = last_of (pieces_of slash path)
+file_name path = last_of (slice_split (λ byte. byte == slash) path)
 
--- a main type that is text, in any case
-abbrev pub is_text_main : Option (List ℕ × List ℕ) → Bool
-is_text_main None = false
-is_text_main (Some p) = bytes_eq (lowered p.0) (codes "text")
-
--- a media type of texts (RFC 2046, 4.1)
+-- a media type of texts, in any case: `text` before a slash (RFC 2046, 4.1)
 abbrev pub is_text : List ℕ → Bool
-is_text media = is_text_main (parted slash media)
+is_text media = option_map_or (λ p. bytes_eq (lowered p.0) (codes "text")) (parted slash media) false
 
 -- a file that holds these bytes as a part: under its name, texts as quoted-printable and all else as base64
 abbrev pub attached_file : Spec → List ℕ → Attached

@@ -1,18 +1,28 @@
 //! What `extract` gives of a section: its content, or another portion of it.
 
-ghost use Rattle.std.specs.Prelude.{◌≡◌, [], IfOk};
+ghost use Rattle.std.specs.Prelude.{◌≡◌, if◌then◌else◌, [], IfOk};
 ghost use Rattle.std.specs.Option.{option_map};
+ghost use Rattle.mk_line.specs.Ascii.{underscore};
+ghost use Rattle.mk_head.specs.Values.{is_token_byte};
 ghost use Rattle.mk_tree.specs.Documents.{tree};
 ghost use Rattle.mk_tree.specs.Sections.{section_at};
 ghost use Rattle.mk_transfer.specs.Said.{shown};
 ghost use Rattle.mk_show.specs.Shown.{extract_line, run_of_answer};
-ghost use Rattle.mk_show.specs.Portions.{IsPrefix, IsTakenAs, bytes_run};
+ghost use Rattle.mk_show.specs.Portions.{IsPrefix, IsTakenAs, IsInUtf8, bytes_run, charset_line, text_run};
 
 use crate::answers::{Answer, content as decoded, refusal};
-use mk_code::decode_front;
+use mk_code::{decode_front, in_utf8, is_in_charset};
+use mk_head::is_token;
 use mk_tree::Doc;
-use mk_view::{ExtractError, content};
+use mk_view::{ExtractError, content, media_type, push_path};
 use std::alloc::{AllocError, Global};
+
+/// The parameter that names the charset of a text (RFC 2046, 4.1.2).
+const CHARSET: &[u8] = b"charset";
+
+const LINE_FEED: u8 = b'\n';
+
+const UNDERSCORE: u8 = b'_';
 
 /// What is given of a section.
 #[derive(Clone, Copy, Debug, PartialEq, Eq)]
@@ -25,6 +35,9 @@ pub enum Portion {
     Head,
     /// Its content; if that is base64 that isn't whole, what can be decoded of it, and the reason too.
     Prefix,
+    /// Its content in UTF-8, by the charset that its type names. Where that isn't known, or hasn't these bytes, the content as
+    /// `Content` gives it, and the charset as a reason too.
+    Utf8,
 }
 
 impl Default for Portion {
@@ -51,6 +64,7 @@ pub fn given(alloc: Global, doc: &Doc, path: &[u32], wanted: Portion) -> Result<
         ),
         Portion::Head => as_it_stands(alloc, path, doc.section(path).map(|section| section.head())),
         Portion::Prefix => prefix(alloc, doc, path),
+        Portion::Utf8 => text(alloc, doc, path),
     }
 }
 
@@ -86,6 +100,75 @@ fn prefix(alloc: Global, doc: &Doc, path: &[u32]) -> Result<Answer, AllocError>
         Err(ExtractError::Memory) => Err(AllocError),
         Err(reason) => refused(alloc, path, reason),
     }
+}
+
+// The content of the section at a path, in UTF-8 where its charset is known.
+fn text(alloc: Global, doc: &Doc, path: &[u32]) -> Result<Answer, AllocError>
+    ensures { IfOk result (λ a. IsInUtf8 path.now (section_at path.now (tree doc.now)) (run_of_answer a)) }
+{
+    let Some(section) = doc.section(path) else {
+        return refused(alloc, path, ExtractError::NoSuchSection);
+    };
+    match content(alloc, &section) {
+        Ok(bytes) => {
+            let media = media_type(alloc, &section)?;
+            in_charset(alloc, path, media.param(CHARSET), bytes)
+        }
+        Err(ExtractError::Memory) => Err(AllocError),
+        Err(reason) => refused(alloc, path, reason),
+    }
+}
+
+// Bytes in UTF-8, where a charset is named and has them; as they are where none is named, and else with its name.
+fn in_charset(
+    alloc: Global,
+    path: &[u32],
+    charset: Option<&[u8]>,
+    bytes: Vec<u8>,
+) -> Result<Answer, AllocError>
+    ensures { IfOk result (λ a. run_of_answer a ≡ text_run path.now (option_map (λ c. c.now) charset.entry) bytes.items) }
+{
+    let Some(charset) = charset else {
+        return Ok(Answer {
+            output: bytes,
+            errors: Vec::new(alloc),
+        });
+    };
+    if !is_in_charset(charset, &bytes) {
+        return Ok(Answer {
+            output: bytes,
+            errors: unknown(alloc, path, charset)?,
+        });
+    }
+    match in_utf8(alloc, charset, bytes)? {
+        Some(output) => Ok(Answer {
+            output,
+            errors: Vec::new(alloc),
+        }),
+        // It was asked before whether there is such a text.
+        None => Err(AllocError),
+    }
+}
+
+// The line that names a charset which isn't known, or hasn't the bytes of the content.
+fn unknown(alloc: Global, path: &[u32], charset: &[u8]) -> Result<Vec<u8>, AllocError>
+    ensures { IfOk result (λ line. line.items ≡ charset_line path.now charset.now) }
+{
+    let mut line = Vec::new(alloc);
+    push_path(&mut line, path)?;
+    line.extend_from_slice(b": UnknownCharset ")?;
+    for byte in charset {
+        line.push(shown_as(*byte))?;
+    }
+    line.push(LINE_FEED)?;
+    Ok(line)
+}
+
+// The byte of a charset's name as its line shows it.
+fn shown_as(byte: u8) -> u8
+    ensures { result ≡ if is_token_byte byte then byte else underscore }
+{
+    if is_token(&[byte]) { byte } else { UNDERSCORE }
 }
 
 // The reason alone.

@@ -6,7 +6,8 @@ use Rattle.std.specs.Cmp.Lexicographic.{pointwise, same_text, other_text}
 use Rattle.std.specs.Option.{ok_or, option_and_then}
 use Rattle.mk_splice.specs.Splices.{Splice, Stands, forth_one, back_one, forth_step, back_step, GoesForth, GoesBack}
 use Rattle.mk_splice.specs.Fits.{back_all, forth_all, AllBack, AllForth, Fit}
-use Rattle.mk_splice.specs.Misfits.{stands, one_made, one_taken_back, step_made, step_taken_back, all_made, all_taken_back, unless_failed, failed, misfit, FitsAreTold}
+use Rattle.mk_splice.specs.Misfits.{stands, step_made, step_taken_back, all_made, all_taken_back, unless_failed, misfit, FitsAreTold}
+use Rattle.mk_splice.specs.inner.Tries.{one_made, one_taken_back, failed}
 use Rattle.mk_splice.proofs.Bytes.{copied_stands}
 
 -- answers with their types

@@ -2,9 +2,10 @@
 use Rattle.std.proofs.Common.{◌≡◌, ◌+◌, ◌-◌, ◌^◌, ◌≤◌, ◌<◌, ℕ, zero, suc, Option, Ok, Err, List, [], ◌∷◌, refl, ap, sym, subst, length, codes, arith, length-append}
 use Rattle.mk_splice.specs.declared.reading.Version.{Version}
 use Rattle.mk_splice.specs.Splices.{Splice}
-use Rattle.mk_splice.specs.Readers.{AllGood, and_then, named, read_mark, read_text, read_times}
+use Rattle.mk_splice.specs.Readers.{AllGood, and_then, named, read_text, read_times}
 use Rattle.mk_splice.specs.Grammar.{StepText, number_of, read_number, read_version, read_digest, read_step}
-use Rattle.mk_splice.specs.Journals.{JournalText, Meaning, journal_of, read_first, read_front, read_journal, saturated, spell_journal}
+use Rattle.mk_splice.specs.Journals.{JournalText, Meaning, read_front, read_journal, saturated, spell_journal}
+use Rattle.mk_splice.specs.inner.Parts.{read_mark, journal_of, read_first}
 use Rattle.mk_splice.proofs.Entries.{reads_journal}
 use Rattle.mk_splice.proofs.Readings.{next_goes}
 

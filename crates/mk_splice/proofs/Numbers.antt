@@ -3,8 +3,9 @@ use Rattle.std.proofs.Common.{◌≡◌, ◌==◌, ◌++◌, ℕ, zero, suc, tru
 use Rattle.std.proofs.lemmas.Bool.{cases_Bool, both_ways}
 use Rattle.std.proofs.lemmas.Bool.Decides.{eqb_tells}
 use Rattle.std.specs.Char.{is_ascii_digit}
-use Rattle.mk_splice.specs.Readers.{named, onto, read_byte}
+use Rattle.mk_splice.specs.Readers.{named, read_byte}
 use Rattle.mk_splice.specs.Grammar.{read_digits, AreDigits, more_digits, IsNumber, read_number}
+use Rattle.mk_splice.specs.inner.Parts.{onto}
 use Rattle.mk_splice.proofs.Sequences.{Stops, Reads, given, pair_value, rest_value, ok_no_err, err_no_ok, reads_two, reads_named}
 use Rattle.mk_splice.proofs.Parts.{head_same, nil_cons, reads_byte}
 

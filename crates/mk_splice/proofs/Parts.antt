@@ -2,7 +2,9 @@
 use Rattle.std.proofs.Common.{◌≡◌, ◌==◌, ◌-◌, ◌≤◌, ◌++◌, nat_lt, ℕ, zero, suc, Bool, true, false, inl, inr, Result, Ok, Err, List, [], ◌∷◌, refl, ap, sym, ◌∙◌, subst, length, take, drop, replicate, arith, length-append, append-nil, eq-eqb, eqb-true, ltb-true, ltb-false, le-ltb}
 use Rattle.std.proofs.lemmas.Bool.{cases_Bool, both_ways}
 use Rattle.std.proofs.lemmas.List.{take_at, drop_at, take-append-drop, length-take-le, length-replicate}
-use Rattle.mk_splice.specs.Readers.{onto, read_times, AllGood, spell_all, read_byte, read_mark, read_run, read_text}
+use Rattle.std.specs.List.{flat_map}
+use Rattle.mk_splice.specs.Readers.{read_times, AllGood, read_byte, read_run, read_text}
+use Rattle.mk_splice.specs.inner.Parts.{onto, read_mark}
 use Rattle.mk_splice.proofs.Sequences.{Stops, Reads, given, pair_value, rest_value, ok_no_err, err_no_ok, reads_two, reads_named}
 
 -- a list that begins with another byte
@@ -137,7 +139,7 @@ reads_text (w ∷ ws) =
 
 -- the same reader n times
 module _ (A : Type 0) (G : A → Type 0) (s : A → List ℕ) (r : List ℕ → Result (A × List ℕ) (List ℕ)) (one : Reads A G s r) where
-  none_again : (xs : List A) (rest : List ℕ) → AllGood G zero xs → read_times zero r (spell_all s xs ++ rest) ≡ Ok (xs, rest)
+  none_again : (xs : List A) (rest : List ℕ) → AllGood G zero xs → read_times zero r (flat_map s xs ++ rest) ≡ Ok (xs, rest)
   none_again [] rest g = refl
   none_again (x ∷ xs) rest g = absurd g
 
@@ -150,14 +152,14 @@ module _ (A : Type 0) (G : A → Type 0) (s : A → List ℕ) (r : List ℕ → 
     some_times zero = ([], tt)
     some_times (suc n) = let p = some_times n in (a ∷ p.0, (good, p.1))
 
-    pub reads_times : (n : ℕ) → Reads (List A) (AllGood G n) (spell_all s) (read_times n r)
+    pub reads_times : (n : ℕ) → Reads (List A) (AllGood G n) (flat_map s) (read_times n r)
     reads_times zero = record {
-      found = λ b x rest h. subst (λ (w : List A × List ℕ). AllGood G zero w.0 × (b ≡ spell_all s w.0 ++ w.1)) (pair_value (List A) ([], b) (x, rest) h) (tt, refl);
+      found = λ b x rest h. subst (λ (w : List A × List ℕ). AllGood G zero w.0 × (b ≡ flat_map s w.0 ++ w.1)) (pair_value (List A) ([], b) (x, rest) h) (tt, refl);
       again = none_again;
       stops = λ b rest h. ok_no_err (List A) ([], b) rest h;
     }
     reads_times (suc n) =
-        reads_named (A × List A) (List A) _ _ _ onto (AllGood G (suc n)) (spell_all s)
-        (reads_two A (List A) G s r (λ x xs. AllGood G n xs) (λ x xs. spell_all s xs) (λ x. read_times n r) one (λ x g. reads_times n) (λ x g. some_times n))
+        reads_named (A × List A) (List A) _ _ _ onto (AllGood G (suc n)) (flat_map s)
+        (reads_two A (List A) G s r (λ x xs. AllGood G n xs) (λ x xs. flat_map s xs) (λ x. read_times n r) one (λ x g. reads_times n) (λ x g. some_times n))
         (λ p g. (g, refl))
         (cons_from n)

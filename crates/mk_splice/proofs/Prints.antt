@@ -1,12 +1,14 @@
 -- What is printed is read back.
 use Rattle.std.proofs.Common.{◌≡◌, ◌+◌, ◌-◌, ◌^◌, ◌≤◌, ◌<◌, ◌++◌, ℕ, zero, suc, Some, List, [], ◌∷◌, refl, ap, sym, ◌∙◌, length, map, codes, decimal, arith, append_assoc}
+use Rattle.std.specs.List.{flat_map}
 use Rattle.mk_splice.specs.declared.reading.Version.TheVariants.{Two}
 use Rattle.mk_splice.specs.Splices.{Splice}
-use Rattle.mk_splice.specs.Readers.{AllGood, spell_all}
+use Rattle.mk_splice.specs.Readers.{AllGood}
 use Rattle.mk_splice.specs.Grammar.{Entry, StepText, IsEntry, IsStep, IsDigest, number_of, spell_entry, spell_step}
-use Rattle.mk_splice.specs.Journals.{JournalText, Meaning, IsJournal, spell_journal, meaning, saturated, splice_meant, step_meant, digest_of}
-use Rattle.mk_splice.specs.Printed.{printed_entry, printed_entries, printed_step, printed_steps, printed, IsSmall, AreSmallSplices, AreSmallSteps, AreSmall}
+use Rattle.mk_splice.specs.Journals.{JournalText, Meaning, IsJournal, spell_journal, meaning, saturated, splice_meant, digest_of}
+use Rattle.mk_splice.specs.Printed.{printed_entry, printed_step, printed, IsSmall, AreSmall}
 use Rattle.mk_splice.specs.JournalLaws.{PrintedIsRead, PrintedOfTextIsRead}
+use Rattle.mk_splice.specs.inner.Parts.{step_meant, printed_entries, printed_steps, AreSmallSplices, AreSmallSteps}
 use Rattle.mk_splice.proofs.Decimals.{decimal_number, decimal_value}
 use Rattle.mk_splice.proofs.Hexes.{digest_good}
 use Rattle.mk_splice.proofs.Spelled.{spelled_is_found}
@@ -25,16 +27,16 @@ journal_text digest ss done = record { version = Two; digest = digest; done = de
 entry_printed : (s : Splice) → spell_entry (entry_text s) ≡ printed_entry s
 entry_printed s = simp append_assoc refl
 
-entries_printed : (ss : List Splice) → spell_all spell_entry (map entry_text ss) ≡ printed_entries ss
+entries_printed : (ss : List Splice) → flat_map spell_entry (map entry_text ss) ≡ printed_entries ss
 entries_printed [] = refl
-entries_printed (s ∷ ss) = ap (λ k. k ++ spell_all spell_entry (map entry_text ss)) (entry_printed s) ∙ ap (λ k. printed_entry s ++ k) (entries_printed ss)
+entries_printed (s ∷ ss) = ap (λ k. k ++ flat_map spell_entry (map entry_text ss)) (entry_printed s) ∙ ap (λ k. printed_entry s ++ k) (entries_printed ss)
 
 step_printed : (ss : List Splice) → spell_step Two (step_text ss) ≡ printed_step ss
 step_printed ss = ap (λ k. (decimal (length ss) ++ 10 ∷ []) ++ k) (entries_printed ss)
 
-steps_printed : (ss : List (List Splice)) → spell_all (spell_step Two) (map step_text ss) ≡ printed_steps ss
+steps_printed : (ss : List (List Splice)) → flat_map (spell_step Two) (map step_text ss) ≡ printed_steps ss
 steps_printed [] = refl
-steps_printed (s ∷ ss) = ap (λ k. k ++ spell_all (spell_step Two) (map step_text ss)) (step_printed s) ∙ ap (λ k. printed_step s ++ k) (steps_printed ss)
+steps_printed (s ∷ ss) = ap (λ k. k ++ flat_map (spell_step Two) (map step_text ss)) (step_printed s) ∙ ap (λ k. printed_step s ++ k) (steps_printed ss)
 
 regrouped : (h g l d u s : List ℕ) → (((h ++ (g ++ l)) ++ d) ++ u) ++ s ≡ (h ++ (g ++ (l ++ (d ++ u)))) ++ s
 regrouped h g l d u s = simp append_assoc refl
@@ -67,7 +69,7 @@ steps_good : (n : ℕ) (ss : List (List Splice)) → AreSmallSteps ss → length
 steps_good zero [] h e = tt
 steps_good zero (s ∷ ss) h e = absurd (omega (arith, e))
 steps_good (suc n) [] h e = absurd (omega (arith, e))
-steps_good (suc n) (s ∷ ss) h e = (step_good s h.0 h.1, steps_good n ss h.2 (omega (arith, e)))
+steps_good (suc n) (s ∷ ss) h e = (step_good s h.0.0 h.0.1, steps_good n ss h.1 (omega (arith, e)))
 
 journal_good : (digest : List ℕ) (ss : List (List Splice)) (done : ℕ) → IsDigest Two digest → done ≤ length ss → AreSmall ss → IsJournal (journal_text digest ss done)
 journal_good digest ss done d w h =
@@ -93,7 +95,7 @@ entries_meant (s ∷ ss) h = ap (λ k. k ∷ map splice_meant (map entry_text ss
 
 steps_meant : (ss : List (List Splice)) → AreSmallSteps ss → map step_meant (map step_text ss) ≡ ss
 steps_meant [] h = refl
-steps_meant (s ∷ ss) h = ap (λ k. k ∷ map step_meant (map step_text ss)) (entries_meant s h.1) ∙ ap (λ k. s ∷ k) (steps_meant ss h.2)
+steps_meant (s ∷ ss) h = ap (λ k. k ∷ map step_meant (map step_text ss)) (entries_meant s h.0.1) ∙ ap (λ k. s ∷ k) (steps_meant ss h.1)
 
 journal_meant : (digest : List ℕ) (ss : List (List Splice)) (done : ℕ) → done ≤ length ss → AreSmall ss → meaning (journal_text digest ss done) ≡ record { digest = Some digest; steps = ss; done = done }
 journal_meant digest ss done w h =

@@ -3,6 +3,7 @@ use Rattle.std.proofs.Common.{◌≡◌, ◌*◌, ◌+◌, ◌-◌, ◌^◌, ◌
 use Rattle.std.proofs.lemmas.Bool.{cases_lt}
 use Rattle.std.proofs.lemmas.List.{map-append, take_rest}
 use Rattle.std.specs.Char.{is_ascii_digit}
+use Rattle.std.specs.List.{flat_map}
 use Rattle.mk_splice.specs.declared.reading.Version.{Version}
 use Rattle.mk_splice.specs.declared.reading.Version.TheVariants.{One, Two}
 use Rattle.std.specs.Borrow.{Bor}
@@ -10,9 +11,10 @@ use Rattle.mk_splice.specs.declared.reading.Stop.{Stop}
 use Rattle.mk_splice.specs.declared.reading.Stop.TheVariants.{At, Memory}
 use Rattle.mk_splice.specs.Splices.{Splice}
 use Rattle.mk_splice.specs.inner.Readings.{StopsAt, Gives, SoFar}
-use Rattle.mk_splice.specs.Readers.{named, with_first, and_then, onto, read_times, read_byte, read_run, read_mark, AllGood, spell_all}
-use Rattle.mk_splice.specs.Grammar.{Entry, StepText, IsEntry, IsStep, more_digits, value_from, number_of, read_digits, read_step, spell_entry, spell_step, read_number, read_sizes, read_end, read_entry, entry_of}
+use Rattle.mk_splice.specs.Readers.{named, and_then, read_times, read_byte, read_run, AllGood}
+use Rattle.mk_splice.specs.Grammar.{Entry, StepText, IsEntry, IsStep, more_digits, value_from, number_of, read_digits, read_step, spell_entry, spell_step, read_number, read_sizes, read_entry}
 use Rattle.mk_splice.specs.Journals.{saturated}
+use Rattle.mk_splice.specs.inner.Parts.{with_first, onto, read_mark, read_end, entry_of}
 use Rattle.mk_splice.proofs.Sequences.{given}
 use Rattle.mk_splice.proofs.Parts.{byte_yes}
 use Rattle.mk_splice.proofs.Numbers.{digits_more}
@@ -167,13 +169,13 @@ more_other c more e f = let k = ne_eqb c 48 e in rw k f
 entry_long : (e : Entry) → 0 < length (spell_entry e)
 entry_long e = omega (arith, length-append ((((e.place ++ 32 ∷ []) ++ (e.old_size ++ 32 ∷ [])) ++ (e.new_size ++ 10 ∷ [])) ++ e.old) (e.new ++ 10 ∷ []), length-append e.new (10 ∷ []))
 
-entries_long : (es : List Entry) → AllGood IsEntry 1 es → 0 < length (spell_all spell_entry es)
+entries_long : (es : List Entry) → AllGood IsEntry 1 es → 0 < length (flat_map spell_entry es)
 entries_long [] g = absurd g
-entries_long (e ∷ es) g = omega (arith, entry_long e, length-append (spell_entry e) (spell_all spell_entry es))
+entries_long (e ∷ es) g = omega (arith, entry_long e, length-append (spell_entry e) (flat_map spell_entry es))
 
 step_long : (v : Version) (s : StepText) → IsStep v s → 0 < length (spell_step v s)
 step_long One s g = entries_long s.entries g.entries
-step_long Two s g = omega (arith, length-append (s.count ++ 10 ∷ []) (spell_all spell_entry s.entries), length-append s.count (10 ∷ []))
+step_long Two s g = omega (arith, length-append (s.count ++ 10 ∷ []) (flat_map spell_entry s.entries), length-append s.count (10 ∷ []))
 
 pub entry_consumes : (b : List ℕ) (e : Entry) (l : List ℕ) → read_entry b ≡ Ok (e, l) → length l < length b
 entry_consumes b e l h = omega (arith, entry_long e, ap length (reads_entry.found b e l h).1, length-append (spell_entry e) l)

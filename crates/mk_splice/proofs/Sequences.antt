@@ -1,6 +1,7 @@
 -- Readers that read exactly what is spelled, and one after another.
 use Rattle.std.proofs.Common.{◌≡◌, ◌++◌, ℕ, Result, Ok, Err, List, ◌∷◌, refl, ap, sym, ◌∙◌, subst, append_assoc}
-use Rattle.mk_splice.specs.Readers.{named, with_first, and_then}
+use Rattle.mk_splice.specs.Readers.{named, and_then}
+use Rattle.mk_splice.specs.inner.Parts.{with_first}
 
 -- Some spelling begins with what stands before `rest`, and none with that and the next byte.
 pub record Stops (A : Type 0) (Good : A → Type 0) (spell : A → List ℕ) (b rest : List ℕ) : Type 0 where

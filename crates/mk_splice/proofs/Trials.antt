@@ -7,9 +7,10 @@ use Rattle.mk_splice.specs.declared.splicing.Splice.{Splice as SpliceIn}
 use Rattle.mk_splice.specs.Splices.{Splice, back_one}
 use Rattle.mk_splice.specs.declared.fitting.FitError.{FitError}
 use Rattle.mk_splice.specs.declared.fitting.FitError.TheVariants.{Misfit, Memory}
-use Rattle.mk_splice.specs.Misfits.{stands, one_taken_back, step_made, step_taken_back, all_made, all_taken_back, unless_failed, failed, misfit, Says}
+use Rattle.mk_splice.specs.Misfits.{stands, step_made, step_taken_back, all_made, all_taken_back, unless_failed, misfit, Says}
 use Rattle.mk_splice.specs.inner.Tries.{FailsWith, IsTried, Succeeds}
 use Rattle.mk_splice.specs.Views.{splice_of, steps_of}
+use Rattle.mk_splice.specs.inner.Tries.{one_taken_back, failed}
 use Rattle.mk_splice.proofs.Splicings.{taken_last}
 
 -- the last splice of a step, which is taken back first

@@ -1,9 +1,10 @@
 -- The parts of a journal, version 1 or 2: numbers, entries, steps (own).
 use Rattle.std.specs.Prelude.{◌≡◌, ◌+◌, ◌*◌, ◌-◌, ◌==◌, ◌&&◌, ◌||◌, ◌++◌, nat_le, if◌then◌else◌, ℕ, zero, suc, Bool, true, Result, Ok, Err, List, [], ◌∷◌, length}
+use Rattle.std.specs.List.{flat_map}
 use Rattle.std.specs.Char.{is_ascii_digit}
 use Rattle.mk_splice.specs.declared.reading.Version.{Version}
 use Rattle.mk_splice.specs.declared.reading.Version.TheVariants.{One, Two}
-use Rattle.mk_splice.specs.Readers.{named, and_then, onto, read_times, read_byte, read_mark, read_run, AllGood, spell_all}
+use Rattle.mk_splice.specs.Readers.{named, and_then, read_times, read_byte, read_run, AllGood}
 
 -- at most n digits, and the byte e after them
 abbrev pub read_digits : ℕ → ℕ → List ℕ → Result (List ℕ × List ℕ) (List ℕ)
@@ -28,7 +29,7 @@ IsNumber (c ∷ cs) = (is_ascii_digit c ≡ true) × AreDigits (more_digits c) c
 
 -- a number and the byte e after it
 abbrev pub read_number : ℕ → List ℕ → Result (List ℕ × List ℕ) (List ℕ)
-read_number e b = named onto (and_then (read_byte is_ascii_digit b) (λ c. read_digits (more_digits c) e))
+read_number e b = named (λ p. p.0 ∷ p.1) (and_then (read_byte is_ascii_digit b) (λ c. read_digits (more_digits c) e))
 
 -- the number that digits stand for, after those of v
 abbrev pub value_from : ℕ → List ℕ → ℕ
@@ -59,38 +60,24 @@ pub record IsEntry (e : Entry) : Type 0 where
 abbrev pub spell_entry : Entry → List ℕ
 spell_entry e = ((((e.place ++ 32 ∷ []) ++ (e.old_size ++ 32 ∷ [])) ++ (e.new_size ++ 10 ∷ [])) ++ e.old) ++ (e.new ++ 10 ∷ [])
 
--- an entry of what was read
-abbrev pub entry_of : (((List ℕ × List ℕ) × List ℕ) × List ℕ) × (List ℕ × ℕ) → Entry
-entry_of p = record { place = p.0.0.0.0; old_size = p.0.0.0.1; new_size = p.0.0.1; old = p.0.1; new = p.1.0 }
-
 -- the numbers of an entry
 abbrev pub read_sizes : List ℕ → Result (((List ℕ × List ℕ) × List ℕ) × List ℕ) (List ℕ)
 read_sizes b = and_then (and_then (read_number 32 b) (λ p. read_number 32)) (λ p. read_number 10)
 
--- new bytes and the line feed after them
-abbrev pub read_end : ℕ → List ℕ → Result ((List ℕ × ℕ) × List ℕ) (List ℕ)
-read_end n b = and_then (read_run n b) (λ xs. read_mark 10)
-
--- an entry
+-- an entry: its numbers, the old bytes, the new ones, and a line feed
 abbrev pub read_entry : List ℕ → Result (Entry × List ℕ) (List ℕ)
-read_entry b = named entry_of (and_then (and_then (read_sizes b) (λ p. read_run (number_of p.0.1))) (λ p. read_end (number_of p.0.1)))
+read_entry b =
+    named (λ p. record { place = p.0.0.0.0; old_size = p.0.0.0.1; new_size = p.0.0.1; old = p.0.1; new = p.1.0 })
+    (and_then (and_then (read_sizes b) (λ p. read_run (number_of p.0.1))) (λ p rest. and_then (read_run (number_of p.0.1) rest) (λ new. read_byte (λ c. c == 10))))
 
 -- the byte that names a version
 abbrev pub spell_version : Version → List ℕ
 spell_version One = 49 ∷ []
 spell_version Two = 50 ∷ []
 
--- whether a byte names a version
-abbrev pub is_version : ℕ → Bool
-is_version c = c == 49 || c == 50
-
 -- the version that a byte names
-abbrev pub version_of : ℕ → Version
-version_of c = if c == 49 then One else Two
-
--- a version
 abbrev pub read_version : List ℕ → Result (Version × List ℕ) (List ℕ)
-read_version b = named version_of (read_byte is_version b)
+read_version b = named (λ c. if c == 49 then One else Two) (read_byte (λ c. c == 49 || c == 50) b)
 
 -- whether a byte is a hexadecimal digit in lower case
 abbrev pub is_hex : ℕ → Bool
@@ -101,15 +88,15 @@ abbrev pub IsDigest : Version → List ℕ → Type 0
 IsDigest One ds = ds ≡ []
 IsDigest Two ds = AllGood (λ c. is_hex c ≡ true) 64 ds
 
--- the digest's line, which version 1 hasn't
-abbrev pub spell_digest : Version → List ℕ → List ℕ
-spell_digest One ds = []
-spell_digest Two ds = ds ++ 10 ∷ []
+-- a line of digits that version 1 hasn't: that of the digest, and that of a step's count
+abbrev pub spell_line : Version → List ℕ → List ℕ
+spell_line One ds = []
+spell_line Two ds = ds ++ 10 ∷ []
 
 -- the digest's line
 abbrev pub read_digest : Version → List ℕ → Result (List ℕ × List ℕ) (List ℕ)
 read_digest One b = Ok ([], b)
-read_digest Two b = named (λ p. p.0) (and_then (read_times 64 (read_byte is_hex) b) (λ ds. read_mark 10))
+read_digest Two b = named (λ p. p.0) (and_then (read_times 64 (read_byte is_hex) b) (λ ds. read_byte (λ c. c == 10)))
 
 -- a step: the digits of its count of entries, none in version 1, and its entries
 pub record StepText : Type 0 where
@@ -126,11 +113,6 @@ abbrev pub count_of : Version → List ℕ → ℕ
 count_of One ds = 1
 count_of Two ds = number_of ds
 
--- the line of a step's count, which version 1 hasn't
-abbrev pub spell_count : Version → List ℕ → List ℕ
-spell_count One ds = []
-spell_count Two ds = ds ++ 10 ∷ []
-
 -- the line of a step's count
 abbrev pub read_count : Version → List ℕ → Result (List ℕ × List ℕ) (List ℕ)
 read_count One b = Ok ([], b)
@@ -143,12 +125,8 @@ pub record IsStep (v : Version) (s : StepText) : Type 0 where
 
 -- a step's line and its entries
 abbrev pub spell_step : Version → StepText → List ℕ
-spell_step v s = spell_count v s.count ++ spell_all spell_entry s.entries
-
--- a step of what was read
-abbrev pub step_of : List ℕ × List Entry → StepText
-step_of p = record { count = p.0; entries = p.1 }
+spell_step v s = spell_line v s.count ++ flat_map spell_entry s.entries
 
 -- a step
 abbrev pub read_step : Version → List ℕ → Result (StepText × List ℕ) (List ℕ)
-read_step v b = named step_of (and_then (read_count v b) (λ ds. read_times (count_of v ds) read_entry))
+read_step v b = named (λ p. record { count = p.0; entries = p.1 }) (and_then (read_count v b) (λ ds. read_times (count_of v ds) read_entry))

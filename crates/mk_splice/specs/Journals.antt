@@ -1,13 +1,14 @@
 -- Journals as texts: what a file says, or where it stops being the beginning of one (own).
-use Rattle.std.specs.Prelude.{◌≡◌, ◌+◌, ◌-◌, ◌^◌, ◌++◌, nat_eq, ℕ, Bool, true, Option, None, Some, Result, Ok, List, [], ◌∷◌, length, map, min, codes}
+use Rattle.std.specs.Prelude.{◌≡◌, ◌==◌, ◌+◌, ◌-◌, ◌^◌, ◌++◌, nat_eq, ℕ, Bool, true, Option, None, Some, Result, Ok, List, [], ◌∷◌, length, map, min, codes}
+use Rattle.std.specs.List.{flat_map}
 use Rattle.std.specs.Cmp.Lexicographic.{pointwise}
 use Rattle.sha2.specs.Sha256.{sha256}
 use Rattle.hex.specs.Hex.{encode_lower}
 use Rattle.mk_splice.specs.declared.reading.Version.{Version}
 use Rattle.mk_splice.specs.declared.reading.Version.TheVariants.{One, Two}
 use Rattle.mk_splice.specs.Splices.{Splice}
-use Rattle.mk_splice.specs.Readers.{named, and_then, read_times, read_mark, read_text, whole, AllGood, spell_all}
-use Rattle.mk_splice.specs.Grammar.{Entry, StepText, IsNumber, IsDigest, IsStep, number_of, read_number, read_version, read_digest, read_step, spell_version, spell_digest, spell_step}
+use Rattle.mk_splice.specs.Readers.{named, and_then, read_times, read_byte, read_text, whole, AllGood}
+use Rattle.mk_splice.specs.Grammar.{Entry, StepText, IsNumber, IsDigest, IsStep, number_of, read_number, read_version, read_digest, read_step, spell_version, spell_line, spell_step}
 
 -- a journal: its version, the digest's digits, the digits of the counts, and the steps
 pub record JournalText : Type 0 where
@@ -26,23 +27,19 @@ pub record IsJournal (j : JournalText) : Type 0 where
 
 -- how a journal is spelled
 abbrev pub spell_journal : JournalText → List ℕ
-spell_journal j = (((((codes "mimejournal " ++ spell_version j.version) ++ 10 ∷ []) ++ spell_digest j.version j.digest) ++ (j.done ++ 32 ∷ [])) ++ (j.undone ++ 10 ∷ [])) ++ spell_all (spell_step j.version) j.steps
+spell_journal j = (((((codes "mimejournal " ++ spell_version j.version) ++ 10 ∷ []) ++ spell_line j.version j.digest) ++ (j.done ++ 32 ∷ [])) ++ (j.undone ++ 10 ∷ [])) ++ flat_map (spell_step j.version) j.steps
 
--- a journal of what was read
-abbrev pub journal_of : (((((List ℕ × Version) × ℕ) × List ℕ) × List ℕ) × List ℕ) × List StepText → JournalText
-journal_of p = record { version = p.0.0.0.0.0.1; digest = p.0.0.0.1; done = p.0.0.1; undone = p.0.1; steps = p.1 }
-
--- the first line: its version
-abbrev pub read_first : List ℕ → Result (((List ℕ × Version) × ℕ) × List ℕ) (List ℕ)
-read_first b = and_then (and_then (read_text (codes "mimejournal ") b) (λ p. read_version)) (λ p. read_mark 10)
-
--- what stands before the steps
+-- what stands before the steps: a line with the version, the line of the digest, and one with the counts
 abbrev pub read_front : List ℕ → Result ((((((List ℕ × Version) × ℕ) × List ℕ) × List ℕ) × List ℕ) × List ℕ) (List ℕ)
-read_front b = and_then (and_then (and_then (read_first b) (λ p. read_digest p.0.1)) (λ p. read_number 32)) (λ p. read_number 10)
+read_front b =
+    and_then (and_then (and_then (and_then (and_then (read_text (codes "mimejournal ") b) (λ p. read_version)) (λ p. read_byte (λ c. c == 10)))
+    (λ p. read_digest p.0.1)) (λ p. read_number 32)) (λ p. read_number 10)
 
 -- a journal and the bytes after it
 abbrev pub read_journal : List ℕ → Result (JournalText × List ℕ) (List ℕ)
-read_journal b = named journal_of (and_then (read_front b) (λ p. read_times (number_of p.0.1 + number_of p.1) (read_step p.0.0.0.0.1)))
+read_journal b =
+    named (λ p. record { version = p.0.0.0.0.0.1; digest = p.0.0.0.1; done = p.0.0.1; undone = p.0.1; steps = p.1 })
+    (and_then (read_front b) (λ p. read_times (number_of p.0.1 + number_of p.1) (read_step p.0.0.0.0.1)))
 
 -- the journal that a file is, or the offset of the syntax fault
 abbrev pub journal : List ℕ → Result JournalText ℕ
@@ -67,13 +64,9 @@ digest_meant Two ds = Some ds
 abbrev pub splice_meant : Entry → Splice
 splice_meant e = record { place = saturated (number_of e.place); old = e.old; new = e.new }
 
--- the splices of a step
-abbrev pub step_meant : StepText → List Splice
-step_meant s = map splice_meant s.entries
-
 -- what a journal says
 abbrev pub meaning : JournalText → Meaning
-meaning j = record { digest = digest_meant j.version j.digest; steps = map step_meant j.steps; done = number_of j.done }
+meaning j = record { digest = digest_meant j.version j.digest; steps = map (λ s. map splice_meant s.entries) j.steps; done = number_of j.done }
 
 -- a file is read as a journal that means this
 abbrev pub ReadsAs : List ℕ → Meaning → Type 0

@@ -1,7 +1,8 @@
 -- The first step that doesn't fit a text (own).
 use Rattle.std.specs.Prelude.{◌≡◌, ◌↔◌, ◌≤◌, ◌+◌, ◌&&◌, not, nat_lt, nat_eq, if◌then◌else◌, ℕ, suc, Bool, Option, None, Some, Result, Ok, Err, List, [], ◌∷◌, length, take, drop}
 use Rattle.std.specs.List.{starts_with}
-use Rattle.std.specs.Option.{ok_or, option_and_then}
+use Rattle.std.specs.Option.{ok_or, option_and_then, option_or}
+use Rattle.std.specs.Result.{result_err}
 use Rattle.mk_splice.specs.declared.fitting.FitError.{FitError}
 use Rattle.mk_splice.specs.declared.fitting.FitError.TheVariants.{Misfit, Memory}
 use Rattle.mk_splice.specs.Splices.{Splice, forth_one, back_one}
@@ -11,23 +12,15 @@ use Rattle.mk_splice.specs.Fits.{Fit}
 abbrev pub stands : ℕ → List ℕ → List ℕ → Bool
 stands place bytes text = not (nat_lt (length text) place) && starts_with nat_eq (drop place text) bytes
 
--- a splice made where its old bytes stand
-abbrev pub one_made : Splice → List ℕ → Option (List ℕ)
-one_made s text = if stands s.place s.old text then Some (forth_one s text) else None
-
--- a splice taken back where its new bytes stand
-abbrev pub one_taken_back : Splice → List ℕ → Option (List ℕ)
-one_taken_back s text = if stands s.place s.new text then Some (back_one s text) else None
-
 -- a step made, where each splice finds its old bytes
 abbrev pub step_made : List Splice → List ℕ → Option (List ℕ)
 step_made [] text = Some text
-step_made (s ∷ ss) text = option_and_then (step_made ss) (one_made s text)
+step_made (s ∷ ss) text = option_and_then (step_made ss) (if stands s.place s.old text then Some (forth_one s text) else None)
 
 -- a step taken back from its last splice to its first, where each finds its new bytes
 abbrev pub step_taken_back : List Splice → List ℕ → Option (List ℕ)
 step_taken_back [] text = Some text
-step_taken_back (s ∷ ss) text = option_and_then (one_taken_back s) (step_taken_back ss text)
+step_taken_back (s ∷ ss) text = option_and_then (λ t. if stands s.place s.new t then Some (back_one s t) else None) (step_taken_back ss text)
 
 -- what comes next, or the number that an earlier step failed with
 abbrev pub unless_failed : (List ℕ → Result (List ℕ) ℕ) → Result (List ℕ) ℕ → Result (List ℕ) ℕ
@@ -44,15 +37,10 @@ abbrev pub all_taken_back : ℕ → List (List Splice) → List ℕ → Result (
 all_taken_back n [] text = Ok text
 all_taken_back n (s ∷ ss) text = unless_failed (λ t. ok_or (step_taken_back s t) n) (all_taken_back (suc n) ss text)
 
--- the number of the step that fails, of those taken back from the text, or else of those made from it
-abbrev pub failed : Result (List ℕ) ℕ → Result (List ℕ) ℕ → Option ℕ
-failed (Err n) forth = Some n
-failed (Ok text) (Err n) = Some n
-failed (Ok text) (Ok other) = None
-
--- the first step that doesn't fit a text, counted from 1: the done ones are taken back, then the others made from the text
+-- the first step that doesn't fit a text, counted from 1: of the done ones, which are taken back from it, or else of the others,
+-- which are made from it
 abbrev pub misfit : List ℕ → List (List Splice) → ℕ → Option ℕ
-misfit text ss done = failed (all_taken_back 1 (take done ss) text) (all_made (done + 1) (drop done ss) text)
+misfit text ss done = option_or (result_err (all_taken_back 1 (take done ss) text)) (result_err (all_made (done + 1) (drop done ss) text))
 
 -- an error says which step doesn't fit
 abbrev pub Says : FitError → Option ℕ → Type 0

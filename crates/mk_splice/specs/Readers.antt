@@ -6,24 +6,15 @@ abbrev pub named : {A B : Type 0} → (A → B) → Result (A × List ℕ) (List
 named f (Ok p) = Ok (f p.0, p.1)
 named f (Err rest) = Err rest
 
--- a value at the start of another
-abbrev pub with_first : {A B : Type 0} → A → Result (B × List ℕ) (List ℕ) → Result ((A × B) × List ℕ) (List ℕ)
-with_first x (Ok q) = Ok ((x, q.0), q.1)
-with_first x (Err rest) = Err rest
-
 -- a reader, and one of what follows, which may depend on what was read
 abbrev pub and_then : {A B : Type 0} → Result (A × List ℕ) (List ℕ) → (A → List ℕ → Result (B × List ℕ) (List ℕ)) → Result ((A × B) × List ℕ) (List ℕ)
-and_then (Ok p) q = with_first p.0 (q p.0 p.1)
+and_then (Ok p) q = named (λ y. (p.0, y)) (q p.0 p.1)
 and_then (Err rest) q = Err rest
-
--- a value at the start of a list
-abbrev pub onto : {A : Type 0} → A × List A → List A
-onto p = p.0 ∷ p.1
 
 -- the same reader n times
 abbrev pub read_times : {A : Type 0} → ℕ → (List ℕ → Result (A × List ℕ) (List ℕ)) → List ℕ → Result (List A × List ℕ) (List ℕ)
 read_times zero r b = Ok ([], b)
-read_times (suc n) r b = named onto (and_then (r b) (λ x. read_times n r))
+read_times (suc n) r b = named (λ p. p.0 ∷ p.1) (and_then (r b) (λ x. read_times n r))
 
 -- n good values
 abbrev pub AllGood : {A : Type 0} → (A → Type 0) → ℕ → List A → Type 0
@@ -32,19 +23,10 @@ AllGood G zero (x ∷ xs) = ⊥
 AllGood G (suc n) [] = ⊥
 AllGood G (suc n) (x ∷ xs) = G x × AllGood G n xs
 
--- values spelled in turn
-abbrev pub spell_all : {A : Type 0} → (A → List ℕ) → List A → List ℕ
-spell_all s [] = []
-spell_all s (x ∷ xs) = s x ++ spell_all s xs
-
 -- a byte that passes a test
 abbrev pub read_byte : (ℕ → Bool) → List ℕ → Result (ℕ × List ℕ) (List ℕ)
 read_byte t [] = Err []
 read_byte t (c ∷ cs) = if t c then Ok (c, cs) else Err (c ∷ cs)
-
--- a byte that is given
-abbrev pub read_mark : ℕ → List ℕ → Result (ℕ × List ℕ) (List ℕ)
-read_mark e = read_byte (λ c. c == e)
 
 -- n bytes
 abbrev pub read_run : ℕ → List ℕ → Result (List ℕ × List ℕ) (List ℕ)
@@ -53,7 +35,7 @@ read_run n b = if nat_lt (length b) n then Err [] else Ok (take n b, drop n b)
 -- a text that is given
 abbrev pub read_text : List ℕ → List ℕ → Result (List ℕ × List ℕ) (List ℕ)
 read_text [] b = Ok ([], b)
-read_text (w ∷ ws) b = named onto (and_then (read_mark w b) (λ c. read_text ws))
+read_text (w ∷ ws) b = named (λ p. p.0 ∷ p.1) (and_then (read_byte (λ c. c == w) b) (λ c. read_text ws))
 
 -- where a whole file is read: its value, or how long its longest front is with which some spelling begins
 abbrev pub whole : {A : Type 0} → ℕ → Result (A × List ℕ) (List ℕ) → Result A ℕ

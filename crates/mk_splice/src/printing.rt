@@ -1,8 +1,9 @@
 //! Journals as they are printed.
 ghost use Rattle.std.specs.Prelude.{◌≡◌, ◌≤◌, ◌<◌, ◌^◌, ◌++◌, IfOk, OnOk, length, map};
 ghost use Rattle.mk_splice.specs.Journals.{digest_of as digest_meant};
-ghost use Rattle.mk_splice.specs.Printed.{AreSmall, AreSmallSplices, IsSmall, printed, printed_entry, printed_front, printed_number, printed_step};
+ghost use Rattle.mk_splice.specs.Printed.{AreSmall, IsSmall, printed, printed_entry, printed_number, printed_step};
 ghost use Rattle.mk_splice.specs.Views.{splice_of, steps_of};
+ghost use Rattle.mk_splice.specs.inner.Parts.{AreSmallSplices, printed_front};
 
 use crate::digests::digest_of;
 use crate::splicing::Splice;

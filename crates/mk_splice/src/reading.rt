@@ -4,9 +4,10 @@ ghost use Rattle.std.specs.Prelude.{◌≡◌, ℕ, map};
 ghost use Rattle.mk_splice.specs.declared.reading.Stop.TheVariants.{Memory as StopMemory};
 ghost use Rattle.mk_splice.specs.inner.Readings.{Gives, Passes};
 ghost use Rattle.mk_splice.specs.Grammar.{count_of, is_hex, number_of, value_from, read_count as count_read, read_digest as digest_read, read_digits as digits_read, read_entry as entry_read, read_number as number_read, read_step as step_read, read_version as version_read};
-ghost use Rattle.mk_splice.specs.Journals.{digest_meant, saturated, splice_meant, step_meant};
-ghost use Rattle.mk_splice.specs.Readers.{read_byte, read_mark as mark_read, read_run as run_read, read_text as text_read, read_times};
+ghost use Rattle.mk_splice.specs.Journals.{digest_meant, saturated, splice_meant};
+ghost use Rattle.mk_splice.specs.Readers.{read_byte, read_run as run_read, read_text as text_read, read_times};
 ghost use Rattle.mk_splice.specs.Views.{splice_of, steps_of};
+ghost use Rattle.mk_splice.specs.inner.Parts.{step_meant, read_mark as mark_read};
 
 use crate::splicing::Splice;
 use std::alloc::{AllocError, AllocFailed, Global};

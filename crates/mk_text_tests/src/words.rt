@@ -14,6 +14,26 @@ gives: caf\xc3\xa9\xc3\xa9 x
 text: =?x?Q?a?= =?utf-8?Q?b?=
 gives: =?x?Q?a?= b
 
+== windows-1252, and another label of it
+text: =?Windows-1252?Q?=80=92?= =?latin1?Q?=E9?=
+gives: \xe2\x82\xac\xe2\x80\x99\xc3\xa9
+
+== a charset of another alphabet
+text: =?koi8-r?B?8NLJ18XU?=
+gives: \xd0\x9f\xd1\x80\xd0\xb8\xd0\xb2\xd0\xb5\xd1\x82
+
+== a byte that has no character
+text: =?iso-8859-3?Q?a=A5?=
+gives: =?iso-8859-3?Q?a=A5?=
+
+== a language after the charset
+text: =?UTF-8*de?Q?J=C3=B6rg?= =?cp1252*en-GB?Q?=80?=
+gives: J\xc3\xb6rg\xe2\x82\xac
+
+== a charset of more bytes a character
+text: =?shift_jis?B?gqA=?=
+gives: =?shift_jis?B?gqA=?=
+
 == a sign without its digits
 text: =?utf-8?Q?a=?=
 gives: =?utf-8?Q?a=?=

@@ -130,6 +130,8 @@ fn portion(matches: &ArgMatches<'_>) -> Portion {
         Portion::Head
     } else if matches.get_flag(PREFIX) {
         Portion::Prefix
+    } else if matches.get_flag(UTF8) {
+        Portion::Utf8
     } else {
         Portion::Content
     }

@@ -143,6 +143,40 @@ pub fn same(rt: &impl Abort, found: &Outcome, output: &[u8], errors: &[u8], stat
     assert_eq!(rt; found.errors.bytes(), errors);
 }
 
+/// Runs the program on these words and this message, and compares what it leaves.
+pub fn gives<R: Files<File = File> + Clock + AllocGlobal + Abort>(
+    rt: &R,
+    words: &[&str],
+    message: &[u8],
+    output: &[u8],
+    errors: &[u8],
+    status: Status,
+) -> Result<(), Fail> {
+    let found = obeyed(rt, words, message)?;
+    same(rt, &found, output, errors, status);
+    Ok(())
+}
+
+/// The same where the run ends well, and without errors.
+pub fn prints<R: Files<File = File> + Clock + AllocGlobal + Abort>(
+    rt: &R,
+    words: &[&str],
+    message: &[u8],
+    output: &[u8],
+) -> Result<(), Fail> {
+    gives(rt, words, message, output, b"", Status::Well)
+}
+
+/// A file holds this text.
+pub fn holds<R: Files<File = File> + AllocGlobal + Abort>(
+    rt: &R,
+    file: &str,
+    text: &str,
+) -> Result<(), Fail> {
+    assert_eq!(rt; fs::read_to_string(rt, file)?.as_str(), text);
+    Ok(())
+}
+
 /// A folder has as many entries as expected: no run left a file of its own.
 pub fn check_entries<R: Files + AllocGlobal + Abort + Clone + Drop>(
     rt: &R,

@@ -52,15 +52,9 @@ pub record InputFailed (before after : Counts) : Type 0 where
   pub output : after.output ≡ before.output
   pub errors : after.errors ≡ before.errors
 
--- the output or the errors failed, and the input didn't; no failure of the errors was forgotten
-pub record OutputFailed (before after : Counts) : Type 0 where
-  pub failed : WriteFailed before after
-  pub input : after.input ≡ before.input
-  pub errors : before.errors ≤ after.errors
-
--- the same, or a device more failed
-pub record MoreFailed (before after : Counts) (more left : ℕ) : Type 0 where
-  pub failed : WriteFailed before after ⊎ Rose more left
+-- a sink failed, as it is said, and the input didn't; no failure of the errors was forgotten
+pub record SinkFailed (IsFailure : Type 0) (before after : Counts) : Type 0 where
+  pub failed : IsFailure
   pub input : after.input ≡ before.input
   pub errors : before.errors ≤ after.errors
 
@@ -116,14 +110,14 @@ status_of NoMemory = Memory
 
 -- the devices bear a cause out: the input alone failed, or a sink and not the input, or no device
 abbrev pub IsBlamed : Cause → Counts → Counts → Type 0
-IsBlamed Read = InputFailed
-IsBlamed Write = OutputFailed
-IsBlamed NoMemory = SameFailures
+IsBlamed Read before after = InputFailed before after
+IsBlamed Write before after = SinkFailed (WriteFailed before after) before after
+IsBlamed NoMemory before after = SameFailures before after
 
--- the same for a run that writes to one device more, with the failures that this one counts
+-- the same for a run that writes to one sink more, with the failures that this one counts
 abbrev pub IsBlamedWith : Cause → Counts → Counts → ℕ → ℕ → Type 0
 IsBlamedWith Read before after more left = InputFailed before after × (left ≡ more)
-IsBlamedWith Write before after more left = MoreFailed before after more left
+IsBlamedWith Write before after more left = SinkFailed (WriteFailed before after ⊎ Rose more left) before after
 IsBlamedWith NoMemory before after more left = SameFailures before after × (left ≡ more)
 
 -- a cause to give up, and what the errors hold before and after the line that says so

@@ -10,6 +10,7 @@ ghost use Rattle.mk_tree.specs.Documents.{levels, tree};
 ghost use Rattle.mk_tree.specs.Sections.{root_of, section_fields};
 ghost use Rattle.mk_tree.specs.Tree.{read};
 
+use crate::dashes::dashed_lines;
 use crate::node::Node;
 use crate::reading::read_entity;
 use crate::section::Section;
@@ -113,7 +114,7 @@ pub(crate) fn read_root(alloc: Global, text: &[u8]) -> Result<(usize, Node), All
 {
     let message = skip_envelope(text);
     let envelope = text.len() - message.len();
-    let (root, _) = read_entity(alloc, message, 0, &[], false, LEVELS)?;
+    let (root, _) = read_entity(alloc, message, 0, &[], &dashed_lines(), false, LEVELS)?;
     Ok((envelope, root))
 }
 

@@ -12,8 +12,9 @@ ghost use Rattle.mk_tree.specs.Spans.{tail_sizes};
 ghost use Rattle.mk_tree.specs.inner.Marked.{first_marked};
 ghost use Rattle.mk_tree.specs.Steps.{boundaries_of, begins_part, after_first, first_size, ended_by};
 
-use crate::dashes::{dashed_lines, to_dashed};
+use crate::dashes::to_dashed;
 use crate::node::Tail;
+use memchr::memmem::Finder;
 use mk_head::first_field;
 use mk_line::{Line, Mark, first_line, is_delimiter, trimmed};
 use std::alloc::{AllocError, Global};
@@ -100,20 +101,20 @@ pub(crate) fn skip_separator(text: &[u8]) -> &[u8]
 }
 
 /// The first mark and what follows it.
-pub(crate) fn skip_unmarked<'a>(text: &'a [u8], opened: &[&[u8]]) -> &'a [u8]
+pub(crate) fn skip_unmarked<'a>(text: &'a [u8], opened: &[&[u8]], dashed: &Finder<'_>) -> &'a [u8]
+    requires { dashed.now ≡ 10 ∷ 45 ∷ 45 ∷ [] }
     ensures front { length text.now ≡ size (upto (boundaries_of opened.now) (lines_of text.now)) + length result.now }
     ensures rest { beyond (boundaries_of opened.now) (lines_of text.now) ≡ lines_of result.now }
 {
     if opened.is_empty() {
         return &text[text.len()..];
     }
-    let dashed = dashed_lines();
-    let mut rest = to_dashed(text, &dashed);
+    let mut rest = to_dashed(text, dashed);
     'each: while let Some((line, following)) = first_line(rest) {
         if is_marked(&line, opened) {
             break;
         }
-        rest = to_dashed(following, &dashed);
+        rest = to_dashed(following, dashed);
     }
     rest
 }
@@ -139,13 +140,18 @@ pub(crate) fn after_delimiter<'a>(
 }
 
 /// The line at the start and what it closes off, where it is no mark; and what follows.
-pub(crate) fn read_tail<'a>(text: &'a [u8], opened: &[&[u8]]) -> (Option<Tail>, &'a [u8])
+pub(crate) fn read_tail<'a>(
+    text: &'a [u8],
+    opened: &[&[u8]],
+    dashed: &Finder<'_>,
+) -> (Option<Tail>, &'a [u8])
+    requires { dashed.now ≡ 10 ∷ 45 ∷ 45 ∷ [] }
     ensures tail { tail_of result.0 ≡ tail_sizes (ended_by (boundaries_of opened.now) (lines_of text.now)) }
     ensures rest { lines_of result.1.now ≡ beyond (boundaries_of opened.now) (lines_of text.now) }
 {
     match first_line(text) {
         Some((line, following)) if !is_marked(&line, opened) => {
-            let rest = skip_unmarked(following, opened);
+            let rest = skip_unmarked(following, opened, dashed);
             let tail = Tail {
                 close: text.len() - following.len(),
                 epilogue: following.len() - rest.len(),

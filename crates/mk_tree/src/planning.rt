@@ -9,6 +9,7 @@ ghost use Rattle.mk_tree.specs.Splicing.{HasBody, HasText, HasPart, LacksPart};
 ghost use Rattle.mk_tree.specs.Tree.{Entity, read};
 
 use crate::changing::Own;
+use crate::dashes::dashed_lines;
 use crate::doc::LEVELS;
 use crate::node::Node;
 use crate::reading::read_entity;
@@ -91,7 +92,7 @@ fn read_whole(
 ) -> Result<Node, AllocError>
     ensures { IfOk result (λ node. node_span node ≡ span_of digest delimiter (read left digest (lines_of text.now))) }
 {
-    let (node, _) = read_entity(alloc, text, delimiter, &[], digest, left)?;
+    let (node, _) = read_entity(alloc, text, delimiter, &[], &dashed_lines(), digest, left)?;
     Ok(node)
 }
 

@@ -1,8 +1,9 @@
 //! Reading entities, in one pass from start to end.
 //!
 //! Each call reads from the start of a text up to the first line that is a delimiter or close line of an open boundary,
-//! one of a multipart around it, and answers what stands from that line on.
-ghost use Rattle.std.specs.Prelude.{◌≡◌, ◌≤◌, [], false, length, map, IfOk};
+//! one of a multipart around it, and answers what stands from that line on. The search for lines that could be one is made once
+//! for a text.
+ghost use Rattle.std.specs.Prelude.{◌≡◌, ◌≤◌, ◌∷◌, [], false, length, map, IfOk};
 ghost use Rattle.mk_line.specs.Lines.{cut as lines_of};
 ghost use Rattle.mk_head.specs.Split.{fields_from};
 ghost use Rattle.mk_tree.specs.Upto.{upto, beyond};
@@ -16,6 +17,7 @@ use crate::marking::{
     after_delimiter, read_tail, skip_fields, skip_separator, skip_unmarked, with_boundary,
 };
 use crate::node::{Multi, Node, Shape};
+use memchr::memmem::Finder;
 use std::alloc::{AllocError, Global};
 
 /// Reads the entity at the start, after a delimiter of this length, with at most this many levels below it: what is kept of it,
@@ -26,9 +28,11 @@ pub(crate) fn read_entity<'a>(
     text: &'a [u8],
     delimiter: usize,
     opened: &[&[u8]],
+    dashed: &Finder<'_>,
     digest: bool,
     left: u8,
 ) -> Result<(Node, &'a [u8]), AllocError>
+    requires { dashed.now ≡ 10 ∷ 45 ∷ 45 ∷ [] }
     ensures node { IfOk result (λ r. node_span r.0 ≡ span_of digest delimiter (read left digest (upto (boundaries_of opened.now) (lines_of text.now)))) }
     ensures rest { IfOk result (λ r. lines_of r.1.now ≡ beyond (boundaries_of opened.now) (lines_of text.now)) }
 {
@@ -36,7 +40,15 @@ pub(crate) fn read_entity<'a>(
     let fields = text.len() - after_fields.len();
     let body = skip_separator(after_fields);
     let separator = after_fields.len() - body.len();
-    let (shape, parts, rest) = read_body(alloc, &text[..fields], body, opened, digest, left)?;
+    let (shape, parts, rest) = read_body(
+        alloc,
+        &text[..fields],
+        body,
+        opened,
+        dashed,
+        digest,
+        left,
+    )?;
     let size = text.len() - rest.len();
     let node = Node {
         delimiter,
@@ -56,19 +68,25 @@ fn read_body<'a>(
     head: &[u8],
     body: &'a [u8],
     opened: &[&[u8]],
+    dashed: &Finder<'_>,
     digest: bool,
     left: u8,
 ) -> Result<(Shape, Vec<Node>, &'a [u8]), AllocError>
+    requires { dashed.now ≡ 10 ∷ 45 ∷ 45 ∷ [] }
     ensures body { IfOk result (λ r. KeptOfBody left digest (fields_from false (lines_of head.now)) (upto (boundaries_of opened.now) (lines_of body.now)) (form_of r.0) (spans_with (map node_span r.1.items) no_spans)) }
     ensures rest { IfOk result (λ r. lines_of r.2.now ≡ beyond (boundaries_of opened.now) (lines_of body.now)) }
 {
     if left == 0 {
-        return Ok((Shape::Leaf, Vec::new(alloc), skip_unmarked(body, opened)));
+        let rest = skip_unmarked(body, opened, dashed);
+        return Ok((Shape::Leaf, Vec::new(alloc), rest));
     }
     match describe(alloc, head, digest)? {
-        Described::Leaf => Ok((Shape::Leaf, Vec::new(alloc), skip_unmarked(body, opened))),
+        Described::Leaf => {
+            let rest = skip_unmarked(body, opened, dashed);
+            Ok((Shape::Leaf, Vec::new(alloc), rest))
+        }
         Described::Message => {
-            let (inner, rest) = read_entity(alloc, body, 0, opened, false, left - 1)?;
+            let (inner, rest) = read_entity(alloc, body, 0, opened, dashed, false, left - 1)?;
             let mut parts = Vec::new(alloc);
             parts.push(inner)?;
             Ok((Shape::Message, parts, rest))
@@ -79,10 +97,11 @@ fn read_body<'a>(
                 body,
                 &boundary,
                 opened,
+                dashed,
                 digest,
                 left - 1,
             )?;
-            let (tail, rest) = read_tail(last, opened);
+            let (tail, rest) = read_tail(last, opened, dashed);
             let multi = Multi {
                 boundary,
                 digest,
@@ -102,18 +121,20 @@ fn read_parts<'a, 'b>(
     body: &'a [u8],
     boundary: &'b [u8],
     opened: &[&'b [u8]],
+    dashed: &Finder<'_>,
     digest: bool,
     left: u8,
 ) -> Result<(usize, Vec<Node>, &'a [u8]), AllocError>
+    requires { dashed.now ≡ 10 ∷ 45 ∷ 45 ∷ [] }
     ensures { IfOk result (λ r. KeptOfParts left digest (boundaries_of opened.now) boundary.now (lines_of body.now) r.0 (spans_with (map node_span r.1.items) no_spans) (lines_of r.2.now)) }
 {
     let inside = with_boundary(alloc, opened, boundary)?;
-    let mut rest = skip_unmarked(body, &inside);
+    let mut rest = skip_unmarked(body, &inside, dashed);
     let preamble = body.len() - rest.len();
     let mut parts = Vec::new(alloc);
     'each: while let Some(start) = after_delimiter(rest, boundary, opened) {
         let delimiter = rest.len() - start.len();
-        let (part, next) = read_entity(alloc, start, delimiter, &inside, digest, left)?;
+        let (part, next) = read_entity(alloc, start, delimiter, &inside, dashed, digest, left)?;
         parts.push(part)?;
         rest = next;
     }

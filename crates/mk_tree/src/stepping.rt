@@ -19,9 +19,8 @@ impl Doc {
         ensures ok { OnOk result (self.new ≡ back_step (map splice_of step.now) self.old) }
         ensures err { OnErr result (self.new ≡ self.old) }
     {
-        let Some(most) = peak_back(self.text.bytes().len(), step) else {
-            return Err(AllocError);
-        };
+        // No memory holds what no number does, so that is refused as a growth.
+        let most = peak_back(self.text.bytes().len(), step).unwrap_or(usize::MAX);
         self.text.reserve_whole(most)?;
         take_back_in(&mut self.text, step);
         match read_root(alloc, self.text.bytes()) {
@@ -44,9 +43,8 @@ impl Doc {
         ensures ok { OnOk result (self.new ≡ forth_step (map splice_of step.now) self.old) }
         ensures err { OnErr result (self.new ≡ self.old) }
     {
-        let Some(most) = peak_forth(self.text.bytes().len(), step) else {
-            return Err(AllocError);
-        };
+        // No memory holds what no number does, so that is refused as a growth.
+        let most = peak_forth(self.text.bytes().len(), step).unwrap_or(usize::MAX);
         self.text.reserve_whole(most)?;
         make_again_in(&mut self.text, step);
         match read_root(alloc, self.text.bytes()) {

@@ -11,11 +11,13 @@ use Rattle.mk_decide.specs.Edits.{AddField, Refusal}
 use Rattle.mk_decide.specs.Outcomes.{edited}
 use Rattle.mk_mailbox.specs.declared.from_lines.FromLines.TheVariants.{Any}
 use Rattle.mk_mailbox.specs.Held.{Held}
-use Rattle.mk_mailbox.specs.MailboxLaws.{AreCalls, AreOnes, Call, EndsAreWhole, IsCall, PiecesAreUncut, given_by, message, message_of, read_by, unread_mailbox}
+use Rattle.mk_mailbox.specs.MailboxLaws.{AreCalls, Call, EndsAreWhole, IsCall, PiecesAreUncut, given_by, message, message_of, read_by, unread_mailbox}
 use Rattle.mk_mailbox.specs.Mailboxes.{IsOver}
 use Rattle.mk_mailbox.specs.Pieces.{mailbox_pieces}
-use Rattle.mk_mailbox.specs.Places.{at_most_one, begins_from, ends_empty, is_uncut, takes_place}
-use Rattle.mk_mail.specs.Replaced.{AreReplaced, ReplacedStayApart, texts_left}
+use Rattle.mk_mailbox.specs.Places.{begins_from, ends_empty, is_uncut, takes_place}
+use Rattle.mk_mailbox.specs.inner.Parts.{AreOnes, at_most_one}
+use Rattle.mk_mail.proofs.ReplacedApart.{AreReplaced}
+use Rattle.mk_mail.specs.Replaced.{ReplacedStayApart, texts_left}
 use Rattle.mk_uses.specs.Tagged.{all_tagged, kept_or, tagged, tagged_one, text_made}
 
 -- the calls so far read these bytes, and the messages that they gave, each with the field, are these

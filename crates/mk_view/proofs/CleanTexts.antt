@@ -1,11 +1,11 @@
 -- Texts of clean characters, in ASCII and beyond.
-use Rattle.std.proofs.Common.{◌≡◌, ◌==◌, ◌<◌, ◌≤◌, ◌-◌, ◌&&◌, ◌||◌, ◌++◌, if◌then◌else◌, ℕ, zero, suc, Bool, true, false, not, List, [], ◌∷◌, refl, ap, sym, ◌∙◌, map, take, length, get_or, inl, inr, arith}
+use Rattle.std.proofs.Common.{◌≡◌, ◌==◌, ◌<◌, ◌≤◌, ◌-◌, ◌&&◌, ◌||◌, ◌++◌, if◌then◌else◌, ℕ, zero, suc, Bool, true, false, not, List, [], ◌∷◌, refl, ap, sym, ◌∙◌, map, take, drop, length, get_or, inl, inr, arith}
 use Rattle.std.specs.Prelude.{nat_le, nat_lt}
 use Rattle.std.specs.Char.{len_utf8, is_control}
 use Rattle.std.specs.Char.Unicode.Alphabetic.{is_alphabetic, alphabetic_ranges}
 use Rattle.std.specs.Char.Unicode.Numeric.{is_numeric, numeric_ranges}
 use Rattle.std.specs.Char.Unicode.Rows.{in_ranges}
-use Rattle.std.specs.List.{list_all, list_any}
+use Rattle.std.specs.List.{after_last, list_all, list_any}
 use Rattle.std.specs.Str.{chars, is_utf8, IsAscii, IsUtf8, NonePass}
 use Rattle.std.proofs.lemmas.Bool.{agree_below_at, cases_Bool, eq-eqb, ltb-false, ltb-true, ne_eqb}
 use Rattle.std.proofs.lemmas.Bool.Decides.{nat_tests}
@@ -14,7 +14,7 @@ use Rattle.std.proofs.lemmas.Str.{IsUtf8-append, IsUtf8-from_ascii, IsUtf8-from_
 use lib.Utf8.{scalar, scalars, encodes}
 use Rattle.mk_line.specs.Ascii.{backslash, full_stop, hyphen, slash, underscore}
 use Rattle.mk_line.specs.Lines.{is_nil}
-use Rattle.mk_view.specs.FileNames.{after_last, is_divider, leading, led}
+use Rattle.mk_view.specs.FileNames.{is_divider, leading, led}
 use Rattle.mk_view.specs.TextNames.{cleaned_text, fitting, is_plain_character, kept_characters, plain_character}
 use Rattle.mk_view.specs.GivenNames.{has_no_slash, is_clean, is_clean_text, is_safe, turns}
 
@@ -163,11 +163,10 @@ all_scalar : (cs : List ℕ) → list_all scalar cs ≡ true → scalars cs ≡ 
 all_scalar [] h = refl
 all_scalar (c ∷ cs) h = let both = and_parts (scalar c) (list_all scalar cs) h in and_made (scalar c) (scalars cs) both.0 (all_scalar cs both.1)
 
-piece_all : (p : ℕ → Bool) (kept rest : List ℕ) → list_all p kept ≡ true → list_all p rest ≡ true → list_all p (after_last kept rest) ≡ true
-piece_all p kept [] k h = k
-piece_all p kept (c ∷ cs) k h =
-    let more = (and_parts (p c) (list_all p cs) h).1 in
-    elim (cases_Bool (is_divider c)) [ inl y ↦ rw y (piece_all p cs cs more more) | inr n ↦ rw n (piece_all p kept cs k more) ]
+later_all : (p : ℕ → Bool) (n : ℕ) (cs : List ℕ) → list_all p cs ≡ true → list_all p (drop n cs) ≡ true
+later_all p zero cs h = h
+later_all p (suc n) [] h = refl
+later_all p (suc n) (c ∷ cs) h = later_all p n cs (and_parts (p c) (list_all p cs) h).1
 
 plain_good : (c : ℕ) → scalar c ≡ true → is_good (plain_character c) ≡ true
 plain_good c h = and_made (scalar (plain_character c)) (is_clean (plain_character c)) (chosen scalar (is_plain_character c) c underscore h refl) (plain_clean c)
@@ -190,7 +189,7 @@ fitting_all p room (c ∷ cs) h =
 kept_good : (said : List ℕ) → scalars said ≡ true → list_all is_good (kept_characters said) ≡ true
 kept_good said h =
     let all = scalars_all said h in
-    fitting_all is_good 100 (led (map plain_character (after_last said said))) (led_all is_good (map plain_character (after_last said said)) refl (plain_all (after_last said said) (piece_all scalar said said all all)))
+    fitting_all is_good 100 (led (map plain_character (after_last is_divider said))) (led_all is_good (map plain_character (after_last is_divider said)) refl (plain_all (after_last is_divider said) (later_all scalar _ said all)))
 
 -- the first of them may begin a name
 abbrev is_led : List ℕ → Bool
@@ -251,4 +250,4 @@ characters_safe (c ∷ cs) h l n =
 pub kept_safe : (text : List ℕ) → IsUtf8 text → is_nil (cleaned_text text) ≡ false → is_safe (cleaned_text text) ≡ true
 kept_safe text u n =
     characters_safe (kept_characters (chars text)) (kept_good (chars text) (scalars-chars text u))
-    (fitting_led 100 (led (map plain_character (after_last (chars text) (chars text)))) (led_led (map plain_character (after_last (chars text) (chars text))))) n
+    (fitting_led 100 (led (map plain_character (after_last is_divider (chars text)))) (led_led (map plain_character (after_last is_divider (chars text))))) n

@@ -10,8 +10,6 @@ use Rattle.mk_tree.specs.declared.shapes.Kind.TheVariants.{Leaf, Multi, Message}
 use Rattle.mk_tree.specs.Forms.{kind_in}
 use Rattle.mk_view.specs.declared.storing.Leaf.{Leaf as LeafIn}
 use Rattle.mk_view.specs.declared.text_names.NameForm.TheVariants.{Plain}
-use Rattle.mk_view.specs.FileNames.{raw_name, stored, stored_by}
-use Rattle.mk_view.specs.TextNames.{stored_in, stored_named}
 use Rattle.mk_view.specs.Listed.{Listed}
 use Rattle.mk_view.specs.Listing.{type_of}
 use Rattle.mk_view.specs.LeafViews.{AreAt, IsAt}
@@ -70,14 +68,3 @@ pub at_named : (t : Document) (ns more : List LeafIn) (o g : LeafIn) → more �
 at_named t ns more o g e p s h i =
     let here : IsAt t g = ap (λ v. section_at v.items t) p ∙ (i ∙ ap (λ (q : Placed). Some q) (sym s)) in
     subst (AreAt t) (sym e) (at_more t ns g h here)
-
--- plain names are those of their bytes
-one_stored : (texts : Bool) (k : Kind) (path : List ℕ) (t : MediaType) (raw : Option (List ℕ)) → stored_named texts k path t None raw ≡ stored_by texts k path t raw
-one_stored texts Leaf path t raw = refl
-one_stored texts Multi path t raw = refl
-one_stored texts Message path t raw = refl
-
-pub plain_stored : (texts : Bool) (ss : List Listed) → flat_map (stored_in Plain texts) ss ≡ flat_map (stored texts) ss
-unfolding stored_in stored
-plain_stored texts [] = refl
-plain_stored texts (s ∷ ss) = rw (one_stored texts (kind_in s.section.entity) s.path (type_of s.section) (raw_name s.section), plain_stored texts ss) refl

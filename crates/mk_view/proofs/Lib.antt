@@ -6,6 +6,7 @@ pub mod Taken
 pub mod NamesKnown
 pub mod InTurn
 pub mod Fitting
+pub mod LastPieces
 pub mod CleanTexts
 pub mod SaidTexts
 pub mod SafeNames

@@ -2,7 +2,7 @@
 use Rattle.std.proofs.Common.{◌≡◌, ◌==◌, ◌<◌, ◌/◌, ◌%◌, ◌&&◌, ◌++◌, if◌then◌else◌, ℕ, zero, suc, Bool, true, false, not, Option, None, Some, List, [], ◌∷◌, refl, ap, ◌∙◌, map, take, decimal, inl, inr, arith}
 use Rattle.std.specs.Prelude.{nat_lt}
 use Rattle.std.specs.Fmt.{digit_glyph, digits_onto, digits}
-use Rattle.std.specs.List.{flat_map}
+use Rattle.std.specs.List.{after_last, flat_map}
 use Rattle.std.specs.Option.{option_or}
 use Rattle.std.specs.Str.{IsUtf8}
 use Rattle.std.proofs.lemmas.Bool.{agree_below_at, cases_Bool, ltb-true}
@@ -15,8 +15,9 @@ use Rattle.mk_tree.specs.Forms.{kind_in}
 use Rattle.mk_line.specs.Ascii.{full_stop, hyphen}
 use Rattle.mk_view.specs.declared.text_names.NameForm.{NameForm}
 use Rattle.mk_view.specs.Listed.{Listed}
-use Rattle.mk_view.specs.Listing.{dotted, path_text, type_of}
-use Rattle.mk_view.specs.FileNames.{Named, after_last, is_plain_byte, plain, led, cleaned, part_name, name_or, name_by, is_stored_by, raw_name}
+use Rattle.mk_view.specs.Listing.{path_text, type_of}
+use Rattle.mk_view.specs.inner.Columns.{dotted}
+use Rattle.mk_view.specs.FileNames.{Named, is_divider, is_plain_byte, plain, led, cleaned, part_name, name_or, name_by, is_stored_by, raw_name}
 use Rattle.mk_view.specs.TextNames.{cleaned_text, named_by, stored_in, stored_named, text_in}
 use Rattle.mk_view.specs.GivenNames.{numbered, is_taken, IsGivenBy, AreGiven, AreDistinct, has_no_slash, is_clean_text, is_safe, AreSafe}
 use Rattle.mk_view.proofs.CleanTexts.{and_made, and_parts, are_fit, clean_both, fit_both, fit_safe, fit_well, is_fit, kept_safe, leading_allowed, led_all, taken_all, mapped_all, slashless_both}
@@ -71,7 +72,7 @@ or_safe path (x ∷ xs) h = h refl
 
 plain_safe : (path : List ℕ) (raw : Option (List ℕ)) → is_safe (name_by path raw) ≡ true
 plain_safe path None = part_safe path
-plain_safe path (Some raw) = or_safe path (cleaned raw) (bytes_safe (after_last raw raw))
+plain_safe path (Some raw) = or_safe path (cleaned raw) (bytes_safe (after_last is_divider raw))
 
 own_safe : (path : List ℕ) (text raw : Option (List ℕ)) → ((t : List ℕ) → text ≡ Some t → IsUtf8 t) → is_safe (named_by path text raw) ≡ true
 own_safe path None raw u = plain_safe path raw

@@ -2,7 +2,7 @@
 use Rattle.std.specs.Option.{option_or}
 use Rattle.std.specs.Prelude.{◌==◌, ◌++◌, ◌||◌, if◌then◌else◌, ℕ, Bool, true, not, Option, None, Some, List, [], ◌∷◌, codes, map, take}
 use Rattle.std.specs.Char.{is_ascii_alphanumeric}
-use Rattle.std.specs.List.{flat_map}
+use Rattle.std.specs.List.{after_last, flat_map}
 use Rattle.std.specs.Str.{bytes_eq}
 use Rattle.mk_line.specs.Ascii.{hyphen}
 use Rattle.mk_line.specs.Lines.{is_nil}
@@ -32,11 +32,6 @@ raw_name p = option_or (disposed_name (field_value (codes "Content-Disposition")
 abbrev pub is_divider : ℕ → Bool
 is_divider byte = byte == slash || byte == backslash
 
--- what follows the last divider, where the other bytes are those after the last one so far
-abbrev pub after_last : List ℕ → List ℕ → List ℕ
-after_last kept [] = kept
-after_last kept (byte ∷ bytes) = if is_divider byte then after_last bytes bytes else after_last kept bytes
-
 -- letters, digits, dots, underscores and hyphens stay in a name, and an underscore stands for any other byte
 abbrev pub is_plain_byte : ℕ → Bool
 is_plain_byte byte = is_ascii_alphanumeric byte || byte == full_stop || byte == underscore || byte == hyphen
@@ -60,7 +55,7 @@ most_bytes = 100
 
 -- what is left of a name that a message says
 abbrev pub cleaned : List ℕ → List ℕ
-cleaned raw = take most_bytes (led (map plain (after_last raw raw)))
+cleaned raw = take most_bytes (led (map plain (after_last is_divider raw)))
 
 -- the name of a section that has no other
 abbrev pub part_name : List ℕ → List ℕ
@@ -83,17 +78,3 @@ is_stored_by texts t (Some raw) = true
 -- a path and a name
 abbrev pub Named : Type 0
 Named = List ℕ × List ℕ
-
--- a leaf is stored, and nothing else
-abbrev pub stored_by : Bool → Kind → List ℕ → MediaType → Option (List ℕ) → List Named
-stored_by texts Leaf path t raw = if is_stored_by texts t raw then (path, name_by path raw) ∷ [] else []
-stored_by texts Multi path t raw = []
-stored_by texts Message path t raw = []
-
--- the path of a listed section and the name that it would get by itself; none where it isn't stored
-unfoldable pub stored : Bool → Listed → List Named
-stored texts s = stored_by texts (kind_in s.section.entity) s.path (type_of s.section) (raw_name s.section)
-
--- the leaves that are stored, in the document's order, with the names that they would get by themselves
-abbrev pub all_stored : Bool → Document → List Named
-all_stored texts t = flat_map (stored texts) (listed t)

@@ -1,6 +1,6 @@
 -- The listing of a document: a line of nine columns for each of its sections (own).
 use Rattle.std.specs.Prelude.{◌+◌, ◌++◌, ℕ, List, [], ◌∷◌, codes, decimal, length}
-use Rattle.std.specs.List.{flat_map}
+use Rattle.std.specs.List.{flat_map, join_by}
 use Rattle.mk_line.specs.Ascii.{space, line_feed}
 use Rattle.mk_line.specs.Lines.{cut}
 use Rattle.mk_head.specs.declared.encodings.Encoding.{Encoding}
@@ -18,14 +18,9 @@ use Rattle.mk_tree.specs.Documents.{Document}
 use Rattle.mk_line.specs.Ascii.{full_stop, slash}
 use Rattle.mk_view.specs.Listed.{Listed, listed}
 
--- a number of a path after another
-abbrev pub dotted : ℕ → List ℕ
-dotted number = full_stop ∷ decimal number
-
 -- a path as it is written: its numbers, joined by dots
 abbrev pub path_text : List ℕ → List ℕ
-path_text [] = []
-path_text (number ∷ numbers) = decimal number ++ flat_map dotted numbers
+path_text path = join_by decimal (full_stop ∷ []) path
 
 -- how a kind is written
 abbrev pub kind_name : Kind → List ℕ
@@ -52,28 +47,17 @@ type_of p = header_type p.digest (field_lines p.entity)
 abbrev pub encoding_in : Placed → Encoding
 encoding_in p = header_encoding (field_lines p.entity)
 
--- a column after another
-abbrev pub column : List ℕ → List ℕ
-column text = space ∷ text
+-- the columns of a section after its path: its kind, its type and its encoding; where it begins, where its body begins and where
+-- it ends, in bytes from the start of the document; how many lines its fields have, and how many its body
+abbrev pub columns : Placed → List (List ℕ)
+columns p =
+    kind_name (kind_in p.entity) ∷ type_text (type_of p) ∷ encoding_name (encoding_in p)
+    ∷ decimal p.start ∷ decimal (p.start + size (head_lines (entity_head p.entity))) ∷ decimal (p.start + size (print p.entity))
+    ∷ decimal (length (cut (head_text p))) ∷ decimal (length (cut (body_text p))) ∷ []
 
--- what a section is: its kind, its type and its encoding
-abbrev pub nature : Placed → List ℕ
-nature p = column (kind_name (kind_in p.entity)) ++ (column (type_text (type_of p)) ++ column (encoding_name (encoding_in p)))
-
--- where a section begins, where its body begins, and where it ends, in bytes from the front of the document
-abbrev pub places : Placed → List ℕ
-places p =
-    column (decimal p.start)
-    ++ (column (decimal (p.start + size (head_lines (entity_head p.entity))))
-    ++ column (decimal (p.start + size (print p.entity))))
-
--- how many lines its fields have, and how many its body
-abbrev pub line_counts : Placed → List ℕ
-line_counts p = column (decimal (length (cut (head_text p)))) ++ column (decimal (length (cut (body_text p))))
-
--- the line of a section
+-- the line of a section: its path, and a space before each column
 unfoldable pub listing_line : Listed → List ℕ
-listing_line s = path_text s.path ++ (nature s.section ++ (places s.section ++ (line_counts s.section ++ line_feed ∷ [])))
+listing_line s = path_text s.path ++ (flat_map (λ text. space ∷ text) (columns s.section) ++ line_feed ∷ [])
 
 -- the listing of a document
 abbrev pub listing : Document → List ℕ

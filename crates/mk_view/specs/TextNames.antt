@@ -3,7 +3,7 @@ use Rattle.std.specs.Prelude.{◌==◌, ◌||◌, ◌-◌, if◌then◌else◌, 
 use Rattle.std.specs.Char.{len_utf8}
 use Rattle.std.specs.Char.Unicode.Alphabetic.{is_alphabetic}
 use Rattle.std.specs.Char.Unicode.Numeric.{is_numeric}
-use Rattle.std.specs.List.{flat_map}
+use Rattle.std.specs.List.{after_last, flat_map}
 use Rattle.std.specs.Option.{option_or}
 use Rattle.std.specs.Str.{chars}
 use Rattle.mk_line.specs.Ascii.{full_stop, hyphen, underscore}
@@ -20,7 +20,7 @@ use Rattle.mk_view.specs.declared.text_names.NameForm.{NameForm}
 use Rattle.mk_view.specs.declared.text_names.NameForm.TheVariants.{Plain, Utf8}
 use Rattle.mk_view.specs.Listed.{Listed, listed}
 use Rattle.mk_view.specs.Listing.{type_of}
-use Rattle.mk_view.specs.FileNames.{Named, after_last, is_stored_by, led, most_bytes, name_by, name_or, part_name, raw_name}
+use Rattle.mk_view.specs.FileNames.{Named, is_divider, is_stored_by, led, most_bytes, name_by, name_or, part_name, raw_name}
 
 -- the text that a disposition says for its parameter, where there is one
 abbrev pub disposed_text : Option (List ℕ) → Option (List ℕ)
@@ -51,7 +51,7 @@ fitting room (c ∷ cs) = if nat_le (len_utf8 c) room then c ∷ fitting (room -
 
 -- the characters that are left of those of a name that a message says
 abbrev pub kept_characters : List ℕ → List ℕ
-kept_characters said = fitting most_bytes (led (map plain_character (after_last said said)))
+kept_characters said = fitting most_bytes (led (map plain_character (after_last is_divider said)))
 
 -- what is left of a text that a message says as a name
 abbrev pub cleaned_text : List ℕ → List ℕ

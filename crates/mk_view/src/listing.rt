@@ -5,7 +5,8 @@ ghost use Rattle.mk_line.specs.Lines.{AreLines, cut as lines_of};
 ghost use Rattle.mk_tree.specs.Documents.{tree};
 ghost use Rattle.mk_tree.specs.Sections.{body_lines, body_text};
 ghost use Rattle.mk_view.specs.Listed.{Listed, listed_from};
-ghost use Rattle.mk_view.specs.Listing.{encoding_name as name_of_encoding, kind_name as name_of_kind, line_counts, listing, listing_line, nature, places};
+ghost use Rattle.mk_view.specs.Listing.{encoding_name as name_of_encoding, kind_name as name_of_kind, listing, listing_line};
+ghost use Rattle.mk_view.specs.inner.Columns.{line_counts, nature, places};
 
 use crate::typing::push_said_type;
 use crate::writing::{push_column, push_number_column, push_path};

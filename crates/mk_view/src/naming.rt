@@ -3,7 +3,8 @@ ghost use Rattle.std.specs.Prelude.{◌≡◌, IfOk};
 ghost use Rattle.std.specs.Option.{option_map, option_or};
 ghost use Rattle.std.specs.String.{string_bytes};
 ghost use Rattle.mk_head.specs.ValueViews.{media_type_of};
-ghost use Rattle.mk_view.specs.FileNames.{after_last, cleaned as cleaned_of, is_divider as divides, is_stored_by, leading as leading_of, name_by, part_name as name_of_part, plain as plain_of, raw_name as raw_name_of};
+ghost use Rattle.std.specs.List.{after_last};
+ghost use Rattle.mk_view.specs.FileNames.{cleaned as cleaned_of, is_divider as divides, is_stored_by, leading as leading_of, name_by, part_name as name_of_part, plain as plain_of, raw_name as raw_name_of};
 
 use crate::described::Described;
 use crate::writing::push_path;
@@ -98,7 +99,7 @@ fn cleaned(alloc: Global, raw: &[u8]) -> Result<Vec<u8>, AllocError>
 
 // What follows the last slash or backslash.
 fn last_piece(raw: &[u8]) -> &[u8]
-    ensures { result.now ≡ after_last raw.now raw.now }
+    ensures { result.now ≡ after_last divides raw.now }
 {
     let mut piece = raw;
     let mut rest = raw;

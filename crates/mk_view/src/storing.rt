@@ -7,7 +7,7 @@ ghost use Rattle.mk_view.specs.GivenNames.{AreDistinct, AreGiven, AreSafe};
 ghost use Rattle.mk_view.specs.LeafViews.{AreAt, leaf_view};
 ghost use Rattle.mk_view.specs.ListedViews.{listed_view};
 ghost use Rattle.mk_view.specs.Listing.{type_of};
-ghost use Rattle.mk_view.specs.FileNames.{all_stored, raw_name as raw_name_of};
+ghost use Rattle.mk_view.specs.FileNames.{raw_name as raw_name_of};
 ghost use Rattle.mk_view.specs.TextNames.{all_stored_in, stored_in, stored_named, text_in as text_in_form};
 ghost use Rattle.mk_view.specs.NameViews.{named_view};
 
@@ -34,7 +34,7 @@ pub struct Leaf<'a> {
 /// could lead elsewhere is taken off; without one it is `part-` and the path. A leaf of a text type without a name is left
 /// out unless `texts`. Where an earlier leaf has the name, a number is put after it.
 pub fn names(alloc: Global, doc: &Doc, texts: bool) -> Result<Vec<(Vec<u32>, Vec<u8>)>, AllocError>
-    ensures given { IfOk result (λ names. AreGiven [] (all_stored texts (tree doc.now)) (map named_view names.items)) }
+    ensures given { IfOk result (λ names. AreGiven [] (all_stored_in NameForm.Plain texts (tree doc.now)) (map named_view names.items)) }
     ensures distinct { IfOk result (λ names. AreDistinct [] (map named_view names.items)) }
     ensures safe { IfOk result (λ names. AreSafe (map named_view names.items)) }
 {
@@ -48,7 +48,7 @@ pub fn names(alloc: Global, doc: &Doc, texts: bool) -> Result<Vec<(Vec<u32>, Vec
 
 /// The same leaves with the same names, and their sections.
 pub fn leaves(alloc: Global, doc: &Doc, texts: bool) -> Result<Vec<Leaf<'_>>, AllocError>
-    ensures given { IfOk result (λ leaves. AreGiven [] (all_stored texts (tree doc.now)) (map leaf_view leaves.items)) }
+    ensures given { IfOk result (λ leaves. AreGiven [] (all_stored_in NameForm.Plain texts (tree doc.now)) (map leaf_view leaves.items)) }
     ensures distinct { IfOk result (λ leaves. AreDistinct [] (map leaf_view leaves.items)) }
     ensures safe { IfOk result (λ leaves. AreSafe (map leaf_view leaves.items)) }
     ensures placed { IfOk result (λ leaves. AreAt (tree doc.now) leaves.items) }

@@ -3,7 +3,8 @@ ghost use Rattle.std.specs.Prelude.{◌≡◌, ◌++◌, map, encode_utf8_all, I
 ghost use Rattle.std.specs.Option.{option_map};
 ghost use Rattle.std.specs.Str.{chars};
 ghost use Rattle.std.specs.String.{string_bytes};
-ghost use Rattle.mk_view.specs.FileNames.{after_last, is_divider as divides, leading as leading_of, name_or, part_name as name_of_part};
+ghost use Rattle.std.specs.List.{after_last};
+ghost use Rattle.mk_view.specs.FileNames.{is_divider as divides, leading as leading_of, name_or, part_name as name_of_part};
 ghost use Rattle.mk_view.specs.TextNames.{cleaned_text as cleaned_of, fitting, named_by, plain_character as plain_of, text_name as text_of_section};
 
 use crate::described::Described;
@@ -104,7 +105,7 @@ fn push_fitting(name: &mut String, characters: &[char], most: usize) -> Result<(
 
 // What follows the last slash or backslash.
 fn last_piece(characters: &[char]) -> &[char]
-    ensures { result.now ≡ after_last characters.now characters.now }
+    ensures { result.now ≡ after_last divides characters.now }
 {
     let mut piece = characters;
     let mut rest = characters;

@@ -1,7 +1,8 @@
 //! Numbers, paths and columns, written after a text.
 ghost use Rattle.std.specs.Prelude.{◌≡◌, ◌++◌, decimal, OnErr, OnOk};
 ghost use Rattle.mk_line.specs.inner.Kept.{IsKept};
-ghost use Rattle.mk_view.specs.Listing.{column, dotted, path_text};
+ghost use Rattle.mk_view.specs.Listing.{path_text};
+ghost use Rattle.mk_view.specs.inner.Columns.{column, dotted};
 
 use itoa::Buffer;
 use std::alloc::AllocError;

@@ -1,5 +1,5 @@
 -- Entries of lists one by one.
-use Rattle.std.proofs.Common.{◌≡◌, ◌&&◌, ◌++◌, if◌then◌else◌, ℕ, Bool, true, false, Option, None, Some, List, [], ◌∷◌, refl, ap, sym, ◌∙◌, inl, inr, length, take, arith}
+use Rattle.std.proofs.Common.{◌≡◌, ◌&&◌, ℕ, Option, List, [], ◌∷◌, refl, ap, sym, ◌∙◌, inl, inr, length, take, arith}
 use Rattle.std.proofs.lemmas.Bool.{cases_Bool}
 use Rattle.mk_line.specs.declared.cutting.Ending.{Ending}
 use Rattle.mk_head.specs.Values.{Scan, Plain, is_plain, scan}

@@ -1,5 +1,5 @@
 -- Stretches one by one.
-use Rattle.std.proofs.Common.{◌≡◌, ◌==◌, ◌&&◌, ◌||◌, ◌<◌, ◌≤◌, ◌+◌, if◌then◌else◌, ℕ, suc, zero, Bool, true, false, List, [], ◌∷◌, ◌++◌, refl, ap, sym, ◌∙◌, inl, inr, length, take, drop, arith, subst, length-drop}
+use Rattle.std.proofs.Common.{◌≡◌, ◌==◌, ◌&&◌, ◌≤◌, if◌then◌else◌, ℕ, suc, zero, true, false, List, [], ◌∷◌, refl, ap, sym, ◌∙◌, inl, inr, length, take, drop, arith, subst}
 use Rattle.std.proofs.lemmas.Bool.{cases_Bool, eqb-true}
 use Rattle.mk_line.specs.Ascii.{backslash, closing, opening, quote}
 use Rattle.mk_line.specs.Lines.{is_nil}

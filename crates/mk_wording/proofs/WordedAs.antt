@@ -8,10 +8,10 @@ use Rattle.mk_line.specs.declared.cutting.Ending.{Ending}
 use Rattle.mk_line.specs.Ascii.{colon}
 use Rattle.mk_head.specs.Values.{Scan, Plain, Comment, is_plain, scan}
 use Rattle.mk_wording.specs.Addresses.{angle, worded_address}
-use Rattle.mk_wording.specs.Lists.{ends_of, worded_entries, worded_entry, worded_list, worded_parameters, worded_pieces}
+use Rattle.mk_wording.specs.Lists.{ends_of, worded_entries, worded_entry, worded_pieces}
 use Rattle.mk_wording.specs.Parameters.{parameter_first, worded_parameter}
 use Rattle.mk_wording.specs.Scanned.{ListEntry, before_mark, entries, from_mark, is_one_of, push_entry}
-use Rattle.mk_wording.specs.Stretches.{Stretch, are_ascii, begin_comment, comment_of, is_in_comment, only_ascii, parenthesis, part_before, push_inside, push_outside, stretches, worded_comment, worded_name, worded_outside, worded_stretches, worded_text}
+use Rattle.mk_wording.specs.Stretches.{Stretch, are_ascii, begin_comment, comment_of, is_in_comment, parenthesis, part_before, push_inside, push_outside, stretches, worded_comment, worded_name, worded_outside, worded_stretches, worded_text}
 use Rattle.mk_wording.specs.WordingLaws.{AddressesStay, CommentsStay, Inside, IsWordedAs, Name, Other, Parameter, ParametersStay, bytes_of, written_as}
 use Rattle.mk_wording.specs.declared.lists.ListKind.{ListKind}
 use Rattle.mk_wording.specs.declared.lists.ListKind.TheVariants.{Addresses, Parameters}

@@ -1,6 +1,7 @@
 -- Parameters of fields that aren't ASCII, with a charset (RFC 2231, 4).
 use Rattle.std.specs.Prelude.{◌==◌, ◌&&◌, ◌||◌, ◌++◌, if◌then◌else◌, ℕ, Bool, true, false, not, Option, None, Some, List, [], ◌∷◌, codes}
 use Rattle.std.specs.List.{list_all}
+use Rattle.std.specs.Option.{option_and_then}
 use Rattle.mk_line.specs.declared.cutting.Ending.{Ending}
 use Rattle.mk_line.specs.Ascii.{backslash, equals_sign, quote}
 use Rattle.mk_line.specs.Lines.{is_nil}
@@ -35,14 +36,11 @@ abbrev pub charset_parameter : List ℕ → List ℕ → List ℕ → Option (Li
 charset_parameter white name value =
     if is_attribute name && is_whole_value value then Some (white ++ (name ++ (codes "*=utf-8''" ++ percent_encoded (name_said false value)))) else None
 
--- the same of a text that was parted at its first equals sign
-abbrev pub given_charset : Option (List ℕ × List ℕ) → Option (List ℕ)
-given_charset None = None
-given_charset (Some p) = charset_parameter (indent p.0) (trimmed (unindented p.0)) (trimmed (unindented p.1))
-
--- a parameter, with its charset where it isn't ASCII; nothing where that can't be
+-- a parameter, with its charset where it isn't ASCII; nothing where that can't be: it is parted at its first equals sign
 abbrev pub worded_parameter : List ℕ → Option (List ℕ)
-worded_parameter text = if are_ascii text then Some text else given_charset (parted equals_sign text)
+worded_parameter text =
+    if are_ascii text then Some text
+    else option_and_then (λ p. charset_parameter (indent p.0) (trimmed (unindented p.0)) (trimmed (unindented p.1))) (parted equals_sign text)
 
 -- a parameter and the comments after it
 abbrev pub parameter_first : Ending → List Stretch → Option (List ℕ)

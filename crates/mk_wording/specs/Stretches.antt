@@ -1,5 +1,5 @@
 -- Comments of structured values as encoded words (RFC 5322, 3.2.2; RFC 2047, 5; which need them is own).
-use Rattle.std.specs.Prelude.{◌==◌, ◌&&◌, ◌||◌, ◌++◌, if◌then◌else◌, ℕ, Bool, true, false, not, Option, None, Some, List, [], ◌∷◌, codes, drop, nat_lt, take}
+use Rattle.std.specs.Prelude.{◌==◌, ◌&&◌, ◌||◌, ◌++◌, if◌then◌else◌, ℕ, Bool, true, false, Option, None, Some, List, [], ◌∷◌, codes, drop, nat_lt, take}
 use Rattle.std.specs.List.{list_all, prefix_len}
 use Rattle.std.specs.Option.{option_map}
 use Rattle.mk_line.specs.declared.cutting.Ending.{Ending}
@@ -94,14 +94,10 @@ worded_comment eol inside = if needs_words (comment_said false inside) then word
 abbrev pub are_ascii : List ℕ → Bool
 are_ascii bytes = list_all (λ byte. nat_lt byte 128) bytes
 
--- bytes, where they are ASCII
-abbrev pub only_ascii : List ℕ → Option (List ℕ)
-only_ascii bytes = if are_ascii bytes then Some bytes else None
-
 -- bytes outside comments: a name, or what has to be ASCII
 abbrev pub worded_outside : Outside → Ending → List ℕ → Option (List ℕ)
 worded_outside Names eol bytes = Some (worded_name eol bytes)
-worded_outside Ascii eol bytes = only_ascii bytes
+worded_outside Ascii eol bytes = if are_ascii bytes then Some bytes else None
 
 -- a part, and bytes after it, before others, where there are all
 abbrev pub part_before : List ℕ → Option (List ℕ) → Option (List ℕ) → Option (List ℕ)

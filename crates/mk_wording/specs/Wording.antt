@@ -1,6 +1,7 @@
 -- Fields whose values go in as encoded words (RFC 2047; which values do is own).
-use Rattle.std.specs.Prelude.{◌&&◌, ◌||◌, ◌++◌, if◌then◌else◌, ℕ, Bool, true, false, not, Option, None, Some, List, [], ◌∷◌, codes, drop, is_some, take}
+use Rattle.std.specs.Prelude.{◌||◌, ◌++◌, if◌then◌else◌, ℕ, Bool, true, false, not, Option, Some, List, [], ◌∷◌, codes, drop, is_some, take}
 use Rattle.std.specs.List.{list_any}
+use Rattle.std.specs.Option.{option_map_or}
 use Rattle.mk_line.specs.declared.cutting.Ending.{Ending}
 use Rattle.mk_line.specs.declared.cutting.Ending.TheVariants.{Lf}
 use Rattle.mk_line.specs.Ascii.{colon}
@@ -57,10 +58,6 @@ holds_structure Text = false
 abbrev pub is_structured : List ℕ → Bool
 is_structured name = holds_structure (field_kind name)
 
--- the field of a name and a value
-abbrev pub made_field : List ℕ → List ℕ → List ℕ
-made_field name value = name ++ (codes ": " ++ value)
-
 -- a value in encoded words; nothing where it needs them in a place that can't have them
 abbrev pub worded_value : FieldKind → Ending → List ℕ → Option (List ℕ)
 worded_value Addresses eol value = worded_list InAddresses eol value
@@ -68,33 +65,19 @@ worded_value Parameters eol value = worded_parameters eol value
 worded_value Comments eol value = worded_text Ascii eol value
 worded_value Text eol value = Some (words_encoded eol value)
 
--- the field of a name and a value that was written, or as it is given where it couldn't be
-abbrev pub field_or : List ℕ → List ℕ → Option (List ℕ) → List ℕ
-field_or field name None = field
-field_or field name (Some worded) = made_field name worded
-
--- a field of a name and a value, or as it is given, where its value needs no encoded words
+-- a field of a name and a value that was written, or as it is given, where its value needs no encoded words or couldn't be written
 abbrev pub worded_field_of : Ending → List ℕ → List ℕ → List ℕ → List ℕ
-worded_field_of eol field name value = if needs_words value then field_or field name (worded_value (field_kind name) eol value) else field
+worded_field_of eol field name value =
+    if needs_words value then option_map_or (λ worded. name ++ (codes ": " ++ worded)) (worded_value (field_kind name) eol value) field else field
 
 -- a value that can go into a field of a name as encoded words, or needs none
 abbrev pub value_takes_words : List ℕ → List ℕ → Bool
 value_takes_words name value = not (needs_words value) || is_some (worded_value (field_kind name) Lf value)
 
--- the same of a field that was parted at its colon
-abbrev pub taken_by : Option (List ℕ × List ℕ) → Bool
-taken_by None = true
-taken_by (Some p) = value_takes_words (trimmed p.0) (stripped p.1)
-
 -- a field that `--encode` can write: what needs encoded words stands where they may
 abbrev pub takes_words : List ℕ → Bool
-takes_words field = taken_by (parted colon field)
-
--- a field that was parted at its colon
-abbrev pub worded_by : Ending → List ℕ → Option (List ℕ × List ℕ) → List ℕ
-worded_by eol field None = field
-worded_by eol field (Some p) = worded_field_of eol field (trimmed p.0) (stripped p.1)
+takes_words field = option_map_or (λ p. value_takes_words (trimmed p.0) (stripped p.1)) (parted colon field) true
 
 -- a field whose value is in encoded words, where it needs them (`--encode`)
 abbrev pub worded_field : Ending → List ℕ → List ℕ
-worded_field eol field = worded_by eol field (parted colon field)
+worded_field eol field = option_map_or (λ p. worded_field_of eol field (trimmed p.0) (stripped p.1)) (parted colon field) field

@@ -1,8 +1,8 @@
 //! Addresses with their names in encoded words (RFC 5322, 3.4; RFC 2047, 5).
 
 ghost use Rattle.std.specs.Prelude.{◌≡◌, ◌≢◌, [], if◌then◌else◌, IfOk};
+ghost use Rattle.std.specs.Option.{option_map};
 ghost use Rattle.mk_head.specs.Values.{Plain};
-ghost use Rattle.mk_mail.specs.LetterViews.{bytes_in};
 ghost use Rattle.mk_wording.specs.Addresses.{angle, worded_address as address_in_words};
 ghost use Rattle.mk_wording.specs.Scanned.{before_mark, from_mark};
 ghost use Rattle.mk_wording.specs.Stretches.{part_before, worded_text as text_in_words};
@@ -25,7 +25,7 @@ pub(crate) fn worded_address(
     eol: Ending,
 ) -> Result<Option<Vec<u8>>, AllocError>
     requires { eol ≢ Ending.Missing }
-    ensures { IfOk result (λ worded. bytes_in worded ≡ address_in_words eol is_group (before_mark angle Plain text.now) (from_mark angle Plain text.now)) }
+    ensures { IfOk result (λ worded. option_map (λ v. v.items) worded ≡ address_in_words eol is_group (before_mark angle Plain text.now) (from_mark angle Plain text.now)) }
 {
     let (name, address) = text.split_at(mark_place(text, ANGLE));
     if address.is_empty() {
@@ -53,7 +53,7 @@ fn named(
     eol: Ending,
 ) -> Result<Option<Vec<u8>>, AllocError>
     requires { eol ≢ Ending.Missing }
-    ensures { IfOk result (λ worded. bytes_in worded ≡ part_before [] (text_in_words Names eol name.now) (text_in_words Ascii eol address.now)) }
+    ensures { IfOk result (λ worded. option_map (λ v. v.items) worded ≡ part_before [] (text_in_words Names eol name.now) (text_in_words Ascii eol address.now)) }
 {
     let Some(mut worded) = worded_text(alloc, name, Outside::Names, eol)? else {
         return Ok(None);

@@ -1,8 +1,8 @@
 //! Lists of addresses and of parameters as they are written (RFC 5322, 3.4; RFC 2045, 5.1).
 
 ghost use Rattle.std.specs.Prelude.{◌≡◌, ◌≢◌, IfOk, take};
+ghost use Rattle.std.specs.Option.{option_map};
 ghost use Rattle.mk_line.specs.Ascii.{colon};
-ghost use Rattle.mk_mail.specs.LetterViews.{bytes_in};
 ghost use Rattle.mk_wording.specs.Lists.{ends_of, worded_entry as entry_in_words, worded_list as list_in_words, worded_parameters as parameters_in_words};
 ghost use Rattle.mk_wording.specs.Scanned.{is_one_of as one_of};
 
@@ -49,7 +49,7 @@ pub(crate) fn worded_list(
     eol: Ending,
 ) -> Result<Option<Vec<u8>>, AllocError>
     requires { eol ≢ Ending.Missing }
-    ensures { IfOk result (λ worded. bytes_in worded ≡ list_in_words kind eol value.now) }
+    ensures { IfOk result (λ worded. option_map (λ v. v.items) worded ≡ list_in_words kind eol value.now) }
 {
     let mut worded = Vec::new(alloc);
     let mut rest = value;
@@ -78,7 +78,7 @@ fn worded_entry(
     eol: Ending,
 ) -> Result<Option<Vec<u8>>, AllocError>
     requires { eol ≢ Ending.Missing }
-    ensures { IfOk result (λ worded. bytes_in worded ≡ entry_in_words kind eol (record { text = text.now; end = take 1 following.now })) }
+    ensures { IfOk result (λ worded. option_map (λ v. v.items) worded ≡ entry_in_words kind eol (record { text = text.now; end = take 1 following.now })) }
 {
     match kind {
         ListKind::Addresses => worded_address(alloc, text, begins_with_colon(following), eol),
@@ -100,7 +100,7 @@ pub(crate) fn worded_parameters(
     eol: Ending,
 ) -> Result<Option<Vec<u8>>, AllocError>
     requires { eol ≢ Ending.Missing }
-    ensures { IfOk result (λ worded. bytes_in worded ≡ parameters_in_words eol value.now) }
+    ensures { IfOk result (λ worded. option_map (λ v. v.items) worded ≡ parameters_in_words eol value.now) }
 {
     let (front, following) = value.split_at(mark_place(value, PARAMETER_ENDS));
     let Some(mut worded) = worded_text(alloc, front, Outside::Ascii, eol)? else {

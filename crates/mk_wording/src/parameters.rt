@@ -2,8 +2,8 @@
 
 ghost use Rattle.std.specs.Prelude.{◌≡◌, ◌≢◌, false, IfOk};
 ghost use Rattle.std.specs.List.{list_all};
+ghost use Rattle.std.specs.Option.{option_map};
 ghost use Rattle.mk_head.specs.Values.{Plain};
-ghost use Rattle.mk_mail.specs.LetterViews.{bytes_in};
 ghost use Rattle.mk_param.specs.Percents.{is_attribute_byte as attribute_byte};
 ghost use Rattle.mk_wording.specs.Parameters.{charset_parameter as parameter_with_charset, ends_quoted as quoted_to_the_end, is_attribute as attribute, is_bare_byte as bare_byte, is_whole_value as whole_value, parameter_first as first_in_words, worded_parameter as parameter_in_words};
 ghost use Rattle.mk_wording.specs.Stretches.{stretches};
@@ -34,7 +34,7 @@ pub(crate) fn parameter_first(
     eol: Ending,
 ) -> Result<Option<Vec<u8>>, AllocError>
     requires { eol ≢ Ending.Missing }
-    ensures { IfOk result (λ worded. bytes_in worded ≡ first_in_words eol (stretches Plain text.now)) }
+    ensures { IfOk result (λ worded. option_map (λ v. v.items) worded ≡ first_in_words eol (stretches Plain text.now)) }
 {
     let (stretch, more) = first_stretch(text);
     let Some(mut worded) = worded_parameter(alloc, stretch.outside)? else {
@@ -55,7 +55,7 @@ pub(crate) fn parameter_first(
 
 // A parameter with its charset, where it isn't ASCII.
 fn worded_parameter(alloc: Global, text: &[u8]) -> Result<Option<Vec<u8>>, AllocError>
-    ensures { IfOk result (λ worded. bytes_in worded ≡ parameter_in_words text.now) }
+    ensures { IfOk result (λ worded. option_map (λ v. v.items) worded ≡ parameter_in_words text.now) }
 {
     if are_ascii(text) {
         return Ok(Some(Vec::from_slice(alloc, text)?));
@@ -75,7 +75,7 @@ fn charset_parameter(
     name: &[u8],
     value: &[u8],
 ) -> Result<Option<Vec<u8>>, AllocError>
-    ensures { IfOk result (λ worded. bytes_in worded ≡ parameter_with_charset white.now name.now value.now) }
+    ensures { IfOk result (λ worded. option_map (λ v. v.items) worded ≡ parameter_with_charset white.now name.now value.now) }
 {
     if !is_attribute(name) || !is_whole_value(value) {
         return Ok(None);

@@ -2,11 +2,11 @@
 
 ghost use Rattle.std.specs.Prelude.{◌≡◌, ◌≢◌, ◌<◌, ◌≤◌, ◌++◌, ◌∷◌, if◌then◌else◌, [], Some, None, false, length, IfOk, OnOk};
 ghost use Rattle.std.specs.List.{prefix_len};
+ghost use Rattle.std.specs.Option.{option_map};
 ghost use Rattle.mk_line.specs.Lines.{is_nil};
 ghost use Rattle.mk_head.specs.Values.{Plain};
-ghost use Rattle.mk_mail.specs.LetterViews.{bytes_in};
 ghost use Rattle.mk_mail.specs.Prepended.{is_break as breaks, is_white as white};
-ghost use Rattle.mk_wording.specs.Stretches.{are_ascii as all_ascii, comment_of, comment_said as said_by_comment, indent as indent_of, name_said as said_by_name, only_ascii, stretches, unindented as text_after_indent, worded_comment as comment_in_words, worded_name as name_in_words, worded_outside as outside_in_words, worded_text as text_in_words};
+ghost use Rattle.mk_wording.specs.Stretches.{are_ascii as all_ascii, comment_of, comment_said as said_by_comment, indent as indent_of, name_said as said_by_name, stretches, unindented as text_after_indent, worded_comment as comment_in_words, worded_name as name_in_words, worded_outside as outside_in_words, worded_text as text_in_words};
 ghost use Rattle.mk_wording.specs.inner.StretchViews.{stretch_of, stretches_after};
 
 use crate::scanning::{comment_end, mark_place};
@@ -85,7 +85,7 @@ pub(crate) fn worded_text(
     eol: Ending,
 ) -> Result<Option<Vec<u8>>, AllocError>
     requires { eol ≢ Ending.Missing }
-    ensures { IfOk result (λ worded. bytes_in worded ≡ text_in_words which eol text.now) }
+    ensures { IfOk result (λ worded. option_map (λ v. v.items) worded ≡ text_in_words which eol text.now) }
 {
     let mut worded = Vec::new(alloc);
     let mut rest = text;
@@ -111,7 +111,7 @@ fn worded_outside(
     eol: Ending,
 ) -> Result<Option<Vec<u8>>, AllocError>
     requires { eol ≢ Ending.Missing }
-    ensures { IfOk result (λ worded. bytes_in worded ≡ outside_in_words which eol bytes.now) }
+    ensures { IfOk result (λ worded. option_map (λ v. v.items) worded ≡ outside_in_words which eol bytes.now) }
 {
     match which {
         Outside::Names => Ok(Some(worded_name(alloc, bytes, eol)?)),
@@ -121,7 +121,7 @@ fn worded_outside(
 
 // The bytes, where they are ASCII.
 fn kept(alloc: Global, bytes: &[u8]) -> Result<Option<Vec<u8>>, AllocError>
-    ensures { IfOk result (λ kept. bytes_in kept ≡ only_ascii bytes.now) }
+    ensures { IfOk result (λ kept. option_map (λ v. v.items) kept ≡ if all_ascii bytes.now then Some bytes.now else None) }
 {
     if are_ascii(bytes) {
         Ok(Some(Vec::from_slice(alloc, bytes)?))

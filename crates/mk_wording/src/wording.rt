@@ -1,9 +1,9 @@
 //! Fields whose values go in as encoded words (RFC 2047).
 
-ghost use Rattle.std.specs.Prelude.{◌≡◌, ◌≢◌, IfOk};
+ghost use Rattle.std.specs.Prelude.{◌≡◌, ◌≢◌, ◌++◌, codes, IfOk};
+ghost use Rattle.std.specs.Option.{option_map};
 ghost use Rattle.mk_head.specs.Values.{stripped};
-ghost use Rattle.mk_mail.specs.LetterViews.{bytes_in};
-ghost use Rattle.mk_wording.specs.Wording.{made_field as field_of, takes_words as field_takes_words, value_takes_words as value_can, worded_field as field_in_words, worded_field_of, worded_value as value_in_words};
+ghost use Rattle.mk_wording.specs.Wording.{takes_words as field_takes_words, value_takes_words as value_can, worded_field as field_in_words, worded_field_of, worded_value as value_in_words};
 
 use crate::lists::{ListKind, worded_list, worded_parameters};
 use crate::names::{FieldKind, kind_of};
@@ -58,7 +58,7 @@ fn worded_value(
     eol: Ending,
 ) -> Result<Option<Vec<u8>>, AllocError>
     requires { eol ≢ Ending.Missing }
-    ensures { IfOk result (λ worded. bytes_in worded ≡ value_in_words kind eol text.now) }
+    ensures { IfOk result (λ worded. option_map (λ v. v.items) worded ≡ value_in_words kind eol text.now) }
 {
     let value = text.as_bytes();
     match kind {
@@ -71,7 +71,7 @@ fn worded_value(
 
 // The field of a name and a value.
 fn made_field(alloc: Global, name: &[u8], value: &[u8]) -> Result<Vec<u8>, AllocError>
-    ensures { IfOk result (λ field. field.items ≡ field_of name.now value.now) }
+    ensures { IfOk result (λ field. field.items ≡ name.now ++ (codes ": " ++ value.now)) }
 {
     let mut field = Vec::from_slice(alloc, name)?;
     field.extend_from_slice(b": ")?;

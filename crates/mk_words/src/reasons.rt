@@ -6,7 +6,7 @@ use crate::options::PACK;
 const COLON: &[u8] = b": ";
 
 /// The names of reasons, and each in words.
-const REASONS: [(&str, &str); 25] = [
+const REASONS: [(&str, &str); 26] = [
     (
         "NoSuchSection",
         "there is no section at this path; 'sections' lists the paths",
@@ -53,6 +53,10 @@ const REASONS: [(&str, &str); 25] = [
     (
         "BadBase64",
         "the content isn't valid base64; 'extract --prefix' prints what can be decoded of it",
+    ),
+    (
+        "UnknownCharset",
+        "this charset isn't known, or has no character for a byte of the content, which is printed as it is",
     ),
     ("BadType", "this media type can't be attached"),
     (

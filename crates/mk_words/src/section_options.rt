@@ -32,7 +32,7 @@ pub static SECTIONS_COMMAND: Subcommand = Subcommand {
     ],
 };
 
-/// mimetool extract [-n N [--rfc4155|--mbox HOW] [--unquote]] -s PATH [--raw|--head|--prefix]
+/// mimetool extract [-n N [--rfc4155|--mbox HOW] [--unquote]] -s PATH [--raw|--head|--prefix|--utf8]
 pub static EXTRACT_COMMAND: Subcommand = Subcommand {
     name: EXTRACT,
     about: "Prints the content of a section, decoded if no sections are below it",
@@ -65,6 +65,11 @@ pub static EXTRACT_COMMAND: Subcommand = Subcommand {
             help: "Print what can be decoded of invalid base64; the fault is still reported",
             conflicts: &[RAW, HEAD],
             ..FLAG
+        },
+        Argument {
+            help: "Print the content in UTF-8, by the charset that the type names",
+            conflicts: &[RAW, HEAD, PREFIX],
+            ..UTF8_OPTION
         },
         EXPLAIN_OPTION,
         NUMBER_OPTION,

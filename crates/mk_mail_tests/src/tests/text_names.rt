@@ -64,7 +64,15 @@ says: attachment; filename=caf\xe9.txt
 name: caf_.txt
 
 == a charset that isn't known, and nothing else
-says: attachment; filename*=koi8-r''a
+says: attachment; filename*=iso-2022-jp''a
+name: part-1
+
+== a charset of one byte a character
+says: attachment; filename*=KOI8-R''%C1.txt
+name: а.txt
+
+== a byte that has no character in its charset, and nothing else
+says: attachment; filename*=iso-8859-3''%A5
 name: part-1
 
 == 60 letters of two bytes

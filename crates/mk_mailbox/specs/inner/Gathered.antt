@@ -7,8 +7,8 @@ use Rattle.mk_line.specs.Lines.{TextLine, cut, ended, ends_open, has_line_feed, 
 use Rattle.mk_mailbox.specs.declared.from_lines.FromLines.{FromLines}
 use Rattle.mk_mailbox.specs.declared.gathering.Told.{Told}
 use Rattle.mk_mailbox.specs.declared.gathering.Told.TheVariants.{Begins, Waits, Belongs}
-use Rattle.mk_mailbox.specs.Mailboxes.{IsOpenInFront}
 use Rattle.mk_mailbox.specs.Pieces.{front, later, mailbox_pieces, may_begin, needs_field}
+use Rattle.mk_mailbox.specs.inner.Parts.{IsOpenInFront}
 
 -- the bytes of a text that still belong to a message, and the messages after them
 abbrev pub front_of : FromLines → Bool → List ℕ → List ℕ

@@ -1,8 +1,12 @@
 -- What reads a mailbox in chunks, as what it holds; for private contracts.
-use Rattle.std.specs.Prelude.{◌++◌, ℕ, List}
+use Rattle.std.specs.Prelude.{◌++◌, ℕ, List, drop, take}
 use Rattle.mk_mailbox.specs.declared.intake.Intake.{Intake}
 use Rattle.mk_mailbox.specs.inner.Gathered.{IsChunk, IsGathered}
-use Rattle.mk_mailbox.specs.Held.{Held, unread}
+use Rattle.mk_mailbox.specs.Held.{Held}
+
+-- the bytes of a chunk that weren't taken from it yet
+abbrev pub unread : List ℕ → ℕ → ℕ → List ℕ
+unread chunk at filled = drop at (take filled chunk)
 
 -- the bytes that were read and not given yet: the lines gathered, and those in the chunk
 abbrev pub kept_by : Intake → List ℕ

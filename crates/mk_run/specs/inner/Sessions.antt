@@ -1,5 +1,5 @@
 -- What the steps on a session leave in the sinks.
-use Rattle.std.specs.Prelude.{◌≡◌, ◌⊎◌, ℕ, Bool, List, Option, Result, Ok, Err}
+use Rattle.std.specs.Prelude.{◌≡◌, ◌⊎◌, ℕ, List, Option, Result, Ok, Err}
 use Rattle.std.specs.Io.KnownBytes.{Appends, Keeps}
 use Rattle.mk_mailbox.specs.Devices.{AppendsFront}
 use Rattle.mk_transfer.specs.declared.status.Status.{Status}

@@ -127,22 +127,28 @@ fn check_row(rt: &impl Abort, alloc: Global, row: &Row) -> Result<(), Fail> {
         sections: (!sections.is_empty()).then_some(sections.as_slice()),
     };
     for size in SIZES {
-        let mut input = Text::new(row.bytes("message"), size);
-        let mut out = Page::new(alloc, size)?;
-        let mut err = Page::new(alloc, size)?;
-        let mut dir = Shelf::new(alloc);
-        fill(&mut dir, row)?;
-        let done = try_unpack(alloc, &mut input, &mut out, &mut err, &mut dir, options);
-        check_left(
-            rt,
-            alloc,
-            row,
-            done.ok().unwrap_or(Status::Fault),
-            &out,
-            &err,
-        )?;
-        check_files(rt, &dir, row);
+        check_sized(rt, alloc, row, size, options)?;
     }
+    Ok(())
+}
+
+// What is unpacked over devices that take so many bytes at once.
+fn check_sized(
+    rt: &impl Abort,
+    alloc: Global,
+    row: &Row,
+    size: usize,
+    options: UnpackOptions<'_>,
+) -> Result<(), Fail> {
+    let mut input = Text::new(row.bytes("message"), size);
+    let mut out = Page::new(alloc, size)?;
+    let mut err = Page::new(alloc, size)?;
+    let mut dir = Shelf::new(alloc);
+    fill(&mut dir, row)?;
+    let done = try_unpack(alloc, &mut input, &mut out, &mut err, &mut dir, options);
+    let status = done.ok().unwrap_or(Status::Fault);
+    check_left(rt, alloc, row, status, &out, &err)?;
+    check_files(rt, &dir, row);
     Ok(())
 }
 
@@ -160,16 +166,17 @@ const TWO: &[u8] =
 #[test]
 fn memory_for_sections_alone(rt: HostRuntime) {
     let alloc = rt.alloc();
-    let (Ok(out), Ok(err)) = (Page::new(alloc, 100), Page::new(alloc, 100)) else {
+    let (Ok(mut out), Ok(mut err)) = (Page::new(alloc, 100), Page::new(alloc, 100)) else {
         return;
     };
-    let (Ok(sections), Ok(dir)) = (two_paths(alloc), Slot::new(alloc, 100)) else {
+    let (Ok(sections), Ok(mut dir)) = (two_paths(alloc), Slot::new(alloc, 100)) else {
         return;
     };
-    if !is_put(&rt, alloc, out, err, dir, &sections) {
-        let dir = Slot::new(alloc, 100).expect(&rt, "memory");
-        let (out, err) = (page(&rt, alloc), page(&rt, alloc));
-        assert!(rt; is_put(&rt, alloc, out, err, dir, &sections));
+    if !is_put(&rt, alloc, &mut out, &mut err, &mut dir, &sections) {
+        let mut dir = Slot::new(alloc, 100).expect(&rt, "memory");
+        let (mut out, mut err) = (page(&rt, alloc), page(&rt, alloc));
+        let put = is_put(&rt, alloc, &mut out, &mut err, &mut dir, &sections);
+        assert!(rt; put);
     }
 }
 
@@ -185,9 +192,9 @@ fn two_paths(alloc: Global) -> Result<Vec<Vec<u32>>, AllocError> {
 fn is_put(
     rt: &impl Abort,
     alloc: Global,
-    mut out: Page,
-    mut err: Page,
-    mut dir: Slot,
+    out: &mut Page,
+    err: &mut Page,
+    dir: &mut Slot,
     sections: &[Vec<u32>],
 ) -> bool {
     let mut input = Text::new(TWO, 100);
@@ -201,7 +208,7 @@ fn is_put(
         texts: true,
         sections: Some(sections),
     };
-    let done = try_unpack(alloc, &mut input, &mut out, &mut err, &mut dir, options);
+    let done = try_unpack(alloc, &mut input, out, err, dir, options);
     if done == Err(Cause::Memory) {
         assert_eq!(rt; out.bytes(), b"".as_slice());
         assert!(rt; b"1.3: NoSuchSection\n".starts_with(err.bytes()));

@@ -329,10 +329,21 @@ fn check_row(
     each: bool,
 ) -> Result<(), Fail> {
     let letters = letters_in(alloc, row)?;
-    let page = Page::new(alloc, size)?;
-    let mut input = Text::new(row.bytes("message"), size);
-    let left = run(alloc, &letters, &mut input, page, size, each)?;
+    let left = run_row(alloc, &letters, row, size, each)?;
     check_left(rt, alloc, row, left.status, &left.out, &left.err)
+}
+
+// What letters leave of a row's message.
+fn run_row(
+    alloc: Global,
+    letters: &Letters,
+    row: &Row,
+    size: usize,
+    each: bool,
+) -> Result<Left, Fail> {
+    let mut input = Text::new(row.bytes("message"), size);
+    let page = Page::new(alloc, size)?;
+    run(alloc, letters, &mut input, page, size, each)
 }
 
 #[test]
@@ -362,14 +373,25 @@ fn check_dated(rt: &impl Abort, alloc: Global, row: &Row, size: usize) -> Result
         from_lines: FromLines::Dated,
         ..FieldFilter::new(&rounds)
     };
-    let mut input = Text::new(row.bytes("message"), size);
-    let mut out = Page::new(alloc, size)?;
-    let mut err = Page::new(alloc, size)?;
+    check_filter(rt, alloc, row, size, &filter)
+}
+
+// A filter leaves of a mailbox what its row says.
+fn check_filter(
+    rt: &impl Abort,
+    alloc: Global,
+    row: &Row,
+    size: usize,
+    filter: &FieldFilter<'_>,
+) -> Result<(), Fail> {
     if !filter.ok() {
         assert!(rt; false, "{}", row.shows);
         return Ok(());
     }
-    let status = match try_field(alloc, &mut input, &mut out, &mut err, &filter, true) {
+    let mut input = Text::new(row.bytes("message"), size);
+    let mut out = Page::new(alloc, size)?;
+    let mut err = Page::new(alloc, size)?;
+    let status = match try_field(alloc, &mut input, &mut out, &mut err, filter, true) {
         Ok(status) => status,
         Err(cause) => give_up(&mut err, cause),
     };
@@ -400,8 +422,6 @@ fn messages_go_out_one_by_one(rt: HostRuntime) -> Result<(), Fail> {
     let alloc = rt.alloc();
     let letters = only(alloc, b"A: 9")?;
     for good in 0..MAILBOX.len() + 1 {
-        let mut input = Text::failing(MAILBOX, 1, good as u64);
-        let left = run(alloc, &letters, &mut input, Page::new(alloc, 7)?, 7, true)?;
         let gone = if good < KNOWN[0] {
             0
         } else if good < KNOWN[1] {
@@ -409,11 +429,26 @@ fn messages_go_out_one_by_one(rt: HostRuntime) -> Result<(), Fail> {
         } else {
             GONE[1]
         };
-        assert_eq!(rt; left.out.bytes(), &FILTERED[..gone], "after {good} bytes");
-        assert_eq!(rt; left.err.bytes(), READ_FAULT);
-        assert_eq!(rt; left.status, Status::Fault);
-        assert_eq!(rt; input.faults(), 1);
+        check_failing(&rt, alloc, &letters, good, true, &FILTERED[..gone])?;
     }
+    Ok(())
+}
+
+// Where reading fails after so many bytes, this has gone out, and the line of the fault.
+fn check_failing(
+    rt: &impl Abort,
+    alloc: Global,
+    letters: &Letters,
+    good: usize,
+    each: bool,
+    output: &[u8],
+) -> Result<(), Fail> {
+    let mut input = Text::failing(MAILBOX, 1, good as u64);
+    let left = run(alloc, letters, &mut input, Page::new(alloc, 7)?, 7, each)?;
+    assert_eq!(rt; left.out.bytes(), output, "after {good} bytes");
+    assert_eq!(rt; left.err.bytes(), READ_FAULT);
+    assert_eq!(rt; left.status, Status::Fault);
+    assert_eq!(rt; input.faults(), 1);
     Ok(())
 }
 
@@ -423,11 +458,7 @@ fn a_read_fault_prints_nothing(rt: HostRuntime) -> Result<(), Fail> {
     let alloc = rt.alloc();
     let letters = only(alloc, b"A: 9")?;
     for good in 0..MAILBOX.len() + 1 {
-        let mut input = Text::failing(MAILBOX, 1, good as u64);
-        let left = run(alloc, &letters, &mut input, Page::new(alloc, 7)?, 7, false)?;
-        assert_eq!(rt; left.out.bytes(), b"".as_slice());
-        assert_eq!(rt; left.err.bytes(), READ_FAULT);
-        assert_eq!(rt; left.status, Status::Fault);
+        check_failing(&rt, alloc, &letters, good, false, b"")?;
     }
     Ok(())
 }

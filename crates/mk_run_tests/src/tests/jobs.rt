@@ -151,6 +151,13 @@ piece: hi
 output: Content-Type: multipart/mixed; boundary=b\r\n\r\n--b\r\n\r\none\r\n--b\r\nContent-Type: image/gif; name="n.gif"\r\nContent-Disposition: attachment; filename="n.gif"\r\nContent-Transfer-Encoding: base64\r\n\r\naGk=
 status: Well
 
+== a file in a multipart without parts, where nothing follows
+message: Content-Type: multipart/mixed; boundary=b\n\npreamble\n
+script: attach 1 text/plain n.txt 1\n
+piece: hi
+output: Content-Type: multipart/mixed; boundary=b\n\npreamble\n--b\nContent-Type: text/plain; name="n.txt"\nContent-Disposition: attachment; filename="n.txt"\nContent-Transfer-Encoding: quoted-printable\n\nhi
+status: Well
+
 == files that aren't attached
 message: Content-Type: multipart/mixed; boundary=b\n\n--b\n\none\n--b--\n
 script: attach 1 multipart/mixed n 1\nattach 1 text/plain a"b 1\nattach 1.1 text/plain n 1\nattach 1.2 text/plain n 1\n

@@ -179,6 +179,57 @@ portion: prefix
 path: 1
 output: --b\n\none\n--b--\n
 status: Well
+
+== a text in windows-1252, in UTF-8
+message: Content-Type: text/plain; charset=Windows-1252\nContent-Transfer-Encoding: quoted-printable\n\n=80 =93caf=E9=94\n
+portion: utf8
+path: 1
+output: \xe2\x82\xac \xe2\x80\x9ccaf\xc3\xa9\xe2\x80\x9d\n
+status: Well
+
+== a text in koi8-r, by another label
+message: Content-Type: text/plain; charset=koi8\n\n\xd0\xd2\xc9\n
+portion: utf8
+path: 1
+output: \xd0\xbf\xd1\x80\xd0\xb8\n
+status: Well
+
+== a text that names no charset is as it is
+message: Content-Type: text/plain\n\n\xe9\n
+portion: utf8
+path: 1
+output: \xe9\n
+status: Well
+
+== a charset that isn't known is named, and the content is as it is
+message: Content-Type: text/plain; charset="shift jis"\n\n\x82\xa0\n
+portion: utf8
+path: 1
+output: \x82\xa0\n
+errors: 1: UnknownCharset shift_jis\n
+status: Refused
+
+== a byte that has no character in its charset
+message: Content-Type: text/plain; charset=iso-8859-3\n\na\xa5\n
+portion: utf8
+path: 1
+output: a\xa5\n
+errors: 1: UnknownCharset iso-8859-3\n
+status: Refused
+
+== a content that can't be decoded
+message: Content-Type: text/plain; charset=utf-8\nContent-Transfer-Encoding: base64\n\naGl=\n
+portion: utf8
+path: 1
+errors: 1: BadBase64\n
+status: Refused
+
+== no section to be given as a text
+message: A: b\n
+portion: utf8
+path: 2
+errors: 2: NoSuchSection\n
+status: Refused
 "#;
 
 // The portion that a row asks for.
@@ -187,6 +238,7 @@ fn wanted(row: &Row) -> Portion {
         "raw" => Portion::Raw,
         "head" => Portion::Head,
         "prefix" => Portion::Prefix,
+        "utf8" => Portion::Utf8,
         _ => Portion::Content,
     }
 }

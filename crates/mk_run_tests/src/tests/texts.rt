@@ -36,6 +36,13 @@ piece:
 output: Content-Type: multipart/mixed; boundary=b\n\n--b\n\none\n--b\n\n\n--b--\n
 status: Well
 
+== a text in a multipart without parts, where nothing follows
+message: Content-Type: multipart/mixed; boundary=b\n\npreamble\n
+script: append-text 1 1\n
+piece: two
+output: Content-Type: multipart/mixed; boundary=b\n\npreamble\n--b\n\ntwo
+status: Well
+
 == what isn't a multipart, and what isn't there
 message: A: 1\n\none\n
 script: append-text 1 1\nappend-text 1.1 1\nattach-text 1 text/plain 1\n

@@ -103,8 +103,8 @@ status: Well
 
 == a charset that isn't known
 take: A:
-message: A: =?koi8-r?B?8A==?= =?utf-8?Q?b?=\n
-output: =?koi8-r?B?8A==?= b\n
+message: A: =?gb18030?B?8A==?= =?utf-8?Q?b?=\n
+output: =?gb18030?B?8A==?= b\n
 status: Well
 
 == bytes that aren't UTF-8 stand as they are, and a word that stands for one stays

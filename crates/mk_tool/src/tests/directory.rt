@@ -1,5 +1,6 @@
 //! A folder of the system: it is made at the first file, and no link in it is followed.
 
+use super::holds;
 use mk_run::Folder;
 use mk_system::Directory;
 use std::fs;
@@ -25,8 +26,8 @@ fn no_link_is_followed(rt: HostRuntime) -> Result<(), Fail> {
     symlink(&rt, "../../elsewhere", LINK)?;
     assert_eq!(rt; dir.put(b"link", b"4", false), Ok(false));
     assert_eq!(rt; dir.put(b"link", b"5", true), Ok(true));
-    assert_eq!(rt; fs::read_to_string(&rt, ELSEWHERE)?.as_str(), "3");
-    assert_eq!(rt; fs::read_to_string(&rt, LINK)?.as_str(), "5");
+    holds(&rt, ELSEWHERE, "3")?;
+    holds(&rt, LINK, "5")?;
     fs::remove_dir_all(&rt, OUTER)?;
     Ok(())
 }

@@ -1,6 +1,6 @@
 //! Commands that read and write files of the system. Each test has a folder of its own.
 
-use super::{obeyed, same};
+use super::{gives, holds, obeyed, prints, same};
 use mk_run::Status;
 use std::fs;
 use std::test::Fail;
@@ -33,20 +33,25 @@ fn scripts_and_pieces_are_files(rt: HostRuntime) -> Result<(), Fail> {
     let _ = fs::remove_dir_all(&rt, folder);
     fs::create_dir_all(&rt, folder)?;
     fs::write(&rt, script, "add 1 C: d\n")?;
-    let found = obeyed(&rt, &["edit", script], MESSAGE)?;
-    same(&rt, &found, b"A: b\nC: d\n\nx\n", b"", Status::Well);
+    prints(&rt, &["edit", script], MESSAGE, b"A: b\nC: d\n\nx\n")?;
     fs::write(&rt, script, "body 1 1\ndel 1 Z 1\n")?;
     fs::write(&rt, piece, "hi\n")?;
-    let found = obeyed(&rt, &["edit", script, piece], MESSAGE)?;
-    same(
+    gives(
         &rt,
-        &found,
+        &["edit", script, piece],
+        MESSAGE,
         b"A: b\n\nhi\n",
         b"line 2: NoSuchField\n",
         Status::Refused,
-    );
-    let found = obeyed(&rt, &["edit", script], MESSAGE)?;
-    same(&rt, &found, b"", b"script: line 1: syntax\n", Status::Usage);
+    )?;
+    gives(
+        &rt,
+        &["edit", script],
+        MESSAGE,
+        b"",
+        b"script: line 1: syntax\n",
+        Status::Usage,
+    )?;
     fs::remove_dir_all(&rt, folder)?;
     Ok(())
 }
@@ -87,12 +92,10 @@ fn files_that_can_t_be_read_are_named(rt: HostRuntime) -> Result<(), Fail> {
     fs::create_dir_all(&rt, folder)?;
     fs::write(&rt, "mimetool_named_test/script", "add 1 C: d\n")?;
     for words in MISSING {
-        let found = obeyed(&rt, words, MESSAGE)?;
-        same(&rt, &found, b"", NONE_ERRORS, Status::Fault);
+        gives(&rt, words, MESSAGE, b"", NONE_ERRORS, Status::Fault)?;
     }
     for words in FOLDERS {
-        let found = obeyed(&rt, words, MESSAGE)?;
-        same(&rt, &found, b"", FOLDER_ERRORS, Status::Fault);
+        gives(&rt, words, MESSAGE, b"", FOLDER_ERRORS, Status::Fault)?;
     }
     fs::remove_dir_all(&rt, folder)?;
     Ok(())
@@ -115,17 +118,16 @@ fn lines_stand_in_place_of_a_script(rt: HostRuntime) -> Result<(), Fail> {
         "body 1 1",
         piece,
     ];
-    let found = obeyed(&rt, &words, MESSAGE)?;
-    same(
+    gives(
         &rt,
-        &found,
+        &words,
+        MESSAGE,
         b"A: b\nC: d\n\nhi\n",
         b"line 2: NoSuchField\n",
         Status::Refused,
-    );
+    )?;
     let words = ["edit", piece, "-e", "body 1 2", piece];
-    let found = obeyed(&rt, &words, MESSAGE)?;
-    same(&rt, &found, b"A: b\n\nhi\n", b"", Status::Well);
+    prints(&rt, &words, MESSAGE, b"A: b\n\nhi\n")?;
     let found = obeyed(&rt, &["edit", "-e", "body 1 1"], MESSAGE)?;
     let errors = b"script: line 1: no such piece\nscript: line 1: syntax\n";
     same(&rt, &found, b"", errors, Status::Usage);
@@ -150,8 +152,7 @@ fn messages_come_from_files(rt: HostRuntime) -> Result<(), Fail> {
         (&["sections", "--from", message], listing),
         (&["extract", "--from", message, "-s", "1"], b"y\n"),
     ] {
-        let found = obeyed(&rt, words, MESSAGE)?;
-        same(&rt, &found, output, b"", Status::Well);
+        prints(&rt, words, MESSAGE, output)?;
     }
     fs::remove_dir_all(&rt, folder)?;
     Ok(())
@@ -165,34 +166,40 @@ fn parts_are_files(rt: HostRuntime) -> Result<(), Fail> {
     let _ = fs::remove_dir_all(&rt, folder);
     fs::create_dir_all(&rt, folder)?;
     fs::write(&rt, file, "hi\n")?;
-    let found = obeyed(&rt, &["pack", "-b", "b", word], b"Subject: s\n")?;
-    same(
+    prints(
         &rt,
-        &found,
+        &["pack", "-b", "b", word],
+        b"Subject: s\n",
         b"Subject: s\nMIME-Version: 1.0\nContent-Type: multipart/mixed; boundary=\"b\"\n\n--b\nContent-Type: text/plain; name=\"n.txt\"\nContent-Disposition: attachment; filename=\"n.txt\"\nContent-Transfer-Encoding: quoted-printable\n\nhi\n\n--b--\n",
-        b"",
-        Status::Well,
-    );
-    let found = obeyed(&rt, &["pack", word], b"Subject: s\n")?;
-    same(
+    )?;
+    prints(
         &rt,
-        &found,
+        &["pack", word],
+        b"Subject: s\n",
         b"Subject: s\nMIME-Version: 1.0\nContent-Type: multipart/mixed; boundary=\"=_3668bd9a2f2793ff84874466\"\n\n--=_3668bd9a2f2793ff84874466\nContent-Type: text/plain; name=\"n.txt\"\nContent-Disposition: attachment; filename=\"n.txt\"\nContent-Transfer-Encoding: quoted-printable\n\nhi\n\n--=_3668bd9a2f2793ff84874466--\n",
-        b"",
-        Status::Well,
-    );
-    let found = obeyed(&rt, &["pack", "--part", word], b"Subject: s\n\nx\n")?;
-    same(
+    )?;
+    prints(
         &rt,
-        &found,
+        &["pack", "--part", word],
+        b"Subject: s\n\nx\n",
         b"Content-Type: text/plain; name=\"n.txt\"\nContent-Disposition: attachment; filename=\"n.txt\"\nContent-Transfer-Encoding: quoted-printable\n\nhi\n",
+    )?;
+    gives(
+        &rt,
+        &["pack", "-b", "b", word],
+        b"Subject: s\n\nx\n",
         b"",
-        Status::Well,
-    );
-    let found = obeyed(&rt, &["pack", "-b", "b", word], b"Subject: s\n\nx\n")?;
-    same(&rt, &found, b"", b"pack: BadField 1\n", Status::Refused);
-    let found = obeyed(&rt, &["pack", "-b", "b ", word], b"")?;
-    same(&rt, &found, b"", b"pack: BadBoundary\n", Status::Refused);
+        b"pack: BadField 1\n",
+        Status::Refused,
+    )?;
+    gives(
+        &rt,
+        &["pack", "-b", "b ", word],
+        b"",
+        b"",
+        b"pack: BadBoundary\n",
+        Status::Refused,
+    )?;
     fs::remove_dir_all(&rt, folder)?;
     Ok(())
 }
@@ -203,32 +210,27 @@ fn each_option_of_unpack_does_its_own(rt: HostRuntime) -> Result<(), Fail> {
     let named = "mimetool_options_test/n.txt";
     let second = "mimetool_options_test/n.txt.1";
     let unnamed = "mimetool_options_test/part-1.2";
+    let words = ["unpack", "-C", folder];
     let _ = fs::remove_dir_all(&rt, folder);
-    let found = obeyed(&rt, &["unpack", "-C", folder], TWO)?;
-    same(&rt, &found, b"n.txt (text/plain)\n", b"", Status::Well);
-    assert_eq!(rt; fs::read_to_string(&rt, named)?.as_str(), "one");
+    prints(&rt, &words, TWO, b"n.txt (text/plain)\n")?;
+    holds(&rt, named, "one")?;
     assert!(rt; !fs::exists(&rt, unnamed)?);
-    let found = obeyed(&rt, &["unpack", "-C", folder], OTHER)?;
-    same(&rt, &found, b"n.txt.1 (text/plain)\n", b"", Status::Well);
-    assert_eq!(rt; fs::read_to_string(&rt, named)?.as_str(), "one");
-    assert_eq!(rt; fs::read_to_string(&rt, second)?.as_str(), "three");
-    let found = obeyed(&rt, &["unpack", "-f", "-C", folder], OTHER)?;
-    same(&rt, &found, b"n.txt (text/plain)\n", b"", Status::Well);
-    assert_eq!(rt; fs::read_to_string(&rt, named)?.as_str(), "three");
-    let found = obeyed(&rt, &["unpack", "-t", "-f", "-C", folder], TWO)?;
-    same(
+    prints(&rt, &words, OTHER, b"n.txt.1 (text/plain)\n")?;
+    holds(&rt, named, "one")?;
+    holds(&rt, second, "three")?;
+    let over = ["unpack", "-f", "-C", folder];
+    prints(&rt, &over, OTHER, b"n.txt (text/plain)\n")?;
+    holds(&rt, named, "three")?;
+    prints(
         &rt,
-        &found,
+        &["unpack", "-t", "-f", "-C", folder],
+        TWO,
         b"n.txt (text/plain)\npart-1.2 (text/plain)\n",
-        b"",
-        Status::Well,
-    );
-    assert_eq!(rt; fs::read_to_string(&rt, unnamed)?.as_str(), "two");
-    let found = obeyed(&rt, &["unpack", "--silent", "-f", "-C", folder], OTHER)?;
-    same(&rt, &found, b"", b"", Status::Well);
-    assert_eq!(rt; fs::read_to_string(&rt, named)?.as_str(), "three");
-    let found = obeyed(&rt, &["unpack", "-C", folder], BAD)?;
-    same(&rt, &found, b"", b"1: BadBase64\n", Status::Refused);
+    )?;
+    holds(&rt, unnamed, "two")?;
+    prints(&rt, &["unpack", "--silent", "-f", "-C", folder], OTHER, b"")?;
+    holds(&rt, named, "three")?;
+    gives(&rt, &words, BAD, b"", b"1: BadBase64\n", Status::Refused)?;
     fs::remove_dir_all(&rt, folder)?;
     Ok(())
 }
@@ -240,14 +242,14 @@ fn sections_are_unpacked_alone(rt: HostRuntime) -> Result<(), Fail> {
     let words = [
         "unpack", "-t", "-s", "1.2", "-s", "1.9", "--paths", "-C", folder,
     ];
-    let found = obeyed(&rt, &words, TWO)?;
-    same(
+    gives(
         &rt,
-        &found,
+        &words,
+        TWO,
         b"1.2 part-1.2 (text/plain)\n",
         b"1.9: NoSuchSection\n",
         Status::Refused,
-    );
+    )?;
     assert!(rt; !fs::exists(&rt, "mimetool_sections_test/n.txt")?);
     let text = fs::read_to_string(&rt, "mimetool_sections_test/part-1.2")?;
     assert_eq!(rt; text.as_str(), "two");
@@ -260,18 +262,20 @@ fn names_are_kept_in_utf8(rt: HostRuntime) -> Result<(), Fail> {
     let folder = "mimetool_utf8_test";
     let message = b"Content-Disposition: inline; filename*=utf-8''d%2fcaf%C3%A9.txt\n\none";
     let _ = fs::remove_dir_all(&rt, folder);
-    let found = obeyed(&rt, &["unpack", "--utf8", "-C", folder], message)?;
-    same(
+    prints(
         &rt,
-        &found,
+        &["unpack", "--utf8", "-C", folder],
+        message,
         b"caf\xc3\xa9.txt (text/plain)\n",
-        b"",
-        Status::Well,
-    );
+    )?;
     let text = fs::read_to_string(&rt, "mimetool_utf8_test/caf\u{e9}.txt")?;
     assert_eq!(rt; text.as_str(), "one");
-    let found = obeyed(&rt, &["unpack", "-t", "-C", folder], message)?;
-    same(&rt, &found, b"part-1 (text/plain)\n", b"", Status::Well);
+    prints(
+        &rt,
+        &["unpack", "-t", "-C", folder],
+        message,
+        b"part-1 (text/plain)\n",
+    )?;
     fs::remove_dir_all(&rt, folder)?;
     Ok(())
 }
@@ -284,16 +288,20 @@ fn files_are_packed_under_names_in_utf8(rt: HostRuntime) -> Result<(), Fail> {
     let _ = fs::remove_dir_all(&rt, folder);
     fs::create_dir_all(&rt, folder)?;
     fs::write(&rt, file, "hi\n")?;
-    let found = obeyed(&rt, &["pack", "--utf8", "-b", "b", word], b"")?;
-    same(
+    prints(
         &rt,
-        &found,
-        b"MIME-Version: 1.0\nContent-Type: multipart/mixed; boundary=\"b\"\n\n--b\nContent-Type: text/plain; name=\"caf__.txt\"\nContent-Disposition: attachment; filename=\"caf__.txt\"; filename*=utf-8''caf%C3%A9.txt\nContent-Transfer-Encoding: quoted-printable\n\nhi\n\n--b--\n",
+        &["pack", "--utf8", "-b", "b", word],
         b"",
-        Status::Well,
-    );
-    let found = obeyed(&rt, &["pack", "-b", "b", word], b"")?;
-    same(&rt, &found, b"", b"pack: BadName 0\n", Status::Refused);
+        b"MIME-Version: 1.0\nContent-Type: multipart/mixed; boundary=\"b\"\n\n--b\nContent-Type: text/plain; name=\"caf__.txt\"\nContent-Disposition: attachment; filename=\"caf__.txt\"; filename*=utf-8''caf%C3%A9.txt\nContent-Transfer-Encoding: quoted-printable\n\nhi\n\n--b--\n",
+    )?;
+    gives(
+        &rt,
+        &["pack", "-b", "b", word],
+        b"",
+        b"",
+        b"pack: BadName 0\n",
+        Status::Refused,
+    )?;
     fs::remove_dir_all(&rt, folder)?;
     Ok(())
 }
@@ -317,25 +325,27 @@ fn texts_are_packed_to_be_shown(rt: HostRuntime) -> Result<(), Fail> {
         "b",
         word,
     ];
-    let found = obeyed(&rt, words, b"")?;
-    same(
+    prints(
         &rt,
-        &found,
+        words,
+        b"",
         b"MIME-Version: 1.0\nContent-Type: multipart/related; boundary=\"b\"\n\n--b\nContent-Type: text/html; charset=utf-8\nContent-Transfer-Encoding: quoted-printable\n\nhi\n\n--b--\n",
-        b"",
-        Status::Well,
-    );
+    )?;
     let words: &[&str] = &["pack", "--inline", "--charset", "utf-8", "--part", word];
-    let found = obeyed(&rt, words, b"")?;
-    same(
+    prints(
         &rt,
-        &found,
-        b"Content-Type: text/html; charset=utf-8\nContent-Transfer-Encoding: quoted-printable\n\nhi\n",
+        words,
         b"",
-        Status::Well,
-    );
-    let found = obeyed(&rt, &["pack", "-m", "", "-b", "b", word], b"")?;
-    same(&rt, &found, b"", b"pack: BadSubtype\n", Status::Refused);
+        b"Content-Type: text/html; charset=utf-8\nContent-Transfer-Encoding: quoted-printable\n\nhi\n",
+    )?;
+    gives(
+        &rt,
+        &["pack", "-m", "", "-b", "b", word],
+        b"",
+        b"",
+        b"pack: BadSubtype\n",
+        Status::Refused,
+    )?;
     fs::remove_dir_all(&rt, folder)?;
     Ok(())
 }
@@ -344,36 +354,34 @@ fn texts_are_packed_to_be_shown(rt: HostRuntime) -> Result<(), Fail> {
 fn files_go_to_the_working_folder(rt: HostRuntime) -> Result<(), Fail> {
     let name = "mimetool_working_test.txt";
     let message = b"Content-Type: text/plain; name=mimetool_working_test.txt\n\none\n";
-    let found = obeyed(&rt, &["unpack", "-f"], message)?;
-    same(
+    prints(
         &rt,
-        &found,
+        &["unpack", "-f"],
+        message,
         b"mimetool_working_test.txt (text/plain)\n",
-        b"",
-        Status::Well,
-    );
-    assert_eq!(rt; fs::read_to_string(&rt, name)?.as_str(), "one\n");
+    )?;
+    holds(&rt, name, "one\n")?;
     fs::remove_file(&rt, name)?;
     Ok(())
 }
 
 #[test]
 fn a_folder_that_can_t_be_made_is_a_write_fault(rt: HostRuntime) -> Result<(), Fail> {
-    let found = obeyed(&rt, &["unpack", "-C", ""], TWO)?;
-    same(
+    gives(
         &rt,
-        &found,
+        &["unpack", "-C", ""],
+        TWO,
         b"",
         b"mimetool: : a folder needs a name\nmimetool: write fault\n",
         Status::Fault,
-    );
-    let found = obeyed(&rt, &["unpack", "-C", "/dev/null"], TWO)?;
-    same(
+    )?;
+    gives(
         &rt,
-        &found,
+        &["unpack", "-C", "/dev/null"],
+        TWO,
         b"",
         b"mimetool: /dev/null: File exists (os error 17)\nmimetool: write fault\n",
         Status::Fault,
-    );
+    )?;
     Ok(())
 }

@@ -1,6 +1,6 @@
 //! Messages that `pack` forwards.
 
-use super::{obeyed, same};
+use super::{gives, prints};
 use mk_run::Status;
 use std::fs;
 use std::test::Fail;
@@ -13,31 +13,27 @@ fn messages_are_forwarded(rt: HostRuntime) -> Result<(), Fail> {
     fs::create_dir_all(&rt, folder)?;
     fs::write(&rt, file, "From a\nA: b\n\n--c\n")?;
     let words: &[&str] = &["pack", "-b", "b", "--forward", file, "--forward", file];
-    let found = obeyed(&rt, words, b"Subject: s\n")?;
-    same(
+    prints(
         &rt,
-        &found,
+        words,
+        b"Subject: s\n",
         b"Subject: s\nMIME-Version: 1.0\nContent-Type: multipart/mixed; boundary=\"b\"\n\n--b\nContent-Type: message/rfc822\nContent-Disposition: attachment\n\nA: b\n\n--c\n\n--b\nContent-Type: message/rfc822\nContent-Disposition: attachment\n\nA: b\n\n--c\n\n--b--\n",
-        b"",
-        Status::Well,
-    );
+    )?;
     let words: &[&str] = &["pack", "--inline", "-b", "b", "--forward", file];
-    let found = obeyed(&rt, words, b"")?;
-    same(
+    prints(
         &rt,
-        &found,
-        b"MIME-Version: 1.0\nContent-Type: multipart/mixed; boundary=\"b\"\n\n--b\nContent-Type: message/rfc822\n\nA: b\n\n--c\n\n--b--\n",
+        words,
         b"",
-        Status::Well,
-    );
-    let found = obeyed(&rt, &["pack", "-b", "c", "--forward", file], b"")?;
-    same(
+        b"MIME-Version: 1.0\nContent-Type: multipart/mixed; boundary=\"b\"\n\n--b\nContent-Type: message/rfc822\n\nA: b\n\n--c\n\n--b--\n",
+    )?;
+    gives(
         &rt,
-        &found,
+        &["pack", "-b", "c", "--forward", file],
+        b"",
         b"",
         b"pack: HoldsBoundary 0\n",
         Status::Refused,
-    );
+    )?;
     fs::remove_dir_all(&rt, folder)?;
     Ok(())
 }

@@ -1,6 +1,6 @@
 //! Messages in files that are edited in place: the result takes the place of the file, and nothing else is left.
 
-use super::{check_entries, obeyed, same};
+use super::{check_entries, gives, holds, obeyed, prints, same};
 use mk_run::Status;
 use std::fs;
 use std::fs::Permissions;
@@ -58,9 +58,8 @@ fn pieces_make_it_shorter_longer_and_empty(rt: HostRuntime) -> Result<(), Fail> 
         prepare(&rt, folder, file)?;
         fs::write(&rt, piece, left)?;
         let words = ["edit", "-e", "replace 1 1", "--in-place", file, piece];
-        let found = obeyed(&rt, &words, b"")?;
-        same(&rt, &found, b"", b"", Status::Well);
-        assert_eq!(rt; fs::read_to_string(&rt, file)?.as_str(), left);
+        prints(&rt, &words, b"", b"")?;
+        holds(&rt, file, left)?;
         check_entries(&rt, folder, 2)?;
     }
     fs::remove_dir_all(&rt, folder)?;
@@ -73,10 +72,15 @@ fn what_changes_nothing_touches_nothing(rt: HostRuntime) -> Result<(), Fail> {
     let file = "mimetool_same_test/file";
     prepare(&rt, folder, file)?;
     let before = fs::metadata(&rt, file)?;
-    let found = obeyed(&rt, &["field", "-u", "A:", "--in-place", file], b"")?;
-    same(&rt, &found, b"", b"", Status::Well);
-    let found = obeyed(&rt, &["edit", "-e", "del 1 Z 1", "--in-place", file], b"")?;
-    same(&rt, &found, b"", b"line 1: NoSuchField\n", Status::Refused);
+    prints(&rt, &["field", "-u", "A:", "--in-place", file], b"", b"")?;
+    gives(
+        &rt,
+        &["edit", "-e", "del 1 Z 1", "--in-place", file],
+        b"",
+        b"",
+        b"line 1: NoSuchField\n",
+        Status::Refused,
+    )?;
     let found = obeyed(&rt, &["edit", "-e", "add", "--in-place", file], b"")?;
     let errors = b"script: line 1: too few arguments\nscript: line 1: syntax\n";
     same(&rt, &found, b"", errors, Status::Usage);
@@ -86,7 +90,7 @@ fn what_changes_nothing_touches_nothing(rt: HostRuntime) -> Result<(), Fail> {
         (after.mtime(), after.mtime_nsec()),
         (before.mtime(), before.mtime_nsec())
     );
-    assert_eq!(rt; fs::read_to_string(&rt, file)?.as_str(), MESSAGE);
+    holds(&rt, file, MESSAGE)?;
     check_entries(&rt, folder, 1)?;
     fs::remove_dir_all(&rt, folder)?;
     Ok(())
@@ -106,9 +110,15 @@ fn refused_lines_leave_the_others_in_force(rt: HostRuntime) -> Result<(), Fail> 
         "--in-place",
         file,
     ];
-    let found = obeyed(&rt, &words, b"")?;
-    same(&rt, &found, b"", b"line 1: NoSuchField\n", Status::Refused);
-    assert_eq!(rt; fs::read_to_string(&rt, file)?.as_str(), "C: d\n\nx\n");
+    gives(
+        &rt,
+        &words,
+        b"",
+        b"",
+        b"line 1: NoSuchField\n",
+        Status::Refused,
+    )?;
+    holds(&rt, file, "C: d\n\nx\n")?;
     fs::remove_dir_all(&rt, folder)?;
     Ok(())
 }
@@ -120,25 +130,22 @@ fn a_later_run_takes_it_back(rt: HostRuntime) -> Result<(), Fail> {
     let journal = "mimetool_place_undo_test/journal";
     prepare(&rt, folder, file)?;
     let words = ["edit", "-e", "del 1 A 1", "-j", journal, "--in-place", file];
-    let found = obeyed(&rt, &words, b"")?;
-    same(&rt, &found, b"", b"", Status::Well);
-    assert_eq!(rt; fs::read_to_string(&rt, file)?.as_str(), "C: d\n\nx\n");
-    let found = obeyed(&rt, &["undo", "-j", journal, "--in-place", file], b"")?;
-    same(&rt, &found, b"", b"", Status::Well);
-    assert_eq!(rt; fs::read_to_string(&rt, file)?.as_str(), MESSAGE);
-    let found = obeyed(&rt, &["redo", "-j", journal, "--in-place", file], b"")?;
-    same(&rt, &found, b"", b"", Status::Well);
-    assert_eq!(rt; fs::read_to_string(&rt, file)?.as_str(), "C: d\n\nx\n");
+    prints(&rt, &words, b"", b"")?;
+    holds(&rt, file, "C: d\n\nx\n")?;
+    prints(&rt, &["undo", "-j", journal, "--in-place", file], b"", b"")?;
+    holds(&rt, file, MESSAGE)?;
+    prints(&rt, &["redo", "-j", journal, "--in-place", file], b"", b"")?;
+    holds(&rt, file, "C: d\n\nx\n")?;
     fs::write(&rt, file, MESSAGE)?;
-    let found = obeyed(&rt, &["undo", "-j", journal, "--in-place", file], b"")?;
-    same(
+    gives(
         &rt,
-        &found,
+        &["undo", "-j", journal, "--in-place", file],
+        b"",
         b"",
         b"journal: JournalOther\n",
         Status::Refused,
-    );
-    assert_eq!(rt; fs::read_to_string(&rt, file)?.as_str(), MESSAGE);
+    )?;
+    holds(&rt, file, MESSAGE)?;
     check_entries(&rt, folder, 2)?;
     fs::remove_dir_all(&rt, folder)?;
     Ok(())
@@ -151,15 +158,15 @@ fn a_journal_that_fails_leaves_the_file(rt: HostRuntime) -> Result<(), Fail> {
     let nowhere = "mimetool_place_fault_test/none/journal";
     prepare(&rt, folder, file)?;
     let words = ["edit", "-e", "del 1 A 1", "-j", nowhere, "--in-place", file];
-    let found = obeyed(&rt, &words, b"")?;
-    same(
+    gives(
         &rt,
-        &found,
+        &words,
+        b"",
         b"",
         b"mimetool: mimetool_place_fault_test/none/journal: No such file or directory (os error 2)\nmimetool: write fault\n",
         Status::Fault,
-    );
-    assert_eq!(rt; fs::read_to_string(&rt, file)?.as_str(), MESSAGE);
+    )?;
+    holds(&rt, file, MESSAGE)?;
     check_entries(&rt, folder, 1)?;
     fs::remove_dir_all(&rt, folder)?;
     Ok(())
@@ -173,9 +180,8 @@ fn links_lead_to_it_and_permissions_stay(rt: HostRuntime) -> Result<(), Fail> {
     prepare(&rt, folder, file)?;
     symlink(&rt, "file", link)?;
     fs::set_permissions(&rt, file, Permissions::from_mode(0o600))?;
-    let found = obeyed(&rt, &["field", "-I", "A:", "--in-place", link], b"")?;
-    same(&rt, &found, b"", b"", Status::Well);
-    assert_eq!(rt; fs::read_to_string(&rt, file)?.as_str(), "C: d\n\nx\n");
+    prints(&rt, &["field", "-I", "A:", "--in-place", link], b"", b"")?;
+    holds(&rt, file, "C: d\n\nx\n")?;
     assert_eq!(rt;
         fs::metadata(&rt, file)?.permissions().mode() & 0o777,
         0o600
@@ -191,23 +197,23 @@ fn what_cant_be_edited_in_place_is_named(rt: HostRuntime) -> Result<(), Fail> {
     let folder = "mimetool_place_named_test";
     let file = "mimetool_place_named_test/file";
     prepare(&rt, folder, file)?;
-    let found = obeyed(&rt, &["field", "--in-place", folder], b"")?;
-    same(
+    gives(
         &rt,
-        &found,
+        &["field", "--in-place", folder],
+        b"",
         b"",
         b"mimetool: mimetool_place_named_test: is a directory\nmimetool: read fault\n",
         Status::Fault,
-    );
-    let found = obeyed(&rt, &["field", "--in-place", "/dev/null"], b"")?;
-    same(
+    )?;
+    gives(
         &rt,
-        &found,
+        &["field", "--in-place", "/dev/null"],
+        b"",
         b"",
         b"mimetool: /dev/null: not a regular file\nmimetool: read fault\n",
         Status::Fault,
-    );
-    assert_eq!(rt; fs::read_to_string(&rt, file)?.as_str(), MESSAGE);
+    )?;
+    holds(&rt, file, MESSAGE)?;
     check_entries(&rt, folder, 1)?;
     fs::remove_dir_all(&rt, folder)?;
     Ok(())

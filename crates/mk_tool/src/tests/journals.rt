@@ -1,6 +1,6 @@
 //! Journals in files of the system: what one run keeps, later ones take back and make again.
 
-use super::{check_entries, obeyed, same};
+use super::{check_entries, gives, holds, prints};
 use mk_run::Status;
 use std::fs;
 use std::fs::Permissions;
@@ -35,15 +35,12 @@ fn later_runs_take_back_and_make_again(rt: HostRuntime) -> Result<(), Fail> {
     let script = "mimetool_journal_test/script";
     let journal = "mimetool_journal_test/journal";
     prepare(&rt, folder, script)?;
-    let found = obeyed(&rt, &["edit", "-j", journal, script], MESSAGE)?;
-    same(&rt, &found, EDITED, b"", Status::Well);
-    assert_eq!(rt; fs::read_to_string(&rt, journal)?.as_str(), DONE);
-    let found = obeyed(&rt, &["undo", "-j", journal], EDITED)?;
-    same(&rt, &found, MESSAGE, b"", Status::Well);
-    assert_eq!(rt; fs::read_to_string(&rt, journal)?.as_str(), UNDONE);
-    let found = obeyed(&rt, &["redo", "-j", journal], MESSAGE)?;
-    same(&rt, &found, EDITED, b"", Status::Well);
-    assert_eq!(rt; fs::read_to_string(&rt, journal)?.as_str(), DONE);
+    prints(&rt, &["edit", "-j", journal, script], MESSAGE, EDITED)?;
+    holds(&rt, journal, DONE)?;
+    prints(&rt, &["undo", "-j", journal], EDITED, MESSAGE)?;
+    holds(&rt, journal, UNDONE)?;
+    prints(&rt, &["redo", "-j", journal], MESSAGE, EDITED)?;
+    holds(&rt, journal, DONE)?;
     check_entries(&rt, folder, 2)?;
     fs::remove_dir_all(&rt, folder)?;
     Ok(())
@@ -55,24 +52,24 @@ fn nothing_is_undone_without_a_journal(rt: HostRuntime) -> Result<(), Fail> {
     let script = "mimetool_no_journal_test/script";
     let journal = "mimetool_no_journal_test/journal";
     prepare(&rt, folder, script)?;
-    let found = obeyed(&rt, &["undo", "-j", journal], MESSAGE)?;
-    same(
+    gives(
         &rt,
-        &found,
+        &["undo", "-j", journal],
+        MESSAGE,
         MESSAGE,
         b"line 1: NothingToUndo\n",
         Status::Refused,
-    );
-    assert_eq!(rt; fs::read_to_string(&rt, journal)?.as_str(), NOTHING);
-    let found = obeyed(&rt, &["redo", "-j", journal], MESSAGE)?;
-    same(
+    )?;
+    holds(&rt, journal, NOTHING)?;
+    gives(
         &rt,
-        &found,
+        &["redo", "-j", journal],
+        MESSAGE,
         MESSAGE,
         b"line 1: NothingToRedo\n",
         Status::Refused,
-    );
-    assert_eq!(rt; fs::read_to_string(&rt, journal)?.as_str(), NOTHING);
+    )?;
+    holds(&rt, journal, NOTHING)?;
     fs::remove_dir_all(&rt, folder)?;
     Ok(())
 }
@@ -92,9 +89,15 @@ fn refused_journals_stay(rt: HostRuntime) -> Result<(), Fail> {
         ),
     ] {
         fs::write(&rt, journal, text)?;
-        let found = obeyed(&rt, &["edit", "-j", journal, script], MESSAGE)?;
-        same(&rt, &found, b"", errors, Status::Refused);
-        assert_eq!(rt; fs::read_to_string(&rt, journal)?.as_str(), text);
+        gives(
+            &rt,
+            &["edit", "-j", journal, script],
+            MESSAGE,
+            b"",
+            errors,
+            Status::Refused,
+        )?;
+        holds(&rt, journal, text)?;
     }
     check_entries(&rt, folder, 2)?;
     fs::remove_dir_all(&rt, folder)?;
@@ -108,25 +111,31 @@ fn faults_leave_the_journal(rt: HostRuntime) -> Result<(), Fail> {
     let journal = "mimetool_journal_faults_test/journal";
     let nowhere = "mimetool_journal_faults_test/none/journal";
     prepare(&rt, folder, script)?;
-    let found = obeyed(&rt, &["edit", "-j", nowhere, script], MESSAGE)?;
-    same(
+    gives(
         &rt,
-        &found,
+        &["edit", "-j", nowhere, script],
+        MESSAGE,
         EDITED,
         b"mimetool: mimetool_journal_faults_test/none/journal: No such file or directory (os error 2)\nmimetool: write fault\n",
         Status::Fault,
-    );
-    let found = obeyed(&rt, &["edit", "-j", folder, script], MESSAGE)?;
-    same(
+    )?;
+    gives(
         &rt,
-        &found,
+        &["edit", "-j", folder, script],
+        MESSAGE,
         b"",
         b"mimetool: mimetool_journal_faults_test: is a directory\nmimetool: read fault\n",
         Status::Fault,
-    );
+    )?;
     fs::write(&rt, script, "add\n")?;
-    let found = obeyed(&rt, &["edit", "-j", journal, script], MESSAGE)?;
-    same(&rt, &found, b"", b"script: line 1: syntax\n", Status::Usage);
+    gives(
+        &rt,
+        &["edit", "-j", journal, script],
+        MESSAGE,
+        b"",
+        b"script: line 1: syntax\n",
+        Status::Usage,
+    )?;
     check_entries(&rt, folder, 1)?;
     fs::remove_dir_all(&rt, folder)?;
     Ok(())
@@ -140,13 +149,11 @@ fn links_and_permissions_stay(rt: HostRuntime) -> Result<(), Fail> {
     let link = "mimetool_links_test/link";
     prepare(&rt, folder, script)?;
     symlink(&rt, "journal", link)?;
-    let found = obeyed(&rt, &["edit", "-j", link, script], MESSAGE)?;
-    same(&rt, &found, EDITED, b"", Status::Well);
-    assert_eq!(rt; fs::read_to_string(&rt, journal)?.as_str(), DONE);
+    prints(&rt, &["edit", "-j", link, script], MESSAGE, EDITED)?;
+    holds(&rt, journal, DONE)?;
     fs::set_permissions(&rt, journal, Permissions::from_mode(0o600))?;
-    let found = obeyed(&rt, &["undo", "-j", link], EDITED)?;
-    same(&rt, &found, MESSAGE, b"", Status::Well);
-    assert_eq!(rt; fs::read_to_string(&rt, journal)?.as_str(), UNDONE);
+    prints(&rt, &["undo", "-j", link], EDITED, MESSAGE)?;
+    holds(&rt, journal, UNDONE)?;
     assert_eq!(rt;
         fs::metadata(&rt, journal)?.permissions().mode() & 0o777,
         0o600

@@ -1,6 +1,6 @@
 //! Locks: one run at a time has the file of `--in-place` and the journal.
 
-use super::{check_entries, obeyed, same};
+use super::{check_entries, holds, obeyed, prints, same};
 use mk_run::Status;
 use std::fs;
 use std::fs::{File, Permissions};
@@ -53,11 +53,11 @@ fn a_run_that_has_the_lock_excludes_others(rt: HostRuntime) -> Result<(), Fail> 
         b"mimetool: mimetool_lock_test/file: another run is still using it\nmimetool: read fault\n";
     same(&rt, &found, b"", errors, Status::Fault);
     assert_eq!(rt; found.code, 75);
-    assert_eq!(rt; fs::read_to_string(&rt, file)?.as_str(), MESSAGE);
+    holds(&rt, file, MESSAGE)?;
     lock.unlock()?;
     let words = ["field", "-A", "C: d", "--in-place", file, "--wait"];
     same(&rt, &obeyed(&rt, &words, b"")?, b"", b"", Status::Well);
-    assert_eq!(rt; fs::read_to_string(&rt, file)?.as_str(), EDITED);
+    holds(&rt, file, EDITED)?;
     check_entries(&rt, folder, 1)?;
     fs::remove_dir_all(&rt, folder)?;
     Ok(())
@@ -84,8 +84,7 @@ fn a_new_journal_has_a_lock_too(rt: HostRuntime) -> Result<(), Fail> {
     check_entries(&rt, folder, 2)?;
     lock.unlock()?;
     let words = ["edit", "-e", "add 1 C: d", "-j", journal, "--wait"];
-    let found = obeyed(&rt, &words, MESSAGE.as_bytes())?;
-    same(&rt, &found, EDITED.as_bytes(), b"", Status::Well);
+    prints(&rt, &words, MESSAGE.as_bytes(), EDITED.as_bytes())?;
     check_entries(&rt, folder, 2)?;
     fs::remove_dir_all(&rt, folder)?;
     Ok(())
@@ -100,7 +99,7 @@ fn locks_of_other_programs_on_the_file_dont_count(rt: HostRuntime) -> Result<(),
     other.lock()?;
     let words = ["field", "-A", "C: d", "--in-place", file];
     same(&rt, &obeyed(&rt, &words, b"")?, b"", b"", Status::Well);
-    assert_eq!(rt; fs::read_to_string(&rt, file)?.as_str(), EDITED);
+    holds(&rt, file, EDITED)?;
     other.unlock()?;
     check_entries(&rt, folder, 1)?;
     fs::remove_dir_all(&rt, folder)?;
@@ -118,7 +117,7 @@ fn a_lock_that_a_killed_run_left_is_taken(rt: HostRuntime) -> Result<(), Fail> {
         fs::set_permissions(&rt, lock, Permissions::from_mode(mode))?;
         let words = ["field", "-A", "C: d", "--in-place", file];
         same(&rt, &obeyed(&rt, &words, b"")?, b"", b"", Status::Well);
-        assert_eq!(rt; fs::read_to_string(&rt, file)?.as_str(), EDITED);
+        holds(&rt, file, EDITED)?;
         check_entries(&rt, folder, 1)?;
     }
     fs::remove_dir_all(&rt, folder)?;
@@ -144,7 +143,7 @@ fn what_has_the_name_of_a_lock_and_isnt_one_stays(rt: HostRuntime) -> Result<(),
         let errors =
             b"mimetool: mimetool_no_lock_test/file: another file has the name of its lock\nmimetool: write fault\n";
         same(&rt, &obeyed(&rt, &words, b"")?, b"", errors, Status::Fault);
-        assert_eq!(rt; fs::read_to_string(&rt, file)?.as_str(), MESSAGE);
+        holds(&rt, file, MESSAGE)?;
         check_entries(&rt, folder, 2)?;
     }
     fs::remove_dir_all(&rt, folder)?;
@@ -176,13 +175,13 @@ fn files_with_long_names_have_locks_of_their_own(rt: HostRuntime) -> Result<(), 
         OTHER_LONG_NAME,
     ];
     same(&rt, &obeyed(&rt, &words, b"")?, b"", b"", Status::Well);
-    assert_eq!(rt; fs::read_to_string(&rt, LONG_NAME)?.as_str(), EDITED);
+    holds(&rt, LONG_NAME, EDITED)?;
     check_entries(&rt, folder, 2)?;
     let lock = File::create(&rt, LONG_LOCK)?;
     lock.lock()?;
     let found = obeyed(&rt, &["field", "-I", "C:", "--in-place", LONG_NAME], b"")?;
     assert_eq!(rt; found.status, Status::Fault);
-    assert_eq!(rt; fs::read_to_string(&rt, LONG_NAME)?.as_str(), EDITED);
+    holds(&rt, LONG_NAME, EDITED)?;
     lock.unlock()?;
     fs::remove_dir_all(&rt, folder)?;
     Ok(())
@@ -201,7 +200,7 @@ fn a_file_cant_be_its_own_journal(rt: HostRuntime) -> Result<(), Fail> {
             b"mimetool: mimetool_own_journal_test/link: the file of --in-place can't also be its journal\nmimetool: read fault\n";
         same(&rt, &obeyed(&rt, &words, b"")?, b"", errors, Status::Fault);
     }
-    assert_eq!(rt; fs::read_to_string(&rt, file)?.as_str(), MESSAGE);
+    holds(&rt, file, MESSAGE)?;
     check_entries(&rt, folder, 2)?;
     fs::remove_dir_all(&rt, folder)?;
     Ok(())

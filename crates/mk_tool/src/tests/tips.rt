@@ -1,6 +1,6 @@
 //! What is said of a script before it is run.
 
-use super::{obeyed, same};
+use super::{gives, obeyed, same};
 use mk_run::Status;
 use std::fs;
 use std::test::Fail;
@@ -24,8 +24,7 @@ fn pieces_without_an_empty_line_are_told(rt: HostRuntime) -> Result<(), Fail> {
         b"Content-Type: multipart/mixed; boundary=b\n\n--b\n\none\n--b\nNote: two\n--b--\n";
     same(&rt, &found, output, told, Status::Well);
     let words = ["edit", "--all", "-e", "append 1 1", fields];
-    let found = obeyed(&rt, &words, MULTIPART)?;
-    same(&rt, &found, output, told, Status::Well);
+    gives(&rt, &words, MULTIPART, output, told, Status::Well)?;
     let found = obeyed(&rt, &["edit", "-e", "append-text 1 1", fields], MULTIPART)?;
     let output =
         b"Content-Type: multipart/mixed; boundary=b\n\n--b\n\none\n--b\n\nNote: two\n\n--b--\n";

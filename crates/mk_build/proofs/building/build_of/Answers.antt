@@ -1,10 +1,12 @@
 use Rattle.std.proofs.Common.{[], ap, sym, ◌∙◌, ◌++◌, map}
-use Rattle.std.specs.List.{flat_map}
+use Rattle.std.specs.List.{flat_map, list_any}
 use Rattle.mk_line.proofs.Joined.{joined}
 use Rattle.mk_build.specs.BuildViews.{written_of}
-use Rattle.mk_build.specs.Building.{close_line, closed_field}
+use Rattle.mk_line.specs.Lines.{printed_line}
+use Rattle.mk_line.specs.Marks.{close_line}
+use Rattle.mk_build.specs.Building.{closed_field}
 use Rattle.mk_build.specs.ForwardViews.{forwarded_of}
-use Rattle.mk_build.specs.Forwards.{are_8bit, forwarded_part, head_with}
+use Rattle.mk_build.specs.Forwards.{forwarded_part, head_with, is_8bit}
 use Rattle.mk_build.specs.Multiparts.{multipart_of, part_as}
 use Rattle.mk_build.proofs.Envelopes.{none_against}
 use Rattle.mk_build.proofs.building.build_of.Goals as goal
@@ -16,10 +18,10 @@ returns-clause-text c =
     let fields = map (λ f. f.items) c.args.fields.now in
     let parts = map written_of c.args.parts.now in
     let messages = map forwarded_of c.args.messages.now in
-    let head = head_with eol (are_8bit messages) m in
+    let head = head_with eol (list_any (λ f. is_8bit f.text) messages) m in
     let written = flat_map (part_as eol m) parts in
     let sent = flat_map (forwarded_part eol m.boundary) messages in
-    let close = close_line eol m.boundary in
+    let close = printed_line (close_line eol m.boundary) in
     let one = c.push_fields.new.text.items in
     let two = c.push_head.new.text.items in
     let three = c.push_parts.new.text.items in

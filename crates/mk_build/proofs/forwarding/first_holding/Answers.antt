@@ -1,5 +1,5 @@
-use Rattle.std.proofs.Common.{sym, ◌∙◌, ◌+◌, map, drop, arith}
-use Rattle.mk_build.specs.Building.{first_failing}
+use Rattle.std.proofs.Common.{ap, sym, ◌∙◌, ◌+◌, map, drop, arith, not}
+use Rattle.std.specs.List.{position}
 use Rattle.mk_build.specs.Forwards.{is_clear}
 use Rattle.mk_build.specs.ForwardViews.{forwarded_of}
 use Rattle.mk_build.proofs.Failing.{passes, fails, from_index}
@@ -11,7 +11,7 @@ loop-index-preserved c =
     let b = c.args.boundary.now in
     let i = c.loop-index.index in
     let x = c.index-messages-index.result in
-    passes (λ f. is_clear b f.text) i (drop i (map forwarded_of xs)) (drop (i + 1) (map forwarded_of xs)) _ (first_failing (λ f. is_clear b f.text) (map forwarded_of xs)) (from_index forwarded_of i xs x (omega (arith, c.loop-index-test.true)) c.index-messages-index.is) (sym c.is_clear_of.ensures ∙ c.if-not-is_clear_of.false) c.loop-index.invariant
+    passes (λ f. not (is_clear b f.text)) i (drop i (map forwarded_of xs)) (drop (i + 1) (map forwarded_of xs)) _ (position (λ f. not (is_clear b f.text)) (map forwarded_of xs)) (from_index forwarded_of i xs x (omega (arith, c.loop-index-test.true)) c.index-messages-index.is) (ap not (sym c.is_clear_of.ensures ∙ c.if-not-is_clear_of.false)) c.loop-index.invariant
 
 pub returns-then-not-is_clear_of : goal.returns-then-not-is_clear_of
 returns-then-not-is_clear_of c =
@@ -19,4 +19,4 @@ returns-then-not-is_clear_of c =
     let b = c.args.boundary.now in
     let i = c.loop-index.index in
     let x = c.index-messages-index.result in
-    fails (λ f. is_clear b f.text) i (drop i (map forwarded_of xs)) (drop (i + 1) (map forwarded_of xs)) _ (first_failing (λ f. is_clear b f.text) (map forwarded_of xs)) (from_index forwarded_of i xs x (omega (arith, c.loop-index-test.true)) c.index-messages-index.is) (sym c.is_clear_of.ensures ∙ c.if-not-is_clear_of.true) c.loop-index.invariant
+    fails (λ f. not (is_clear b f.text)) i (drop i (map forwarded_of xs)) (drop (i + 1) (map forwarded_of xs)) _ (position (λ f. not (is_clear b f.text)) (map forwarded_of xs)) (from_index forwarded_of i xs x (omega (arith, c.loop-index-test.true)) c.index-messages-index.is) (ap not (sym c.is_clear_of.ensures ∙ c.if-not-is_clear_of.true)) c.loop-index.invariant

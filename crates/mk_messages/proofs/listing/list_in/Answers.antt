@@ -3,7 +3,6 @@ use Rattle.std.proofs.KnownBytes.{Appends-nil, Consumes-nil, Consumes-trans}
 use Rattle.std.specs.Io.KnownBytes.{IsAtEnd}
 use Rattle.mk_mailbox.specs.Pieces.{mailbox_pieces}
 use Rattle.mk_transfer.specs.RunClauses.{counts}
-use Rattle.mk_messages.specs.MessageLines.{lines_from}
 use Rattle.mk_messages.proofs.Taken.{all_taken, counted_on_to, none_taken, one_taken, size_more, taken_all, taken_next}
 use Rattle.mk_messages.proofs.Listed.{line_out, listed_all, not_both, sending_blamed, stopped_between, stopped_here, stopped_within}
 use Rattle.mk_messages.proofs.listing.list_in.Goals as goal

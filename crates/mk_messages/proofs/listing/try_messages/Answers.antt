@@ -1,4 +1,4 @@
-use Rattle.std.proofs.Common.{◌∙◌, refl}
+use Rattle.std.proofs.Common.{refl}
 use Rattle.mk_transfer.proofs.Fronts.{AppendsFront-whole}
 use Rattle.std.proofs.KnownBytes.{Appends-kept}
 use Rattle.mk_messages.specs.MessageLines.{mailbox_listing}

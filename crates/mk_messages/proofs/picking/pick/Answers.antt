@@ -1,7 +1,7 @@
-use Rattle.std.proofs.Common.{◌∙◌, ◌-◌, ◌++◌, ◌∷◌, [], refl, sym, subst, inl, inr, arith, length-append}
-use Rattle.std.proofs.KnownBytes.{Consumes-nil, Consumes-trans}
+use Rattle.std.proofs.Common.{◌∙◌, ◌-◌, ◌++◌, ◌∷◌, [], sym, subst, inl, inr, arith, length-append}
+use Rattle.std.proofs.KnownBytes.{Consumes-trans}
 use Rattle.std.specs.Io.KnownBytes.{IsAtEnd}
-use Rattle.mk_messages.proofs.Taken.{all_taken, counted_kept, none_taken, one_taken, picked_none, picked_some, taken_next}
+use Rattle.mk_messages.proofs.Taken.{all_taken, counted_kept, one_taken, picked_none, picked_some, taken_next}
 use Rattle.mk_messages.proofs.picking.pick.Goals as goal
 
 pub returns-then-turn-number-clause-picked : goal.returns-then-turn-number-clause-picked

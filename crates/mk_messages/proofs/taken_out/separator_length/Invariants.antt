@@ -1,6 +1,6 @@
 use Rattle.std.proofs.Common.{◌≡◌}
 use Rattle.mk_line.specs.Lines.{cut}
-use Rattle.mk_messages.specs.TakenOut.{separator_length}
+use Rattle.mk_messages.specs.inner.Separators.{separator_length}
 use Rattle.mk_messages.proofs.SeparatorAfter.{length_after}
 use Rattle.mk_messages.proofs.taken_out.separator_length.Given as goal
 

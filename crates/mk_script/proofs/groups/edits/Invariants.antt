@@ -1,7 +1,8 @@
 use Rattle.std.proofs.Common.{◌≡◌, ◌++◌, map}
 use Rattle.std.specs.Vec.Iter.{into_iter_items}
 use Rattle.mk_script.specs.ScriptSteps.{edits_in, first_other}
-use Rattle.mk_script.specs.ScriptViews.{line_in, numbered}
+use Rattle.mk_script.specs.ScriptViews.{numbered}
+use Rattle.mk_script.specs.inner.Lines.{line_in}
 use Rattle.mk_script.proofs.groups.edits.Given as goal
 
 abbrev pub invariant-loop-line : goal.invariant-loop-line

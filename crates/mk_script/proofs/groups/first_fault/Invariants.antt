@@ -1,6 +1,6 @@
 use Rattle.std.proofs.Common.{◌≡◌, false, length, map}
 use Rattle.mk_script.specs.ScriptSteps.{first_fault}
-use Rattle.mk_script.specs.ScriptViews.{line_in}
+use Rattle.mk_script.specs.inner.Lines.{line_in}
 use Rattle.mk_script.proofs.groups.first_fault.Given as goal
 
 abbrev pub invariant-loop-line : goal.invariant-loop-line

@@ -1,5 +1,6 @@
 use Rattle.std.proofs.Common.{◌≡◌, ◌<◌, ◌^◌, drop}
-use Rattle.mk_script.specs.Paths.{number_after, number_of}
+use Rattle.mk_script.specs.Paths.{number_of}
+use Rattle.mk_script.specs.inner.Numbers.{number_after}
 use Rattle.mk_script.proofs.paths.number.Given as goal
 
 abbrev pub invariant-loop-byte : goal.invariant-loop-byte

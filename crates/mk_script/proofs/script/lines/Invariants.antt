@@ -1,6 +1,6 @@
 use Rattle.std.proofs.Common.{◌≡◌, ◌≤◌, ◌+◌, ◌++◌, length, map}
 use Rattle.mk_script.specs.Script.{lines_of, lines_from}
-use Rattle.mk_script.specs.ScriptViews.{line_in}
+use Rattle.mk_script.specs.inner.Lines.{line_in}
 use Rattle.mk_script.proofs.script.lines.Given as goal
 
 abbrev pub invariant-loop-line : goal.invariant-loop-line

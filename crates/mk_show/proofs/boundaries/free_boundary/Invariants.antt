@@ -1,6 +1,7 @@
 use Rattle.std.proofs.Common.{◌≡◌, ◌-◌, map}
 use Rattle.mk_build.specs.ForwardViews.{forwarded_of}
-use Rattle.mk_show.specs.FreeBoundary.{free_from, last_number}
+use Rattle.mk_show.specs.FreeBoundary.{last_number}
+use Rattle.mk_show.proofs.FreeBoundaries.{free_from}
 use Rattle.mk_show.proofs.boundaries.free_boundary.Given as goal
 
 abbrev pub invariant-loop-number : goal.invariant-loop-number

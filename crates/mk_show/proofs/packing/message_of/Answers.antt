@@ -1,23 +1,31 @@
-use Rattle.std.proofs.Common.{◌≡◌, Bool, IfOk, map, ap, subst, ◌∙◌}
+use Rattle.std.proofs.Common.{◌≡◌, Bool, IfOk, List, Option, ap, map, subst, sym, ℕ, ◌∙◌}
+use Rattle.std.specs.Option.{option_map}
 use Rattle.mk_build.specs.Forwards.{built_with, refusal_with}
 use Rattle.mk_build.specs.ForwardViews.{forwarded_of}
 use Rattle.mk_build.specs.Multiparts.{Multipart, multipart_of}
 use Rattle.mk_build.specs.BuildViews.{attached_of, written_in}
 use Rattle.mk_show.specs.FreeBoundary.{free_boundary}
-use Rattle.mk_show.specs.Packing.{manner_of, multipart_with, told}
+use Rattle.mk_show.specs.Packing.{Manner, manner_of, multipart_with, told}
 use Rattle.mk_show.specs.Shown.{run_of_answer}
+use Rattle.mk_show.specs.inner.PackedFrom.{packed_from}
 use Rattle.mk_show.proofs.packing.message_of.Goals as goal
+
+-- a manner with another boundary
+abbrev bound : Manner → Option (List ℕ) → Manner
+bound m boundary = record { utf8_names = m.utf8_names; subtype = m.subtype; charset = m.charset; boundary = boundary; turned = m.turned }
 
 pub returns-in-Some : goal.returns-in-Some
 returns-in-Some c =
     let fields = map (λ f. f.items) c.args.fields.now in
+    let files = map attached_of c.args.parts.now in
     let parts = map (written_in c.args.options.utf8_names) c.args.parts.now in
     let messages = map forwarded_of c.args.messages.now in
     let m = multipart_of c.multipart-multipart.result in
     let named = subst (λ (utf8 : Bool). IfOk c.answer.result (λ a. run_of_answer a ≡ told (built_with c.args.eol fields (map (written_in utf8) c.args.parts.now) messages m) (refusal_with fields (map (written_in utf8) c.args.parts.now) messages m)))
     c.multipart-multipart.ensures.names c.answer.ensures in
-    rw c.in-Some.is (subst (λ (k : Multipart). IfOk c.answer.result (λ a. run_of_answer a ≡ told (built_with c.args.eol fields parts messages k) (refusal_with fields parts messages k)))
-    c.multipart-multipart.ensures.kind named)
+    let packed = subst (λ (k : Multipart). IfOk c.answer.result (λ a. run_of_answer a ≡ told (built_with c.args.eol fields parts messages k) (refusal_with fields parts messages k)))
+    c.multipart-multipart.ensures.kind named in
+    subst (λ (o : Option (List ℕ)). IfOk c.answer.result (λ a. run_of_answer a ≡ packed_from (bound (manner_of c.args.options) o) c.args.eol fields files parts messages)) (sym (ap (option_map (λ b. b.now)) c.in-Some.is)) packed
 
 pub returns-in_ok-boundary-in-None : goal.returns-in_ok-boundary-in-None
 returns-in_ok-boundary-in-None c =
@@ -32,5 +40,6 @@ returns-in_ok-boundary-in-None c =
     let k = multipart_of c.multipart-multipart-in-None.result in
     let named = subst (λ (utf8 : Bool). IfOk c.answer-in-None.result (λ a. run_of_answer a ≡ told (built_with c.args.eol fields (map (written_in utf8) c.args.parts.now) messages k) (refusal_with fields (map (written_in utf8) c.args.parts.now) messages k)))
     c.multipart-multipart-in-None.ensures.names c.answer-in-None.ensures in
-    rw c.in-None.is (subst (λ (k : Multipart). IfOk c.answer-in-None.result (λ a. run_of_answer a ≡ told (built_with c.args.eol fields parts messages k) (refusal_with fields parts messages k)))
-    made named)
+    let packed = subst (λ (k : Multipart). IfOk c.answer-in-None.result (λ a. run_of_answer a ≡ told (built_with c.args.eol fields parts messages k) (refusal_with fields parts messages k)))
+    made named in
+    subst (λ (o : Option (List ℕ)). IfOk c.answer-in-None.result (λ a. run_of_answer a ≡ packed_from (bound manner o) c.args.eol fields files parts messages)) (sym (ap (option_map (λ b. b.now)) c.in-None.is)) packed

@@ -1,6 +1,6 @@
 use Rattle.std.proofs.Common.{◌≡◌, length}
 use Rattle.mk_line.specs.Ascii.{slash}
-use Rattle.mk_script.specs.Paths.{pieces_of}
+use Rattle.mk_script.specs.inner.Numbers.{pieces_of}
 use Rattle.mk_show.specs.Parts.{last_of}
 use Rattle.mk_show.proofs.parts.file_name.Given as goal
 

@@ -1,8 +1,9 @@
 use Rattle.std.proofs.Common.{◌≡◌, ◌+◌, ◌∙◌, Ok, ap, sym, arith, length, map}
 use Rattle.std.proofs.lemmas.List.{length-map}
 use Rattle.mk_splice.specs.Grammar.{number_of}
-use Rattle.mk_splice.specs.Journals.{digest_meant, step_meant, journal_of, read_journal}
+use Rattle.mk_splice.specs.Journals.{digest_meant, read_journal}
 use Rattle.mk_splice.specs.Views.{splice_of, steps_of}
+use Rattle.mk_splice.specs.inner.Parts.{step_meant, journal_of}
 use Rattle.mk_splice.proofs.Fronts.{journal_goes, sum_held, steps_counted, done_within, done_held, meaning_same}
 use Rattle.mk_splice.proofs.journals.read_journal.Goals as goal
 

@@ -1,7 +1,8 @@
 use Rattle.std.proofs.Common.{◌≡◌, ◌++◌, drop}
 use Rattle.mk_splice.specs.Journals.{digest_of}
-use Rattle.mk_splice.specs.Printed.{AreSmallSteps, printed, printed_steps}
+use Rattle.mk_splice.specs.Printed.{printed}
 use Rattle.mk_splice.specs.Views.{steps_of}
+use Rattle.mk_splice.specs.inner.Parts.{AreSmallSteps, printed_steps}
 use Rattle.mk_splice.proofs.printing.print.Given as goal
 
 abbrev pub invariant-loop-step : goal.invariant-loop-step

@@ -1,6 +1,7 @@
 use Rattle.std.proofs.Common.{◌≡◌, ◌++◌, drop, map}
-use Rattle.mk_splice.specs.Printed.{AreSmallSplices, printed_entries, printed_step}
+use Rattle.mk_splice.specs.Printed.{printed_step}
 use Rattle.mk_splice.specs.Views.{splice_of}
+use Rattle.mk_splice.specs.inner.Parts.{AreSmallSplices, printed_entries}
 use Rattle.mk_splice.proofs.printing.push_step.Given as goal
 
 abbrev pub invariant-loop-splice : goal.invariant-loop-splice

@@ -4,9 +4,9 @@ use Rattle.std.specs.Global.{Vec}
 use Rattle.mk_splice.specs.declared.splicing.Splice.{Splice as SpliceIn}
 use Rattle.mk_splice.specs.Splices.{Splice}
 use Rattle.mk_splice.specs.Grammar.{StepText, read_step}
-use Rattle.mk_splice.specs.Journals.{step_meant}
 use Rattle.mk_splice.specs.Readers.{read_times}
 use Rattle.mk_splice.specs.Views.{splice_of, steps_of}
+use Rattle.mk_splice.specs.inner.Parts.{step_meant}
 use Rattle.mk_splice.proofs.Readings.{one_more_at, one_fails_at, all_read, gives_same, gives_stopped, count_same, step_consumes}
 use Rattle.mk_splice.proofs.reading.read_steps.Goals as goal
 

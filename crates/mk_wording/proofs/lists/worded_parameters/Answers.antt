@@ -1,10 +1,7 @@
 use Rattle.std.proofs.Common.{◌≡◌, ◌∙◌, ◌++◌, ◌∷◌, [], None, Some, ap, append-nil, append_assoc, sym, take}
-use Rattle.mk_head.specs.Values.{Plain}
-use Rattle.mk_wording.specs.Lists.{ends_of, worded_entries, worded_pieces}
-use Rattle.mk_wording.specs.Scanned.{entries}
-use Rattle.mk_wording.specs.Stretches.{part_before, worded_text}
+use Rattle.mk_wording.specs.Lists.{ends_of, worded_entries}
+use Rattle.mk_wording.specs.Stretches.{part_before}
 use Rattle.mk_wording.specs.declared.lists.ListKind.TheVariants.{Parameters}
-use Rattle.mk_wording.specs.declared.stretches.Outside.TheVariants.{Ascii}
 use Rattle.mk_wording.proofs.Entries.{entries_after, entries_found, no_byte, pieces_told}
 use Rattle.mk_wording.proofs.Parts.{others_fail}
 use Rattle.mk_wording.proofs.lists.worded_parameters.Goals as goal

@@ -1,7 +1,6 @@
 use Rattle.std.proofs.Common.{◌++◌, subst}
 use Rattle.mk_mailbox.specs.inner.Gathered.{IsSplit}
-use Rattle.mk_mailbox.specs.Held.{unread}
-use Rattle.mk_mailbox.specs.inner.Intakes.{kept_by}
+use Rattle.mk_mailbox.specs.inner.Intakes.{kept_by, unread}
 use Rattle.mk_mailbox.proofs.GatheredParts.{split_on}
 use Rattle.mk_mailbox.proofs.intake.Intake.take_lines.Goals as goal
 
