@@ -11,14 +11,10 @@ use Rattle.mk_build.specs.Building.{Attached, attach_refusal, named_in_utf8}
 abbrev pub attached_of : Attach → Attached
 attached_of a = record { media = a.media.items; name = option_map (λ v. v.items) a.name; said = None; text = a.text.items; base64 = a.base64 }
 
--- the same under a name in UTF-8
-abbrev pub named_of : Attach → Attached
-named_of a = named_in_utf8 (attached_of a)
-
 -- what is attached, under a name in UTF-8 where that is asked for
 abbrev pub written_in : Bool → Attach → Attached
 written_in false a = attached_of a
-written_in true a = named_of a
+written_in true a = named_in_utf8 (attached_of a)
 
 -- what is written of it
 abbrev pub written_of : Written → Attached

@@ -3,4 +3,3 @@ pub mod BuildViews
 pub mod Multiparts
 pub mod Forwards
 pub mod ForwardViews
-pub mod BuildLaws

@@ -1,19 +1,18 @@
 -- What the calls of C do (own): each is a step of mk_edit or a view of mk_view, or says why not.
-use Rattle.std.specs.Option.{option_map_or}
-use Rattle.std.specs.Prelude.{◌≡◌, ◌≢◌, ◌+◌, ◌++◌, ℕ, Option, Some, None, Result, Ok, Err, List, [], ◌∷◌, length}
+use Rattle.std.specs.Result.{result_ok}
+use Rattle.std.specs.Prelude.{IsOk, ◌≡◌, ◌≢◌, ◌++◌, ℕ, Option, Some, None, Result, Ok, Err, List, [], ◌∷◌, length}
 use Rattle.mk_tree.specs.Documents.{tree}
 use Rattle.mk_tree.specs.Sections.{Placed, section_at}
 use Rattle.mk_decide.specs.declared.edits.Edit.{Edit as HeldEdit}
-use Rattle.mk_decide.specs.Answers.{IsAccepted, IsRefusedBy, refusal_of}
+use Rattle.mk_decide.specs.Answers.{IsRefusedBy, refusal_of}
 use Rattle.mk_decide.specs.Edits.{PlainEdit, Order, Group, Refusal, Member}
 use Rattle.mk_decide.specs.Outcomes.{edited}
 use Rattle.mk_decide.specs.Views.{edit_of}
 use Rattle.mk_edit.specs.History.{History}
-use Rattle.mk_edit.specs.Histories.{started, step, text_now}
-use Rattle.mk_edit.specs.Saving.{RefusesJournal, loaded, saved}
+use Rattle.mk_edit.specs.Histories.{step, text_now}
+use Rattle.mk_edit.specs.Saving.{RefusesJournal, loaded}
 use Rattle.mk_view.specs.declared.extracting.ExtractError.TheVariants as extract
-use Rattle.mk_view.specs.Extracts.{IsExtract, IsExtractRefused}
-use Rattle.mk_view.specs.Listing.{listing}
+use Rattle.mk_view.specs.Extracts.{IsExtractRefused}
 use Rattle.mk_view.specs.TextNames.{text_name}
 use Rattle.mk_c.specs.declared.status.Place.{Place}
 use Rattle.mk_c.specs.declared.status.Reason.{Reason}
@@ -35,10 +34,6 @@ Calls Does status place (Some old) (Some new) = (ending : Ending) × ((status, p
 abbrev pub PutsDown : PlainEdit → Ending → Desk → Desk → Type 0
 PutsDown e (Ok x) old new = (new.history ≡ old.history) × (put_down new ≡ put_down old ++ e ∷ []) × (new.answer ≡ old.answer)
 PutsDown e (Err reason) old new = (reason ≡ Memory) × (new ≡ old)
-
--- nothing is put down any more
-abbrev pub Forgets : Ending → Desk → Desk → Type 0
-Forgets ending old new = (ending ≡ Ok tt) × (new ≡ record old { pending = [] })
 
 -- a reason is the one that is defined; running out of memory is none
 abbrev pub IsReasonAgainst : {X : Type 0} → Reason → Result X Refusal → Type 0
@@ -65,12 +60,8 @@ MakesPutDown (Err reason) old new = (new ≡ record old { pending = [] }) × IsG
 -- what an edit would answer; there has to be one
 abbrev pub IsChecked : List HeldEdit → List ℕ → Ending → Type 0
 IsChecked [] text ending = ending ≡ Err NoEdit
-IsChecked (e ∷ others) text (Ok x) = IsAccepted (edited (edit_of e) (tree text))
+IsChecked (e ∷ others) text (Ok x) = IsOk (edited (edit_of e) (tree text))
 IsChecked (e ∷ others) text (Err reason) = IsReasonAgainst reason (edited (edit_of e) (tree text))
-
--- the first of the edits that were put down is checked, and none is made
-abbrev pub Checks : Ending → Desk → Desk → Type 0
-Checks ending old new = IsChecked old.pending (text_now old.history) ending × (new ≡ record old { pending = [] })
 
 -- an answer that is as it should be; a call that is refused leaves the answer before
 abbrev pub AnswersWith : (Desk → List ℕ → Type 0) → (Desk → Reason → Type 0) → Ending → Desk → Desk → Type 0
@@ -80,22 +71,6 @@ AnswersWith Is Refuses (Err reason) old new = Refuses old reason × (new ≡ old
 -- only memory can be missing
 abbrev pub IsMemory : Desk → Reason → Type 0
 IsMemory d reason = reason ≡ Memory
-
--- the text as it stands
-abbrev pub IsText : Desk → List ℕ → Type 0
-IsText d answer = answer ≡ text_now d.history
-
--- the journal
-abbrev pub IsSavedJournal : Desk → List ℕ → Type 0
-IsSavedJournal d answer = answer ≡ saved d.history
-
--- the listing of the sections
-abbrev pub IsListing : Desk → List ℕ → Type 0
-IsListing d answer = answer ≡ listing (tree (text_now d.history))
-
--- the content of the section at a path
-abbrev pub IsContentAt : List ℕ → Desk → List ℕ → Type 0
-IsContentAt path d answer = IsExtract (section_at path (tree (text_now d.history))) answer
 
 -- why no content of the section at a path is shown
 abbrev pub NoContentAt : List ℕ → Desk → Reason → Type 0
@@ -114,10 +89,10 @@ NoNameAt path d NoName = (p : Placed) × (section_at path (tree (text_now d.hist
 NoNameAt path d Memory = Unit {0}
 NoNameAt path d other = ⊥
 
--- a text is begun with, or memory ran out
-abbrev pub Starts : List ℕ → Result Desk Reason → Type 0
-Starts text (Ok d) = d ≡ opened (started text)
-Starts text (Err reason) = reason ≡ Memory
+-- a call begins with a desk, or memory ran out
+abbrev pub BeginsWith : Desk → Result Desk Reason → Type 0
+BeginsWith desk (Ok d) = d ≡ desk
+BeginsWith desk (Err reason) = reason ≡ Memory
 
 -- a journal is loaded with its text, or refused for the reason that is defined
 abbrev pub Loads : List ℕ → List ℕ → Result Desk Reason → Type 0
@@ -126,18 +101,9 @@ Loads text journal (Err (Journal error)) = RefusesJournal error (loaded text jou
 Loads text journal (Err Memory) = Unit {0}
 Loads text journal (Err other) = ⊥
 
--- what a handle holds after a call that opens it
-abbrev pub held_by : Result Desk Reason → Option Desk
-held_by (Ok d) = Some d
-held_by (Err reason) = None
-
 -- a call that opens a handle
 abbrev pub Opens : (Result Desk Reason → Type 0) → ℕ → Place → Option Desk → Type 0
-Opens Does status place new = (ending : Result Desk Reason) × ((status, place) ≡ status_and_place ending) × (new ≡ held_by ending) × Does ending
-
--- how many steps are done, and how many undone
-abbrev pub CountsSteps : ℕ → ℕ → Ending → Desk → Desk → Type 0
-CountsSteps done undone ending old new = (ending ≡ Ok tt) × (new ≡ old) × (done ≡ old.history.place) × (done + undone ≡ length old.history.steps)
+Opens Does status place new = (ending : Result Desk Reason) × ((status, place) ≡ status_and_place ending) × (new ≡ result_ok ending) × Does ending
 
 -- the bytes of the answer, where as many are wanted; it is let go then
 abbrev pub Copies : List ℕ → List ℕ → Ending → Desk → Desk → Type 0

@@ -1,23 +1,17 @@
 -- What the calls of C do with a mailbox (own): each is a call of the laws of mailboxes.
-use Rattle.std.specs.Prelude.{◌≡◌, ◌≤◌, ◌==◌, ◌⊎◌, if◌then◌else◌, ℕ, Bool, true, false, Result, Ok, Err, List, length, take}
+use Rattle.std.specs.Prelude.{◌≡◌, ◌≤◌, ◌==◌, ◌⊎◌, if◌then◌else◌, ℕ, Bool, true, false, Ok, Err, List, length, take}
 use Rattle.mk_mailbox.specs.declared.from_lines.FromLines.{FromLines}
 use Rattle.mk_mailbox.specs.declared.from_lines.FromLines.TheVariants.{Any, Dated, Fielded}
 use Rattle.mk_mailbox.specs.Held.{Held}
 use Rattle.mk_mailbox.specs.Mailboxes.{IsKnownWhole}
 use Rattle.mk_mailbox.specs.MailboxLaws.{IsCall, Reply, message, none, error}
-use Rattle.mk_c.specs.declared.status.Reason.{Reason}
 use Rattle.mk_c.specs.declared.status.Reason.TheVariants.{Memory, NeedsMore, NoMessage}
 use Rattle.mk_c.specs.Calls.{Ending}
-use Rattle.mk_c.specs.Desks.{Desk, opened_mailbox}
+use Rattle.mk_c.specs.Desks.{Desk}
 
 -- the From-lines that begin messages, as the number that C gives: 1 for those with a date, 2 for those before a field, else each
 abbrev pub way_of : ℕ → FromLines
 way_of number = if number == 1 then Dated else (if number == 2 then Fielded else Any)
-
--- a mailbox is opened, or memory ran out
-abbrev pub OpensMailbox : FromLines → Result Desk Reason → Type 0
-OpensMailbox way (Ok d) = d ≡ opened_mailbox way
-OpensMailbox way (Err reason) = reason ≡ Memory
 
 -- a call of a mailbox that is given bytes reads so many of them; it finds the end only where all of the last ones are read
 pub record ReadsOn (given : List ℕ) (last : Bool) (used : ℕ) (reply : Reply) (old new : Held) : Type 0 where

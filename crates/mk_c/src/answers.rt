@@ -1,7 +1,13 @@
 //! The calls that answer bytes. The answer stays in the handle: its size is asked for first, and then it
 //! is copied into memory of C's, and let go.
 ghost use Rattle.std.specs.Prelude.{◌≡◌, length};
-ghost use Rattle.mk_c.specs.Calls.{Calls, Copies, IsContentAt, IsSavedJournal, IsListing, IsMemory, IsNameAt, IsText, NoContentAt, NoNameAt, AnswersWith};
+ghost use Rattle.mk_tree.specs.Documents.{tree};
+ghost use Rattle.mk_tree.specs.Sections.{section_at};
+ghost use Rattle.mk_edit.specs.Histories.{text_now};
+ghost use Rattle.mk_edit.specs.Saving.{saved};
+ghost use Rattle.mk_view.specs.Extracts.{IsExtract};
+ghost use Rattle.mk_view.specs.Listing.{listing};
+ghost use Rattle.mk_c.specs.Calls.{AnswersWith, Calls, Copies, IsMemory, IsNameAt, NoContentAt, NoNameAt};
 ghost use Rattle.std.specs.Option.{option_map_or};
 
 use crate::handle::Handle;
@@ -11,7 +17,7 @@ use std::alloc::Global;
 /// Answers the text as it stands.
 #[unsafe(no_mangle)]
 pub extern "C" fn mk_c_text(alloc: Global, handle: &mut Handle, place: &mut Place) -> u32
-    ensures { Calls (AnswersWith IsText IsMemory) result place.new handle.old.desk handle.new.desk }
+    ensures { Calls (AnswersWith (λ d answer. answer ≡ text_now d.history) IsMemory) result place.new handle.old.desk handle.new.desk }
 {
     let Some(mut editor) = handle.take(alloc) else {
         return told(Err(Reason::Closed), place);
@@ -24,7 +30,7 @@ pub extern "C" fn mk_c_text(alloc: Global, handle: &mut Handle, place: &mut Plac
 /// Answers the journal: the steps, and the digest of the text.
 #[unsafe(no_mangle)]
 pub extern "C" fn mk_c_save(alloc: Global, handle: &mut Handle, place: &mut Place) -> u32
-    ensures { Calls (AnswersWith IsSavedJournal IsMemory) result place.new handle.old.desk handle.new.desk }
+    ensures { Calls (AnswersWith (λ d answer. answer ≡ saved d.history) IsMemory) result place.new handle.old.desk handle.new.desk }
 {
     let Some(mut editor) = handle.take(alloc) else {
         return told(Err(Reason::Closed), place);
@@ -38,7 +44,7 @@ pub extern "C" fn mk_c_save(alloc: Global, handle: &mut Handle, place: &mut Plac
 /// its body and of its end, and how many lines its fields and its body have.
 #[unsafe(no_mangle)]
 pub extern "C" fn mk_c_sections(alloc: Global, handle: &mut Handle, place: &mut Place) -> u32
-    ensures { Calls (AnswersWith IsListing IsMemory) result place.new handle.old.desk handle.new.desk }
+    ensures { Calls (AnswersWith (λ d answer. answer ≡ listing (tree (text_now d.history))) IsMemory) result place.new handle.old.desk handle.new.desk }
 {
     let Some(mut editor) = handle.take(alloc) else {
         return told(Err(Reason::Closed), place);
@@ -56,7 +62,8 @@ pub extern "C" fn mk_c_extract(
     path: &[u32],
     place: &mut Place,
 ) -> u32
-    ensures { Calls (AnswersWith (IsContentAt path.now) (NoContentAt path.now)) result place.new handle.old.desk handle.new.desk }
+    ensures { Calls (AnswersWith (λ d answer. IsExtract (section_at path.now (tree (text_now d.history))) answer) (NoContentAt path.now))
+        result place.new handle.old.desk handle.new.desk }
 {
     let Some(mut editor) = handle.take(alloc) else {
         return told(Err(Reason::Closed), place);

@@ -1,8 +1,10 @@
 //! The calls that build a message: its fields, its parts and the messages that it forwards are put down one after another.
-ghost use Rattle.std.specs.Prelude.{◌≡◌};
+ghost use Rattle.std.specs.Prelude.{◌∷◌, ◌≡◌, ◌++◌, if◌then◌else◌, []};
 ghost use Rattle.std.specs.Option.{option_map};
-ghost use Rattle.mk_c.specs.Building.{Builds, Drafts, PutsField, PutsMessage, PutsPart, ending_asked, if_given, multipart_asked};
+ghost use Rattle.mk_line.specs.declared.cutting.Ending.TheVariants.{Crlf, Lf};
+ghost use Rattle.mk_c.specs.Building.{Builds, Drafts, Extends, if_given};
 ghost use Rattle.mk_c.specs.Calls.{Calls};
+ghost use Rattle.mk_c.specs.Desks.{forwarded, part_of};
 
 use crate::handle::Handle;
 use crate::status::{Place, Reason, told};
@@ -18,7 +20,7 @@ pub extern "C" fn mk_c_put_field(
     text: &[u8],
     place: &mut Place,
 ) -> u32
-    ensures { Calls (Drafts (PutsField text.now)) result place.new handle.old.desk handle.new.desk }
+    ensures { Calls (Drafts (Extends (λ d. record d { fields = d.fields ++ text.now ∷ [] }))) result place.new handle.old.desk handle.new.desk }
 {
     let Some(mut editor) = handle.take(alloc) else {
         return told(Err(Reason::Closed), place);
@@ -41,7 +43,8 @@ pub extern "C" fn mk_c_put_part(
     base64: bool,
     place: &mut Place,
 ) -> u32
-    ensures { Calls (Drafts (PutsPart media.now (if_given named name.now) text.now base64)) result place.new handle.old.desk handle.new.desk }
+    ensures { Calls (Drafts (Extends (λ d. record d { parts = d.parts ++ part_of media.now (if_given named name.now) text.now base64 ∷ [] })))
+        result place.new handle.old.desk handle.new.desk }
 {
     let Some(mut editor) = handle.take(alloc) else {
         return told(Err(Reason::Closed), place);
@@ -62,7 +65,7 @@ pub extern "C" fn mk_c_put_message(
     inline: bool,
     place: &mut Place,
 ) -> u32
-    ensures { Calls (Drafts (PutsMessage text.now inline)) result place.new handle.old.desk handle.new.desk }
+    ensures { Calls (Drafts (Extends (λ d. record d { messages = d.messages ++ forwarded text.now inline ∷ [] }))) result place.new handle.old.desk handle.new.desk }
 {
     let Some(mut editor) = handle.take(alloc) else {
         return told(Err(Reason::Closed), place);
@@ -85,7 +88,8 @@ pub extern "C" fn mk_c_build(
     crlf: bool,
     place: &mut Place,
 ) -> u32
-    ensures { Calls (Builds (ending_asked crlf) (multipart_asked subtype.now (if_given charset_given charset.now) boundary.now)) result place.new handle.old.desk handle.new.desk }
+    ensures { Calls (Builds (if crlf then Crlf else Lf) (record { subtype = subtype.now; charset = if_given charset_given charset.now; boundary = boundary.now }))
+        result place.new handle.old.desk handle.new.desk }
 {
     let Some(mut editor) = handle.take(alloc) else {
         return told(Err(Reason::Closed), place);

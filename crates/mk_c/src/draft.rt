@@ -1,11 +1,11 @@
 //! What is put down for a message that is to be built.
-ghost use Rattle.std.specs.Prelude.{◌≡◌, ◌≢◌, None, IfErr, IfOk};
+ghost use Rattle.std.specs.Prelude.{◌∷◌, ◌≡◌, ◌≢◌, ◌++◌, [], None, IfErr, IfOk};
 ghost use Rattle.std.specs.Option.{option_map};
 ghost use Rattle.mk_build.specs.ForwardViews.{IsRefusedWith};
 ghost use Rattle.mk_build.specs.Forwards.{built_with, refusal_with};
 ghost use Rattle.mk_build.specs.Multiparts.{multipart_of};
-ghost use Rattle.mk_c.specs.Building.{PutsField, PutsMessage, PutsPart};
-ghost use Rattle.mk_c.specs.Desks.{no_draft};
+ghost use Rattle.mk_c.specs.Building.{Extends};
+ghost use Rattle.mk_c.specs.Desks.{forwarded, no_draft, part_of};
 
 use crate::status::Reason;
 use mk_build::{Attach, BuildError, Forward, Multipart, build_with};
@@ -22,14 +22,14 @@ pub(crate) struct Draft {
 }
 
 impl Model for Draft {
-    ghost use Rattle.std.specs.Prelude.{map};
-    ghost use Rattle.mk_build.specs.BuildViews.{named_of};
+    ghost use Rattle.std.specs.Prelude.{map, true};
+    ghost use Rattle.mk_build.specs.BuildViews.{written_in};
     ghost use Rattle.mk_build.specs.ForwardViews.{forwarded_of};
     ghost use Rattle.mk_c.specs.Desks.{Drafted};
 
     ghost Value = { Drafted };
 
-    ghost view = { λ d. record { fields = map (λ f. f.items) d.fields.items; parts = map named_of d.parts.items; messages = map forwarded_of d.messages.items } };
+    ghost view = { λ d. record { fields = map (λ f. f.items) d.fields.items; parts = map (written_in true) d.parts.items; messages = map forwarded_of d.messages.items } };
 }
 
 impl Draft {
@@ -46,7 +46,7 @@ impl Draft {
 
     /// Puts a field down after the others.
     pub(crate) fn put_field(&mut self, alloc: Global, text: &[u8]) -> Result<(), Reason>
-        ensures { PutsField text.now result self.old self.new }
+        ensures { Extends (λ d. record d { fields = d.fields ++ text.now ∷ [] }) result self.old self.new }
     {
         match self.fields.push(Vec::from_slice(alloc, text)?) {
             Ok(()) => Ok(()),
@@ -63,7 +63,7 @@ impl Draft {
         text: &[u8],
         base64: bool,
     ) -> Result<(), Reason>
-        ensures { PutsPart media.now (option_map (λ n. n.now) name.entry) text.now base64 result self.old self.new }
+        ensures { Extends (λ d. record d { parts = d.parts ++ part_of media.now (option_map (λ n. n.now) name.entry) text.now base64 ∷ [] }) result self.old self.new }
     {
         let name = match name {
             Some(name) => Some(Vec::from_slice(alloc, name)?),
@@ -88,7 +88,7 @@ impl Draft {
         text: &[u8],
         inline: bool,
     ) -> Result<(), Reason>
-        ensures { PutsMessage text.now inline result self.old self.new }
+        ensures { Extends (λ d. record d { messages = d.messages ++ forwarded text.now inline ∷ [] }) result self.old self.new }
     {
         let message = Forward {
             text: Vec::from_slice(alloc, text)?,

@@ -1,14 +1,18 @@
 //! What a handle holds.
-ghost use Rattle.std.specs.Prelude.{◌≡◌, ◌≢◌, ◌+◌, length, Ok};
+ghost use Rattle.std.specs.Prelude.{◌≡◌, ◌≢◌, ◌+◌, length, Ok, []};
+ghost use Rattle.mk_tree.specs.Documents.{tree};
+ghost use Rattle.mk_tree.specs.Sections.{section_at};
 ghost use Rattle.mk_decide.specs.Views.{edit_of};
-ghost use Rattle.mk_edit.specs.Histories.{started};
-ghost use Rattle.mk_edit.specs.Saving.{RefusesJournal, loaded};
+ghost use Rattle.mk_edit.specs.Histories.{started, text_now};
+ghost use Rattle.mk_edit.specs.Saving.{RefusesJournal, loaded, saved};
+ghost use Rattle.mk_view.specs.Extracts.{IsExtract};
+ghost use Rattle.mk_view.specs.Listing.{listing};
 ghost use Rattle.mk_decide.specs.Edits.{Undo, Redo};
 ghost use Rattle.mk_build.specs.Multiparts.{multipart_of};
-ghost use Rattle.mk_c.specs.Desks.{opened};
+ghost use Rattle.mk_c.specs.Desks.{opened, opened_mailbox};
 ghost use Rattle.mk_c.specs.Building.{Builds};
-ghost use Rattle.mk_c.specs.Calls.{Checks, Copies, Forgets, IsContentAt, IsSavedJournal, IsListing, IsMemory, IsNameAt, IsText, Loads, MakesPutDown, NoContentAt, NoNameAt, Obeys, PutsDown, AnswersWith, Starts};
-ghost use Rattle.mk_c.specs.Mail.{GoesOn, OpensMailbox};
+ghost use Rattle.mk_c.specs.Calls.{AnswersWith, BeginsWith, Copies, IsChecked, IsMemory, IsNameAt, Loads, MakesPutDown, NoContentAt, NoNameAt, Obeys, PutsDown};
+ghost use Rattle.mk_c.specs.Mail.{GoesOn};
 
 use crate::draft::Draft;
 use crate::input::read_on;
@@ -43,7 +47,7 @@ impl Model for Editor {
 impl Editor {
     /// Begins with a message.
     pub(crate) fn start(alloc: Global, text: &[u8]) -> Result<Editor, Reason>
-        ensures { Starts text.now result }
+        ensures { BeginsWith (opened (started text.now)) result }
     {
         let text = Vec::from_slice(alloc, text)?;
         match Session::start(alloc, text) {
@@ -77,7 +81,7 @@ impl Editor {
 
     /// Begins with a mailbox that is cut at these From-lines.
     pub(crate) fn of_mailbox(alloc: Global, from_lines: FromLines) -> Result<Editor, Reason>
-        ensures { OpensMailbox from_lines result }
+        ensures { BeginsWith (opened_mailbox from_lines) result }
     {
         let mut editor = Editor::start(alloc, b"")?;
         editor.mailbox = Mailbox::cut_at(alloc, from_lines);
@@ -96,14 +100,14 @@ impl Editor {
 
     /// Forgets the edits that were put down.
     pub(crate) fn forget(&mut self)
-        ensures { Forgets (Ok tt) self.old self.new }
+        ensures { self.new ≡ record self.old { pending = [] } }
     {
         self.pending.clear();
     }
 
     /// What the first edit that was put down would answer, short of memory. None is made, and all are forgotten.
     pub(crate) fn check(&mut self) -> Result<(), Reason>
-        ensures { Checks result self.old self.new }
+        ensures { IsChecked self.old.pending (text_now self.old.history) result × (self.new ≡ record self.old { pending = [] }) }
     {
         let checked = match self.pending.first() {
             Some(edit) => match self.session.check(edit, &mut Meter::new()) {
@@ -154,7 +158,7 @@ impl Editor {
 
     /// Answers the text as it stands.
     pub(crate) fn show_text(&mut self, alloc: Global) -> Result<(), Reason>
-        ensures { AnswersWith IsText IsMemory result self.old self.new }
+        ensures { AnswersWith (λ d answer. answer ≡ text_now d.history) IsMemory result self.old self.new }
     {
         self.answer = Vec::from_slice(alloc, self.session.text())?;
         Ok(())
@@ -162,7 +166,7 @@ impl Editor {
 
     /// Answers the journal.
     pub(crate) fn show_journal(&mut self) -> Result<(), Reason>
-        ensures { AnswersWith IsSavedJournal IsMemory result self.old self.new }
+        ensures { AnswersWith (λ d answer. answer ≡ saved d.history) IsMemory result self.old self.new }
     {
         self.answer = self.session.save()?;
         Ok(())
@@ -170,7 +174,7 @@ impl Editor {
 
     /// Answers the listing of the sections.
     pub(crate) fn show_sections(&mut self, alloc: Global) -> Result<(), Reason>
-        ensures { AnswersWith IsListing IsMemory result self.old self.new }
+        ensures { AnswersWith (λ d answer. answer ≡ listing (tree (text_now d.history))) IsMemory result self.old self.new }
     {
         self.answer = list(alloc, self.session.doc())?;
         Ok(())
@@ -178,7 +182,7 @@ impl Editor {
 
     /// Answers the content of the section at a path.
     pub(crate) fn show_content(&mut self, alloc: Global, path: &[u32]) -> Result<(), Reason>
-        ensures { AnswersWith (IsContentAt path.now) (NoContentAt path.now) result self.old self.new }
+        ensures { AnswersWith (λ d answer. IsExtract (section_at path.now (tree (text_now d.history))) answer) (NoContentAt path.now) result self.old self.new }
     {
         self.answer = extract(alloc, self.session.doc(), path)?;
         Ok(())

@@ -1,8 +1,9 @@
 //! The calls for mailboxes: a mailbox is opened, is given bytes, and answers its messages one by one.
 ghost use Rattle.std.specs.Prelude.{◌≡◌};
 ghost use Rattle.mk_mailbox.specs.Places.{takes_place};
-ghost use Rattle.mk_c.specs.Calls.{Calls, Opens};
-ghost use Rattle.mk_c.specs.Mail.{GoesOn, OpensMailbox, way_of};
+ghost use Rattle.mk_c.specs.Calls.{BeginsWith, Calls, Opens};
+ghost use Rattle.mk_c.specs.Desks.{opened_mailbox};
+ghost use Rattle.mk_c.specs.Mail.{GoesOn, way_of};
 
 use crate::editor::Editor;
 use crate::handle::Handle;
@@ -24,7 +25,7 @@ pub extern "C" fn mk_c_mailbox(
     from_lines: u32,
     place: &mut Place,
 ) -> u32
-    ensures { Opens (OpensMailbox (way_of from_lines)) result place.new handle.new.desk }
+    ensures { Opens (BeginsWith (opened_mailbox (way_of from_lines))) result place.new handle.new.desk }
 {
     let begun = Editor::of_mailbox(alloc, from_lines_of(from_lines));
     open(alloc, handle, begun, place)

@@ -1,6 +1,8 @@
 //! The calls that open a handle and close it.
 ghost use Rattle.std.specs.Prelude.{◌≡◌, None};
-ghost use Rattle.mk_c.specs.Calls.{Loads, Opens, Starts};
+ghost use Rattle.mk_edit.specs.Histories.{started};
+ghost use Rattle.mk_c.specs.Calls.{BeginsWith, Loads, Opens};
+ghost use Rattle.mk_c.specs.Desks.{opened};
 ghost use Rattle.mk_c.specs.inner.Steps.{OpensWith};
 
 use crate::editor::Editor;
@@ -16,7 +18,7 @@ pub extern "C" fn mk_c_start(
     text: &[u8],
     place: &mut Place,
 ) -> u32
-    ensures { Opens (Starts text.now) result place.new handle.new.desk }
+    ensures { Opens (BeginsWith (opened (started text.now))) result place.new handle.new.desk }
 {
     open(alloc, handle, Editor::start(alloc, text), place)
 }

@@ -1,7 +1,8 @@
 //! What is done with the edits that were put down, and with the steps that were made.
-ghost use Rattle.std.specs.Prelude.{◌≡◌};
+ghost use Rattle.std.specs.Prelude.{◌+◌, ◌≡◌, Ok, [], length};
 ghost use Rattle.mk_decide.specs.Edits.{Redo, Undo};
-ghost use Rattle.mk_c.specs.Calls.{Calls, Checks, CountsSteps, Forgets, MakesPutDown, Obeys};
+ghost use Rattle.mk_edit.specs.Histories.{text_now};
+ghost use Rattle.mk_c.specs.Calls.{Calls, IsChecked, MakesPutDown, Obeys};
 
 use crate::handle::Handle;
 use crate::status::{Place, Reason, told};
@@ -10,7 +11,7 @@ use std::alloc::Global;
 /// Forgets the edits that were put down.
 #[unsafe(no_mangle)]
 pub extern "C" fn mk_c_forget(alloc: Global, handle: &mut Handle, place: &mut Place) -> u32
-    ensures { Calls Forgets result place.new handle.old.desk handle.new.desk }
+    ensures { Calls (λ ending old new. (ending ≡ Ok tt) × (new ≡ record old { pending = [] })) result place.new handle.old.desk handle.new.desk }
 {
     let Some(mut editor) = handle.take(alloc) else {
         return told(Err(Reason::Closed), place);
@@ -23,7 +24,8 @@ pub extern "C" fn mk_c_forget(alloc: Global, handle: &mut Handle, place: &mut Pl
 /// What the first edit that was put down would answer, short of memory. None is made, and all are forgotten.
 #[unsafe(no_mangle)]
 pub extern "C" fn mk_c_check(alloc: Global, handle: &mut Handle, place: &mut Place) -> u32
-    ensures { Calls Checks result place.new handle.old.desk handle.new.desk }
+    ensures { Calls (λ ending old new. IsChecked old.pending (text_now old.history) ending × (new ≡ record old { pending = [] }))
+        result place.new handle.old.desk handle.new.desk }
 {
     let Some(mut editor) = handle.take(alloc) else {
         return told(Err(Reason::Closed), place);
@@ -81,7 +83,8 @@ pub extern "C" fn mk_c_counts(
     undone: &mut usize,
     place: &mut Place,
 ) -> u32
-    ensures { Calls (CountsSteps done.new undone.new) result place.new handle.old.desk handle.new.desk }
+    ensures { Calls (λ ending old new. (ending ≡ Ok tt) × (new ≡ old) × (done.new ≡ old.history.place) × (done.new + undone.new ≡ length old.history.steps))
+        result place.new handle.old.desk handle.new.desk }
 {
     let Some(editor) = handle.take(alloc) else {
         return told(Err(Reason::Closed), place);

@@ -43,15 +43,16 @@ same_cuts (x ∷ a) (y ∷ p) b q l e =
     (λ i. first i ∷ rest.0 i, rest.1)
 
 -- the bytes of letters, cut after whole groups of them
-record IsSplit (bytes front following : List ℕ) : Type 0 where
-  early : List ℕ
-  late : List ℕ
-  early_bytes : IsBytes early
-  late_bytes : IsBytes late
-  front_is : encoded early ≡ front
-  following_is : encoded late ≡ following
+pub record IsSplit (bytes front following : List ℕ) : Type 0 where
+  pub early : List ℕ
+  pub late : List ℕ
+  pub whole : early ++ late ≡ bytes
+  pub early_bytes : IsBytes early
+  pub late_bytes : IsBytes late
+  pub front_is : encoded early ≡ front
+  pub following_is : encoded late ≡ following
 
-split_encoded : (x p q : List ℕ) → IsBytes x → encoded x ≡ p ++ q → length p % 4 ≡ 0 → IsSplit x p q
+pub split_encoded : (x p q : List ℕ) → IsBytes x → encoded x ≡ p ++ q → length p % 4 ≡ 0 → IsSplit x p q
 split_encoded x p q h e g =
     let n : ℕ = length p / 4 * 3 in
     let size : (4 * length x + 2) / 3 ≡ length p + length q = sym (length_encoded x) ∙ (ap length e ∙ length-append p q) in
@@ -65,6 +66,7 @@ split_encoded x p q h e g =
     record {
       early = take n x;
       late = drop n x;
+      whole = take-append-drop n x;
       early_bytes = front_bytes (take n x) (drop n x) whole;
       late_bytes = back_bytes (take n x) (drop n x) whole;
       front_is = cuts.0;

@@ -38,14 +38,14 @@ symbols_pass p (a ∷ b ∷ c ∷ rest) h small =
     (symbols_pass p rest h (λ i. small (suc (suc (suc i)))))
 
 -- letters of a text, one byte at a time
-letters_equals : (bytes : List ℕ) → letters (61 ∷ bytes) ≡ []
+pub letters_equals : (bytes : List ℕ) → letters (61 ∷ bytes) ≡ []
 letters_equals bytes = ap (filter is_letter) (take_while-cons (λ byte. not (byte == equals_sign)) 61 bytes)
 
-letters_letter : (byte : ℕ) (bytes : List ℕ) → is_letter byte ≡ true → letters (byte ∷ bytes) ≡ byte ∷ letters bytes
+pub letters_letter : (byte : ℕ) (bytes : List ℕ) → is_letter byte ≡ true → letters (byte ∷ bytes) ≡ byte ∷ letters bytes
 letters_letter byte bytes h =
     rw (take_while-cons (λ b. not (b == equals_sign)) byte bytes, differs is_letter byte 61 refl h, h) refl
 
-letters_other : (byte : ℕ) (bytes : List ℕ) → is_letter byte ≡ false → (byte == 61) ≡ false → letters (byte ∷ bytes) ≡ letters bytes
+pub letters_other : (byte : ℕ) (bytes : List ℕ) → is_letter byte ≡ false → (byte == 61) ≡ false → letters (byte ∷ bytes) ≡ letters bytes
 letters_other byte bytes h e = rw (take_while-cons (λ b. not (b == equals_sign)) byte bytes, e, h) refl
 
 letters_after : (eol : Ending) (bytes : List ℕ) → letters (ending_bytes eol ++ bytes) ≡ letters bytes

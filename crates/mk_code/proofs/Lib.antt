@@ -27,3 +27,6 @@ pub mod NoReturns
 pub mod WholeLines
 pub mod Utf8
 pub mod Spaced
+pub mod InCharsets
+pub mod PieceLetters
+pub mod PieceLines

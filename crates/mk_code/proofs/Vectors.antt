@@ -1,4 +1,5 @@
 -- What the definitions give on worked rows, each computed.
+use Rattle.std.specs.Char.{encode_utf8}
 use Rattle.std.proofs.Common.{◌≡◌, ◌++◌, ◌∷◌, [], length, refl, replicate, List, ℕ}
 use Rattle.std.specs.Prelude.{codes}
 use Rattle.base64.proofs.OnLiterals.{base64_on_literals}
@@ -55,7 +56,7 @@ qp_crlf_as_ending : qp_encoded Crlf (codes "\r\n") ≡ codes "\r\n"
 qp_crlf_as_ending = refl
 
 words_latin : words_decoded (codes "=?iso-8859-1?Q?caf=E9?= =?UTF-8?B?w6k=?= x") ≡ 99 ∷ 97 ∷ 102 ∷ 195 ∷ 169 ∷ 195 ∷ 169 ∷ 32 ∷ 120 ∷ []
-unfolding base64_on_literals
+unfolding base64_on_literals encode_utf8
 words_latin = refl
 
 words_unknown : words_decoded (codes "=?x?Q?a?= =?utf-8?Q?b?=") ≡ codes "=?x?Q?a?= b"

@@ -4,7 +4,7 @@ use Rattle.std.specs.Prelude.{Option}
 use Rattle.std.specs.Option.{option_map}
 use Rattle.std.specs.Result.{result_ok}
 use Rattle.std.specs.Str.{bytes_eq}
-use Rattle.std.specs.List.{prefix_len, onto_first}
+use Rattle.std.specs.List.{prefix_len, onto_first, slice_split}
 use Rattle.std.proofs.lemmas.Bool.{cases_Bool, or_parts, and_right}
 use Rattle.std.proofs.lemmas.List.{length-take-le}
 use Rattle.std.proofs.lemmas.Slice.Eq.{bytes_eq-Decides}
@@ -13,7 +13,11 @@ use Rattle.base64.specs.Engines.{standard_no_pad}
 use Rattle.base64.specs.declared.decode.DecodeError.{DecodeError}
 use Rattle.mk_line.specs.Parting.{has_byte}
 use Rattle.mk_code.specs.Base64Text.{is_letter}
-use Rattle.mk_code.specs.EncodedWords.{parts, parts_decoded, word_decoded, inner_decoded, is_padding, b_text, q_text, put_before}
+use Rattle.mk_code.specs.EncodedWords.{parts_decoded, word_decoded, inner_decoded, is_padding, b_text, q_text, put_before}
+
+-- what stands between question marks
+abbrev pub parts : List ℕ → List (List ℕ)
+parts text = slice_split (λ byte. byte == 63) text
 
 -- what stands before a question mark is a part
 pub parts_run : (front following : List ℕ) → has_byte 63 front ≡ false → parts (front ++ 63 ∷ following) ≡ front ∷ parts following

@@ -1,4 +1,5 @@
 -- A text that stays as it is has no word that is decoded.
+use Rattle.mk_code.proofs.WordParts.{parts}
 use Rattle.std.proofs.Common.{◌≡◌, ◌==◌, ◌&&◌, ℕ, Bool, true, false, List, [], ◌∷◌, ◌++◌, refl, ap, sym, ◌∙◌, inl, inr, None, append-nil, subst}
 use Rattle.std.specs.List.{list_all, onto_first}
 use Rattle.std.specs.Str.{bytes_eq}
@@ -9,7 +10,7 @@ use Rattle.mk_line.specs.declared.cutting.Ending.{Ending}
 use Rattle.mk_line.specs.declared.cutting.Ending.TheVariants.{Crlf, Lf, Missing}
 use Rattle.mk_line.proofs.Cuts.{cut_other}
 use Rattle.mk_head.specs.Unfolding.{contents}
-use Rattle.mk_code.specs.EncodedWords.{Run, Gap, Word, run_before, runs, parts, parts_decoded, word_decoded, shown, unfolded, is_shown, has_pair}
+use Rattle.mk_code.specs.EncodedWords.{Run, Gap, Word, run_before, runs, parts_decoded, word_decoded, shown, unfolded, is_shown, has_pair}
 use Rattle.mk_code.specs.declared.one_word.Readable.TheVariants.{All}
 use Rattle.mk_code.proofs.OutputCuts.{differs, with_other}
 use Rattle.mk_code.proofs.Runs.{gap_before}

@@ -1,7 +1,7 @@
 -- Encoded words in the value of a field (RFC 2047; that a word of any length and an empty text are decoded is our own).
-use Rattle.std.specs.Prelude.{◌==◌, ◌≤◌, ◌&&◌, ◌||◌, ◌+◌, ◌/◌, ◌%◌, if◌then◌else◌, ℕ, Bool, false, nat_le, nat_lt, not, List, [], ◌∷◌, ◌++◌, length, drop, codes, Option, Some, None, is_some, unwrap_or, option_and_then, take_while}
+use Rattle.std.specs.Prelude.{◌==◌, ◌≤◌, ◌&&◌, ◌||◌, ◌+◌, if◌then◌else◌, ℕ, Bool, false, nat_le, nat_lt, not, List, [], ◌∷◌, ◌++◌, length, drop, codes, Option, Some, None, is_some, unwrap_or, option_and_then, take_while, encode_utf8}
 use Rattle.std.specs.Option.{option_map}
-use Rattle.std.specs.List.{flat_map, join_by, list_all, list_any, onto_first}
+use Rattle.std.specs.List.{flat_map, join_by, list_all, list_any, onto_first, slice_split}
 use Rattle.std.specs.Str.{bytes_eq, is_utf8, str_to_ascii_lowercase}
 use Rattle.base64.specs.GeneralPurpose.{encode_of, decoded_of}
 use Rattle.base64.specs.Engines.{standard, standard_no_pad}
@@ -42,11 +42,6 @@ abbrev pub runs : List ℕ → List Run
 runs [] = []
 runs (byte ∷ bytes) = run_before byte (runs bytes)
 
--- what stands between question marks
-abbrev pub parts : List ℕ → List (List ℕ)
-parts [] = [] ∷ []
-parts (byte ∷ bytes) = if byte == question_mark then [] ∷ parts bytes else onto_first byte (parts bytes)
-
 -- nothing but `=`, twice at most
 abbrev pub is_padding : List ℕ → Bool
 is_padding bytes = nat_le (length bytes) 2 && list_all (λ byte. byte == equals_sign) bytes
@@ -82,10 +77,6 @@ abbrev pub text_bytes : List ℕ → List ℕ → Option (List ℕ)
 text_bytes name text =
     if bytes_eq name (codes "b") then b_text text else (if bytes_eq name (codes "q") then q_text text else None)
 
--- a byte of iso-8859-1 in UTF-8
-abbrev pub latin_character : ℕ → List ℕ
-latin_character byte = if nat_lt byte 128 then byte ∷ [] else (192 + byte / 64) ∷ (128 + byte % 64) ∷ []
-
 -- labels of UTF-8 (WHATWG Encoding Standard, 4.2)
 abbrev pub utf8_labels : List (List ℕ)
 utf8_labels = codes "utf-8" ∷ codes "unicode-1-1-utf-8" ∷ codes "unicode11utf8" ∷ codes "unicode20utf8" ∷ codes "utf8" ∷ codes "x-unicode20utf8" ∷ []
@@ -95,7 +86,7 @@ abbrev pub in_utf8 : List ℕ → List ℕ → Option (List ℕ)
 in_utf8 charset bytes =
     if list_any (bytes_eq charset) utf8_labels then Some bytes
     else (if bytes_eq charset (codes "us-ascii") then (if list_all (λ byte. nat_lt byte 128) bytes then Some bytes else None)
-    else (if bytes_eq charset (codes "iso-8859-1") then Some (flat_map latin_character bytes)
+    else (if bytes_eq charset (codes "iso-8859-1") then Some (flat_map encode_utf8 bytes)
     else option_and_then (λ upper. text_in_table upper bytes) (upper_of charset)))
 
 -- what the parts of an encoded word stand for; a language may follow the charset after an asterisk (RFC 2231, 5)
@@ -113,22 +104,22 @@ parts_decoded (start ∷ charset ∷ name ∷ text ∷ end ∷ []) =
     if bytes_eq start (equals_sign ∷ []) && bytes_eq end (equals_sign ∷ []) then inner_decoded charset name text else None
 parts_decoded (start ∷ charset ∷ name ∷ text ∷ end ∷ more ∷ others) = None
 
--- what an encoded word stands for
+-- what an encoded word stands for: its parts stand between question marks
 abbrev pub word_decoded : List ℕ → Option (List ℕ)
-word_decoded word = parts_decoded (parts word)
+word_decoded word = parts_decoded (slice_split (λ byte. byte == question_mark) word)
+
+-- the bytes, where they are a text in UTF-8
+abbrev pub as_text : List ℕ → Option (List ℕ)
+as_text bytes = if is_utf8 bytes then Some bytes else None
 
 -- what an encoded word stands for, if it is among those that are decoded: all that can be, or those whose bytes are UTF-8
 abbrev pub word_read : Readable → List ℕ → Option (List ℕ)
 word_read All word = word_decoded word
-word_read Texts word = option_and_then (λ bytes. if is_utf8 bytes then Some bytes else None) (word_decoded word)
+word_read Texts word = option_and_then as_text (word_decoded word)
 
 -- the word is decoded
 abbrev pub is_decoded : Readable → List ℕ → Bool
 is_decoded which word = is_some (word_read which word)
-
--- a word decoded, or as it stands
-abbrev pub word_shown : Readable → List ℕ → List ℕ
-word_shown which word = unwrap_or (word_read which word) word
 
 -- a gap before a word, after a decoded word or not: between two decoded words it is dropped (RFC 2047, 6.2)
 abbrev pub gap_shown : Readable → Bool → List ℕ → List ℕ → List ℕ
@@ -144,7 +135,7 @@ begins_decoded which (Word word ∷ others) = is_decoded which word
 abbrev pub shown : Readable → Bool → List Run → List ℕ
 shown which after [] = []
 shown which after (Gap gap ∷ others) = (if after && begins_decoded which others then [] else gap) ++ shown which false others
-shown which after (Word word ∷ others) = word_shown which word ++ shown which (is_decoded which word) others
+shown which after (Word word ∷ others) = unwrap_or (word_read which word) word ++ shown which (is_decoded which word) others
 
 -- a value with those of its encoded words decoded
 abbrev pub decoded_with : Readable → List ℕ → List ℕ

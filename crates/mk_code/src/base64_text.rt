@@ -179,7 +179,7 @@ fn decode_groups(out: &mut Vec<u8>, found: &mut Vec<u8>) -> Result<(), CodeError
 }
 
 // Appends the bytes whose encoding letters are.
-fn push_decoded(out: &mut Vec<u8>, found: &[u8]) -> Result<(), CodeError>
+pub(crate) fn push_decoded(out: &mut Vec<u8>, found: &[u8]) -> Result<(), CodeError>
     ensures ok { OnOk result (HasDecoded out.old.items found.now out.new.items []) }
     ensures err { IfErr result (λ error. EncodesNone found.now error) }
 {

@@ -1,10 +1,10 @@
 //! Texts in a charset, in UTF-8.
-ghost use Rattle.std.specs.Prelude.{◌≡◌, ◌++◌, if◌then◌else◌, IfOk, None, Some, find, is_some, map, nat_lt, option_and_then};
+ghost use Rattle.std.specs.Prelude.{◌≡◌, ◌++◌, if◌then◌else◌, encode_utf8, IfOk, None, Some, find, is_some, map, nat_lt, option_and_then};
 ghost use Rattle.std.specs.List.{flat_map, list_all, list_any};
 ghost use Rattle.std.specs.Option.{option_map};
 ghost use Rattle.std.specs.Str.{bytes_eq, str_to_ascii_lowercase};
 ghost use Rattle.mk_code.specs.Charsets.{character_in as character_of, iso_tables, other_tables, text_in_table as text_by_table, upper_of};
-ghost use Rattle.mk_code.specs.EncodedWords.{in_utf8 as bytes_in_utf8, latin_character, utf8_labels};
+ghost use Rattle.mk_code.specs.EncodedWords.{in_utf8 as bytes_in_utf8, utf8_labels};
 ghost use Rattle.mk_code.specs.inner.Tables.{has_label as is_labelled, single_of, table_of};
 
 use crate::iso_tables::ISO_TABLES;
@@ -13,11 +13,6 @@ use std::alloc::{AllocError, Global};
 
 /// The first byte that isn't ASCII.
 const NON_ASCII: u8 = 128;
-
-/// What the first of two bytes of a character in UTF-8 has beside its bits, and what the second has.
-const LEAD_OF_TWO: u8 = 192;
-
-const CONTINUATION: u8 = 128;
 
 /// What stands in a table where a byte has no character.
 const NO_CHARACTER: char = '\u{FFFD}';
@@ -177,15 +172,11 @@ fn character_in(upper: &[char], byte: u8) -> Option<char>
 
 // The characters of iso-8859-1 in UTF-8.
 fn from_latin(alloc: Global, bytes: &[u8]) -> Result<Vec<u8>, AllocError>
-    ensures { IfOk result (λ text. text.items ≡ flat_map latin_character bytes.now) }
+    ensures { IfOk result (λ text. text.items ≡ flat_map encode_utf8 bytes.now) }
 {
-    let mut out = Vec::with_capacity(alloc, bytes.len())?;
+    let mut text = String::with_capacity(alloc, bytes.len())?;
     for byte in bytes {
-        if *byte < NON_ASCII {
-            out.push(*byte)?;
-        } else {
-            out.extend_from_slice(&[LEAD_OF_TWO + *byte / 64, CONTINUATION + *byte % 64])?;
-        }
+        text.push(char::from(*byte))?;
     }
-    Ok(out)
+    Ok(text.into_bytes())
 }

@@ -1,6 +1,7 @@
 //! Laws of the encodings, each a function with an empty body whose clause is the law.
-ghost use Rattle.std.specs.Prelude.{◌≡◌, ◌≢◌, ◌↔◌, ℕ, List, Some, drop, length, map, take_while, true, encode_utf8, encode_utf8_all};
-ghost use Rattle.std.specs.Str.{IsUtf8};
+ghost use Rattle.std.specs.Prelude.{◌≡◌, ◌≢◌, ◌↔◌, ℕ, List, Some, drop, length, map, take_while, true, false, encode_utf8, encode_utf8_all};
+ghost use Rattle.std.specs.List.{list_any};
+ghost use Rattle.std.specs.Str.{IsUtf8, bytes_eq};
 ghost use Rattle.base64.specs.GeneralPurpose.{IsBytes};
 ghost use Rattle.mk_line.specs.declared.cutting.Ending.{Ending as LineEnding};
 ghost use Rattle.mk_line.specs.declared.cutting.Ending.TheVariants.{Missing};
@@ -9,7 +10,7 @@ ghost use Rattle.mk_head.specs.declared.encodings.Encoding.{Encoding as Transfer
 ghost use Rattle.mk_head.specs.declared.encodings.Encoding.TheVariants.{Qp, Base64};
 ghost use Rattle.mk_code.specs.Base64Text.{IsBase64Of, base64_encoded, is_letter};
 ghost use Rattle.mk_code.specs.Contents.{IsContent};
-ghost use Rattle.mk_code.specs.EncodedWords.{AreShort, b_text, characters, is_padding, pieces, words_decoded, words_encoded};
+ghost use Rattle.mk_code.specs.EncodedWords.{AreShort, b_text, characters, in_utf8, is_padding, pieces, utf8_labels, words_decoded, words_encoded};
 ghost use Rattle.mk_code.specs.OutputLines.{AreSafe};
 ghost use Rattle.mk_code.specs.QuotedPrintable.{qp_encoded};
 
@@ -64,4 +65,16 @@ pub fn characters_are_whole()
 /// No encoded word of a text in UTF-8 has more than 72 characters.
 pub fn words_are_short()
     ensures { (text : List ℕ) → IsUtf8 text → AreShort (pieces (characters text) 0) }
+{}
+
+/// A text in a charset is UTF-8 once it is decoded; one that says it is UTF-8 stays as it is.
+pub fn charsets_become_utf8()
+    ensures { (charset bytes text : List ℕ) → list_any (bytes_eq charset) utf8_labels ≡ false → IsBytes bytes →
+        in_utf8 charset bytes ≡ Some text → IsUtf8 text }
+{}
+
+/// What a text in a charset is decoded to, and encoded as UTF-8, decodes to itself.
+pub fn charsets_come_back()
+    ensures { (eol : LineEnding) (charset bytes text : List ℕ) → IsBytes bytes → in_utf8 charset bytes ≡ Some text →
+        words_decoded (words_encoded eol text) ≡ text }
 {}

@@ -1,6 +1,6 @@
 //! Transfer encodings and encoded words of Internet messages (RFC 2045, 6.7 and 6.8; RFC 2047).
 //!
-//! Only `decode`, `decode_in` and `decoded_size` refuse; the other calls fail only when memory runs out.
+//! Only `decode`, `decode_in`, `decoded_size` and `Piece::decode` refuse; the other calls fail only when memory runs out.
 //!
 //! ```
 //! let text = qp_encode(alloc, b"caf\xc3\xa9 = 5\n", Ending::Lf)?;
@@ -14,7 +14,8 @@
 //! The example is run by `a_content_and_its_encoding` in `mk_text_tests/src/examples.rt`.
 //!
 //! Tests: `mk_text_tests/src/decoding.rt`, `mk_text_tests/src/codes.rt`, `mk_text_tests/src/words.rt`,
-//! `mk_text_tests/src/rooms.rt`, `mk_text_tests/src/sizes.rt`; `mk_text_tests/src/memory.rt` where memory is refused.
+//! `mk_text_tests/src/rooms.rt`, `mk_text_tests/src/sizes.rt`, `mk_text_tests/src/piecewise.rt`; `mk_text_tests/src/memory.rt`
+//! where memory is refused.
 #![tactic(auto)]
 
 mod base64_fronts;
@@ -26,6 +27,7 @@ mod lanes;
 pub mod laws;
 mod one_word;
 mod other_tables;
+mod piecewise;
 mod qp_decoding;
 mod qp_encoding;
 mod sizes;
@@ -37,6 +39,7 @@ pub use base64_text::{b64_encode, push_b64};
 pub use charsets::{in_utf8, is_in_charset};
 pub use decoding::{CodeError, decode, decode_in};
 pub use mk_head::Encoding;
+pub use piecewise::Piece;
 pub use qp_encoding::{push_qp, qp_encode};
 pub use sizes::decoded_size;
 pub use words_decoding::{text_decode, words_decode};

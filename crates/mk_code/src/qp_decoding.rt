@@ -24,7 +24,7 @@ pub(crate) fn decode(out: &mut Vec<u8>, text: &[u8]) -> Result<(), AllocError>
 }
 
 // Appends what a line stands for.
-fn push_line(out: &mut Vec<u8>, content: &[u8], ending: &[u8]) -> Result<(), AllocError>
+pub(crate) fn push_line(out: &mut Vec<u8>, content: &[u8], ending: &[u8]) -> Result<(), AllocError>
     ensures { OnOk result (out.new.items ≡ out.old.items ++ unquoted ending.now (trimmed content.now)) }
 {
     let mut rest = trimmed(content);

@@ -1,9 +1,9 @@
 //! Decoding the encoded words of a value (RFC 2047, 6.2).
-ghost use Rattle.std.specs.Prelude.{◌≡◌, ◌<◌, ◌≤◌, ◌++◌, Bool, length, not, IfOk, OnOk};
+ghost use Rattle.std.specs.Prelude.{◌≡◌, ◌<◌, ◌≤◌, ◌++◌, Bool, length, not, unwrap_or, IfOk, OnOk};
 ghost use Rattle.std.specs.List.{prefix_len};
 ghost use Rattle.mk_line.specs.Ascii.{is_blank as blank};
 ghost use Rattle.mk_code.specs.declared.one_word.Readable.{Readable as Which};
-ghost use Rattle.mk_code.specs.EncodedWords.{decoded_with as decoded, gap_shown, is_decoded, runs, shown, text_decoded, word_shown, words_decoded};
+ghost use Rattle.mk_code.specs.EncodedWords.{decoded_with as decoded, gap_shown, is_decoded, runs, shown, text_decoded, word_read, words_decoded};
 
 use crate::one_word::{Readable, is_text, read_word};
 use mk_head::without_endings;
@@ -53,7 +53,7 @@ fn split_front(text: &[u8]) -> (&[u8], &[u8], &[u8])
     requires { 0 < length text.now }
     ensures runs { (which : Which) (after : Bool) → shown which after (runs text.now)
         ≡ gap_shown which after result.0.now result.1.now
-        ++ (word_shown which result.1.now ++ shown which (is_decoded which result.1.now) (runs result.2.now)) }
+        ++ (unwrap_or (word_read which result.1.now) result.1.now ++ shown which (is_decoded which result.1.now) (runs result.2.now)) }
     ensures less { length result.2.now < length text.now }
 {
     let (gap, rest) = text.split_at(leading_blanks(text));
@@ -80,7 +80,7 @@ fn push_word(
     word: &[u8],
 ) -> Result<bool, AllocError>
     ensures text { OnOk result (out.new.items
-        ≡ out.old.items ++ gap_shown which after gap.now word.now ++ word_shown which word.now) }
+        ≡ out.old.items ++ gap_shown which after gap.now word.now ++ unwrap_or (word_read which word.now) word.now) }
     ensures decoded { IfOk result (λ decoded. decoded ≡ is_decoded which word.now) }
 {
     match read_word(alloc, word, which)? {

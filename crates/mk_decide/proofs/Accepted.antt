@@ -5,10 +5,10 @@ use Rattle.mk_tree.specs.Documents.{Document}
 use Rattle.mk_tree.specs.Sections.{Placed}
 use Rattle.mk_tree.specs.Places.{Frame, plug}
 use Rattle.mk_decide.specs.Edits.{PlainEdit, Refusal}
-use Rattle.mk_decide.specs.EditLaws.{IsJudged}
+use Rattle.mk_decide.proofs.PlanNames.{IsJudged, with_field}
 use Rattle.mk_decide.specs.FieldEdits.{Found}
 use Rattle.mk_decide.specs.Outcomes.{judged_by}
-use Rattle.mk_decide.specs.Plans.{Plan, place_of, plan_of, planned, unless, with_field}
+use Rattle.mk_decide.specs.Plans.{Plan, place_of, plan_of, planned, unless}
 use Rattle.mk_decide.proofs.Answered.{Holds}
 use Rattle.mk_decide.proofs.Late.{IsFair, fair, told}
 use Rattle.mk_decide.proofs.PlacesAgain.{PathAgain, path_again}

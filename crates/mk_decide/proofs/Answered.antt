@@ -4,7 +4,8 @@ use Rattle.mk_tree.specs.Tree.{Entity}
 use Rattle.mk_tree.specs.Places.{Frame}
 use Rattle.mk_decide.specs.Edits.{Refusal}
 use Rattle.mk_decide.specs.FieldEdits.{Found}
-use Rattle.mk_decide.specs.Plans.{Plan, unless, with_field, with_place}
+use Rattle.mk_decide.specs.Plans.{Plan, unless}
+use Rattle.mk_decide.proofs.PlanNames.{with_field, with_place}
 
 abbrev pub Holds : (Plan → Type 0) → Result Plan Refusal → Type 0
 Holds P (Ok p) = P p

@@ -18,7 +18,8 @@ use Rattle.mk_tree.proofs.Stability.{read_stable}
 use Rattle.mk_decide.specs.Edits.{SetBody, NotLeaf}
 use Rattle.mk_decide.specs.EditSplices.{one_splice, made_separator}
 use Rattle.std.specs.Prelude.{unwrap_or}
-use Rattle.mk_decide.specs.Plans.{set_body, body_plan, planned, plan_of}
+use Rattle.mk_decide.specs.Plans.{set_body, planned, plan_of}
+use Rattle.mk_decide.proofs.PlanNames.{body_plan}
 use Rattle.mk_decide.specs.Outcomes.{hit, edited}
 use Rattle.mk_decide.specs.Local.{IsLocal}
 use Rattle.mk_decide.specs.Around.{hit_below, glued_below}

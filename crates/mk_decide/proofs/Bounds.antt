@@ -2,12 +2,12 @@
 use Rattle.std.proofs.Common.{◌≡◌, ◌==◌, ◌&&◌, ◌++◌, if◌then◌else◌, ℕ, zero, suc, Bool, true, false, not, Option, None, Some, List, [], ◌∷◌, refl, ap, sym, ◌∙◌, subst, inl, inr, codes, length, length-append, arith}
 use Rattle.std.proofs.lemmas.Bool.{cases_Bool, or_parts}
 use Rattle.std.proofs.lemmas.Slice.Eq.{bytes_eq-Decides}
-use Rattle.std.specs.List.{list_all}
+use Rattle.std.specs.List.{list_all, list_any}
+use Rattle.mk_line.specs.Ascii.{carriage_return, is_blank}
 use Rattle.std.specs.Str.{bytes_eq}
 use Rattle.mk_line.specs.declared.cutting.Ending.{Ending}
 use Rattle.mk_line.specs.declared.cutting.Ending.TheVariants.{Crlf, Lf, Missing}
 use Rattle.mk_line.specs.declared.marks.Mark.TheVariants.{Part, Close}
-use Rattle.mk_line.specs.Ascii.{is_blank}
 use Rattle.mk_line.specs.Lines.{TextLine, text_line, is_nil, is_open, has_line_feed, ends_in_return, IsLine}
 use Rattle.mk_line.specs.Marks.{trimmed_before, trimmed, dashed, mark, delimiter_line}
 use Rattle.mk_line.proofs.Blanks.{trimmed_kept, untold}
@@ -20,9 +20,13 @@ use Rattle.mk_head.specs.Values.{param_of, content_type_of}
 use Rattle.mk_head.specs.Types.{field_value, type_by, header_encoding, boundary_of}
 use Rattle.std.specs.Prelude.{unwrap_or}
 use Rattle.mk_head.proofs.Bytes.{parameters_bytes, boundaries_trimmed}
-use Rattle.mk_tree.specs.Kinds.{Leaf, Message, Multi, has_return, has_boundary, holds_message, kind_of, kind, kind_at}
+use Rattle.mk_tree.specs.Kinds.{Leaf, Message, Multi, has_boundary, holds_message, kind_of, kind, kind_at}
 use Rattle.mk_decide.proofs.Openings.{Each}
 use Rattle.mk_decide.proofs.Renaming.{both, feed_tested}
+
+-- some byte is a carriage return
+abbrev pub has_return : List ℕ → Bool
+has_return cs = list_any (λ c. c == carriage_return) cs
 
 -- what is known of a boundary
 pub record IsBound (b : List ℕ) : Type 0 where

@@ -1,5 +1,5 @@
 -- The k-th field of a name among lines is the k-th such field of the header; a name is what stands before what is kept.
-use Rattle.std.proofs.Common.{◌≡◌, ◌+◌, ◌++◌, if◌then◌else◌, ℕ, zero, suc, true, not, Option, None, Some, List, [], ◌∷◌, refl, ap, sym, ◌∙◌, inl, inr, take, filter, arith}
+use Rattle.std.proofs.Common.{IfSome, ◌≡◌, ◌+◌, ◌++◌, if◌then◌else◌, ℕ, zero, suc, true, not, Option, None, Some, List, [], ◌∷◌, refl, ap, sym, ◌∙◌, inl, inr, take, filter, arith}
 use Rattle.std.proofs.lemmas.Bool.{cases_Bool}
 use Rattle.std.specs.Option.{option_map}
 use Rattle.std.specs.List.{list_all, prefix_len}
@@ -9,7 +9,7 @@ use Rattle.mk_line.specs.Kinds.{is_past_blanks_colon}
 use Rattle.mk_head.specs.Split.{is_start}
 use Rattle.mk_head.specs.Fields.{FieldText, field_text, fields_of, is_named, counted}
 use Rattle.mk_decide.specs.FieldEdits.{starts_named, Found, found_after, find, field_at, after_name}
-use Rattle.mk_decide.specs.EditLaws.{IsApart, FieldsAreCounted, FieldsAreApart, NamesAreReplaced}
+use Rattle.mk_decide.specs.EditLaws.{FieldsAreCounted, FieldsAreApart, NamesAreReplaced}
 use Rattle.mk_decide.proofs.Runs.{FoundIn, field_is}
 use Rattle.mk_decide.proofs.Renaming.{both, start_past, past_name}
 
@@ -49,6 +49,9 @@ none_counted (x ∷ xs) = refl
 pub counted_lem : FieldsAreCounted
 counted_lem name zero fields = sym (none_counted (filter (is_named name) (fields_of fields)))
 counted_lem name (suc k) fields = find_counted name k fields
+
+abbrev IsApart : List TextLine → Option Found → Type 0
+IsApart ls o = IfSome o (λ (f : Found). f.before ++ (f.start ∷ (f.more ++ f.after)) ≡ ls)
 
 apart_by : (ls : List TextLine) (o : Option Found) → FoundIn ls o → IsApart ls o
 apart_by ls None h = tt

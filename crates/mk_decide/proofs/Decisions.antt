@@ -16,13 +16,12 @@ use Rattle.mk_decide.specs.declared.deciding.Replacement.{Replacement}
 use Rattle.mk_decide.specs.declared.errors.EditError.{EditError}
 use Rattle.mk_decide.specs.Reasons.{is_open_early}
 use Rattle.mk_decide.specs.Edits.{PlainEdit, path_of, Refusal, NoSuchSection, OpenLine, Recut}
-use Rattle.mk_decide.specs.Plans.{Plan, plan_at, place_of, with_place, plan_of, planned}
-use Rattle.mk_decide.specs.Outcomes.{hit_level, unless_hit, judged, judged_by, edited}
-use Rattle.mk_decide.specs.EditLaws.{IsJudged}
+use Rattle.mk_decide.specs.Plans.{Plan, plan_at, place_of, plan_of, planned}
+use Rattle.mk_decide.proofs.PlanNames.{with_place, judged, IsJudged}
+use Rattle.mk_decide.specs.Outcomes.{hit_level, unless_hit, judged_by, edited}
 use Rattle.mk_decide.specs.EditSplices.{one_splice, splices_of}
 use Rattle.mk_decide.specs.Answers.{refusal_of, IsRefusedBy}
-use Rattle.mk_decide.specs.Decided.{ChangesBy, IsDecided}
-use Rattle.mk_decide.specs.LocalAnswers.{PlainSplice, unless_recut, unless_held, answer_by, plain_splice}
+use Rattle.mk_decide.specs.LocalAnswers.{ChangesBy, IsDecided, PlainSplice, unless_recut, unless_held, answer_by, plain_splice}
 use Rattle.mk_decide.proofs.Answered.{Holds}
 use Rattle.mk_decide.proofs.Late.{IsFair, fair, told}
 use Rattle.mk_decide.proofs.Leads.{Led, leads}

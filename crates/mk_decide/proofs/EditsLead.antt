@@ -13,11 +13,12 @@ use Rattle.mk_tree.proofs.Kept.{text_kept}
 use Rattle.mk_decide.specs.Edits.{PlainEdit, AddField, RemoveField, RenameField, SetField, SetBody, SetSection, InsertPart, RemovePart, Wrap, path_of, Refusal, BadField, BadName, BadBoundary, BadSubtype}
 use Rattle.mk_line.specs.Kinds.{is_name}
 use Rattle.mk_decide.specs.FieldEdits.{Found, field_at}
-use Rattle.mk_decide.specs.Plans.{Plan, add_plan, drop_plan, rename_plan, change_plan, wrap, unless, plan_at, place_of, with_place, plan_of, planned}
+use Rattle.mk_decide.specs.Plans.{Plan, wrap, unless, plan_at, place_of, plan_of, planned}
+use Rattle.mk_decide.proofs.PlanNames.{add_plan, drop_plan, rename_plan, change_plan, with_place, splices_at, IsJudged}
 use Rattle.mk_decide.specs.Outcomes.{judged_by, edited}
 use Rattle.mk_splice.specs.Splices.{Splice}
-use Rattle.mk_decide.specs.EditSplices.{splices_in, splices_at, splices_of, for_found, one_splice}
-use Rattle.mk_decide.specs.EditLaws.{IsJudged, SplicesLead, EditsReadBack}
+use Rattle.mk_decide.specs.EditSplices.{splices_in, splices_of, for_found, one_splice}
+use Rattle.mk_decide.specs.EditLaws.{SplicesLead, EditsReadBack}
 use Rattle.mk_decide.proofs.Answered.{Holds, unless_holds, field_holds}
 use Rattle.mk_decide.proofs.Runs.{IsFound, FoundIn, field_is}
 use Rattle.mk_decide.proofs.Late.{IsFair, fair, told}

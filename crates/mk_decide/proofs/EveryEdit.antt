@@ -9,11 +9,11 @@ use Rattle.mk_head.specs.Values.{is_token}
 use Rattle.mk_tree.specs.Tree.{Entity, field_lines}
 use Rattle.mk_tree.specs.Documents.{Document, levels, document_lines, IsStable}
 use Rattle.mk_tree.specs.Places.{Frame, left_at, default_at, put}
-use Rattle.mk_decide.specs.Reasons.{added}
+use Rattle.mk_decide.proofs.PlanNames.{added, add_plan, drop_plan, rename_plan, change_plan, with_place}
 use Rattle.mk_decide.specs.Edits.{PlainEdit, AddField, RemoveField, RenameField, SetField, SetBody, SetSection, InsertPart, RemovePart, Wrap, path_of, BadField, BadName, BadBoundary, BadSubtype, Refusal}
 use Rattle.mk_line.specs.Kinds.{is_name}
 use Rattle.mk_decide.specs.FieldEdits.{Found, field_at, renamed}
-use Rattle.mk_decide.specs.Plans.{Plan, add_plan, drop_plan, rename_plan, change_plan, unless, wrap, plan_at, place_of, with_place, plan_of, planned}
+use Rattle.mk_decide.specs.Plans.{Plan, unless, wrap, plan_at, place_of, plan_of, planned}
 use Rattle.mk_decide.specs.Local.{Own, IsLocal}
 use Rattle.mk_decide.specs.EditLaws.{LocalityOfEdits}
 use Rattle.mk_decide.proofs.Answered.{Holds, unless_holds, field_holds}

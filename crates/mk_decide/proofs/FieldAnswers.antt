@@ -21,13 +21,13 @@ use Rattle.mk_decide.specs.declared.errors.EditError.{EditError}
 use Rattle.mk_decide.specs.Reasons.{is_open_early}
 use Rattle.mk_decide.specs.Edits.{AddField, RemoveField, RenameField, SetField, Refusal, NoSuchSection}
 use Rattle.mk_decide.specs.Plans.{Plan, place_of, plan_of, planned}
-use Rattle.mk_decide.specs.Outcomes.{hit_level, unless_hit, judged, judged_by, edited}
+use Rattle.mk_decide.specs.Outcomes.{hit_level, unless_hit, judged_by, edited}
+use Rattle.mk_decide.proofs.PlanNames.{judged}
 use Rattle.mk_decide.specs.Local.{AreFieldsFor, IsLocal}
 use Rattle.mk_decide.specs.FieldPuts.{LinePut, puts, plain_of}
 use Rattle.mk_decide.specs.Answers.{refusal_of, IsRefusedBy}
 use Rattle.mk_decide.specs.Around.{hit_below}
-use Rattle.mk_decide.specs.LocalAnswers.{PlainSplice, opens_at, fits_at, unless_recut, unless_held, answer_put, answer_puts, answer_at, answer_found, after_first, answer, plain_splice}
-use Rattle.mk_decide.specs.Decided.{ChangesBy, IsDecided}
+use Rattle.mk_decide.specs.LocalAnswers.{PlainSplice, opens_at, fits_at, unless_recut, unless_held, answer_put, answer_puts, answer_at, answer_found, after_first, answer, plain_splice, ChangesBy, IsDecided}
 use Rattle.mk_decide.proofs.EveryEdit.{locality_lem}
 use Rattle.mk_decide.proofs.PutPlans.{put_plan, plan_of_put}
 use Rattle.mk_decide.proofs.PutSites.{path_same, place_found, plan_found, opens_told, edited_is, hit_told, printed_told}

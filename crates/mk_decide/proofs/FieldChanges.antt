@@ -10,7 +10,7 @@ use Rattle.mk_tree.specs.Tree.{Entity, leaf, message, multi, print, print_parts,
 use Rattle.mk_tree.specs.Places.{Frame}
 use Rattle.mk_tree.specs.Reading.{IsWellRead}
 use Rattle.mk_tree.proofs.Plugs.{unmarked_left, unmarked_right, unmarked_join}
-use Rattle.mk_decide.specs.Reasons.{added}
+use Rattle.mk_decide.proofs.PlanNames.{added}
 use Rattle.mk_line.specs.Kinds.{is_name}
 use Rattle.mk_decide.specs.FieldEdits.{Found, renamed}
 use Rattle.mk_decide.specs.Plans.{Plan, fields_plan}

@@ -23,7 +23,8 @@ use Rattle.mk_decide.specs.declared.field_edits.FieldEdit.{FieldEdit}
 use Rattle.mk_decide.specs.Reasons.{is_open_early}
 use Rattle.mk_decide.specs.Plans.{planned}
 use Rattle.mk_decide.specs.Outcomes.{hit_level}
-use Rattle.mk_decide.specs.Local.{IsAlike, AreKept, parts_of, HeaderEnds, AreFieldsFor, IsLocal}
+use Rattle.mk_decide.specs.Local.{IsAlike, AreKept, parts_of, AreFieldsFor, IsLocal}
+use Rattle.mk_decide.proofs.PlanNames.{HeaderEnds}
 use Rattle.mk_decide.specs.FieldPuts.{LinePut, puts}
 use Rattle.mk_decide.specs.Looks.{ends_there}
 use Rattle.mk_decide.specs.KindsKept.{fields_in, keeps_kinds}

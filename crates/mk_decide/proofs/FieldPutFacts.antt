@@ -13,8 +13,8 @@ use Rattle.mk_decide.specs.declared.field_edits.Put.{Put}
 use Rattle.mk_decide.specs.Edits.{Refusal, BadField, BadName}
 use Rattle.mk_line.specs.Kinds.{is_name}
 use Rattle.mk_decide.specs.FieldEdits.{Found, field_at, after_name, renamed}
-use Rattle.mk_decide.specs.FieldPuts.{LinePut, add_put, set_put, name_put, put_unless, puts, PutsLines, IsPut}
-use Rattle.mk_decide.specs.Plans.{with_field}
+use Rattle.mk_decide.specs.FieldPuts.{LinePut, add_put, set_put, name_put, puts, PutsLines, IsPut}
+use Rattle.mk_decide.proofs.PlanNames.{put_unless, with_field}
 use Rattle.mk_decide.proofs.Runs.{IsFound, FoundIn, field_is}
 use Rattle.mk_decide.proofs.Counting.{name_before}
 

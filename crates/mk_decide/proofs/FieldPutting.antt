@@ -8,8 +8,8 @@ use Rattle.mk_tree.specs.Spans.{size}
 use Rattle.mk_decide.specs.declared.field_edits.Put.{Put}
 use Rattle.mk_decide.specs.Edits.{Refusal, NoSuchField}
 use Rattle.mk_decide.specs.FieldEdits.{Found, after_name, renamed}
-use Rattle.mk_decide.specs.FieldPuts.{LinePut, add_put, set_put, name_put, put_unless, PutsLines, IsPut, IsFieldAt, first_line_size, after_field_name}
-use Rattle.mk_decide.specs.Plans.{with_field}
+use Rattle.mk_decide.specs.FieldPuts.{LinePut, add_put, set_put, name_put, PutsLines, IsPut, IsFieldAt, first_line_size, after_field_name}
+use Rattle.mk_decide.proofs.PlanNames.{put_unless, with_field}
 use Rattle.mk_decide.proofs.Counting.{name_before}
 
 pub put_by : (r : Put) (x y : Result LinePut Refusal) → y ≡ x → IsPut r x → IsPut r y

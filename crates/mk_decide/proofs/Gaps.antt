@@ -6,7 +6,8 @@ use Rattle.mk_head.specs.Split.{Head, head_lines}
 use Rattle.mk_head.specs.Fields.{counted}
 use Rattle.mk_tree.specs.Cutting.{tail_lines}
 use Rattle.mk_tree.specs.Tree.{Entity, leaf, message, multi, Parts, no_parts, part, print, print_parts, entity_head}
-use Rattle.mk_tree.specs.Sections.{Placed, parts_placed, has_tail, children_of, body_lines, preamble_lines}
+use Rattle.mk_tree.specs.Sections.{Placed, parts_placed, children_of, body_lines, preamble_lines}
+use Rattle.mk_tree.proofs.TreeNames.{has_tail}
 use Rattle.mk_tree.specs.Spans.{size, digest_below}
 use Rattle.mk_tree.proofs.Descent.{size_append}
 use Rattle.mk_decide.specs.Plans.{parts_at}

@@ -12,7 +12,7 @@ use Rattle.mk_tree.specs.Tree.{Entity, print}
 use Rattle.mk_tree.specs.Spans.{size}
 use Rattle.mk_tree.specs.Places.{Frame, lines_before}
 use Rattle.mk_tree.specs.Locality.{BeginsPlain, RootFits}
-use Rattle.mk_decide.specs.Local.{HeaderEnds}
+use Rattle.mk_decide.proofs.PlanNames.{HeaderEnds}
 use Rattle.mk_decide.specs.Looks.{has_separator, ends_there}
 use Rattle.mk_decide.specs.LocalAnswers.{is_first}
 use Rattle.mk_decide.proofs.Openings.{Each, some_text}

@@ -24,13 +24,14 @@ use Rattle.mk_tree.proofs.Stability.{read_stable}
 use Rattle.mk_decide.specs.Edits.{InsertPart, NotMultipart, BadPlace}
 use Rattle.mk_decide.specs.EditSplices.{part_splices, front_lines}
 use Rattle.mk_line.specs.Marks.{delimiter_line}
-use Rattle.mk_decide.specs.Plans.{insert, insert_between, part_plan, part_read, parts_at, planned, plan_of}
-use Rattle.mk_decide.specs.Outcomes.{has_mark, hit, or_own, edited}
-use Rattle.mk_decide.specs.Local.{HeaderEnds, IsLocal}
+use Rattle.mk_decide.specs.Plans.{insert, part_plan, parts_at, planned, plan_of}
+use Rattle.mk_decide.proofs.PlanNames.{insert_between, part_read, HeaderEnds}
+use Rattle.mk_decide.specs.Outcomes.{has_mark, hit, edited}
+use Rattle.mk_decide.specs.SectionAnswers.{or_own, body_place, part_bytes, ends_at_delimiter, insertion_at, insertion_of, insertion_answer}
+use Rattle.mk_decide.specs.Local.{IsLocal}
 use Rattle.mk_decide.specs.Around.{hit_below}
 use Rattle.mk_decide.specs.Looks.{has_separator}
 use Rattle.mk_decide.specs.LocalAnswers.{after_first, opens_at}
-use Rattle.mk_decide.specs.SectionAnswers.{body_place, part_bytes, ends_at_delimiter, insertion_at, insertion_of, insertion_answer}
 use Rattle.mk_decide.proofs.EveryEdit.{locality_lem, eol_closed}
 use Rattle.mk_decide.proofs.Decisions.{AnswersAs, planned_answers, fits_is, unplanned}
 use Rattle.mk_decide.proofs.AroundFrames.{frames_glued}

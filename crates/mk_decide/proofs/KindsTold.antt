@@ -6,7 +6,8 @@ use Rattle.mk_tree.specs.Kinds.{Kind, Leaf, Message, Multi, kind, kind_at, is_di
 use Rattle.mk_tree.specs.Tree.{Entity, leaf, message, multi, Parts, no_parts, part, entity_head, field_lines, print}
 use Rattle.mk_tree.specs.Spans.{size, digest_below}
 use Rattle.mk_tree.specs.Reading.{IsWellRead, AreWellRead}
-use Rattle.mk_tree.specs.Sections.{Placed, parts_placed, has_part, has_tail}
+use Rattle.mk_tree.specs.Sections.{Placed, parts_placed, has_part}
+use Rattle.mk_tree.proofs.TreeNames.{has_tail}
 use Rattle.mk_tree.specs.Documents.{levels}
 use Rattle.mk_tree.specs.Places.{below}
 use Rattle.mk_head.specs.Split.{Head, head_lines}

@@ -17,7 +17,8 @@ use Rattle.mk_tree.proofs.Kept.{print_read}
 use Rattle.mk_tree.proofs.WellRead.{well_of}
 use Rattle.mk_tree.proofs.Plugs.{unmarked_left, unmarked_right, unmarked_join, print_append, part_is}
 use Rattle.mk_tree.proofs.Stability.{stable_kept, replaced}
-use Rattle.mk_decide.specs.Reasons.{added, is_open_early}
+use Rattle.mk_decide.specs.Reasons.{is_open_early}
+use Rattle.mk_decide.proofs.PlanNames.{added, add_plan, drop_plan, rename_plan, change_plan, part_read, insert_between, remove, judged, IsJudged}
 use Rattle.mk_decide.specs.Edits.{PlainEdit, AddField, RemoveField, RenameField, SetField, SetBody, SetSection, InsertPart, RemovePart, Wrap, path_of, Refusal, BadField, BadName, BadBoundary, BadSubtype, OpenLine, Recut}
 use Rattle.mk_head.specs.Fields.{is_one_field}
 use Rattle.mk_head.specs.Boundaries.{is_boundary}
@@ -29,9 +30,10 @@ use Rattle.mk_line.specs.Marks.{delimiter_line, close_line}
 use Rattle.mk_head.specs.Types.{type_line}
 use Rattle.mk_decide.specs.Wrapping.{ended_lines, other_fields, version_lines, inner_head, inner_part}
 use Rattle.std.specs.Prelude.{unwrap_or}
-use Rattle.mk_decide.specs.Plans.{Plan, plain_plan, fields_plan, add_plan, drop_plan, rename_plan, change_plan, unless, set_body, parts_at, part_read, part_plan, insert_between, insert, last_without, remove, wrap, plan_at, place_of, plan_of, planned}
-use Rattle.mk_decide.specs.Outcomes.{has_mark, hit, or_own, hit_level, unless_hit, judged, judged_by}
-use Rattle.mk_decide.specs.EditLaws.{IsJudged, StabilityReasons}
+use Rattle.mk_decide.specs.Plans.{Plan, plain_plan, fields_plan, unless, set_body, parts_at, part_plan, insert, last_without, wrap, plan_at, place_of, plan_of, planned}
+use Rattle.mk_decide.specs.Outcomes.{has_mark, hit, hit_level, unless_hit, judged_by}
+use Rattle.mk_decide.specs.SectionAnswers.{or_own}
+use Rattle.mk_decide.specs.EditLaws.{StabilityReasons}
 use Rattle.mk_decide.proofs.Openings.{early_none}
 use Rattle.mk_decide.proofs.Marked.{unmarked_none, none_of, unmarked_given, fields_unmarked}
 

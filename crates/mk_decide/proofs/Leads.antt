@@ -13,7 +13,8 @@ use Rattle.mk_splice.proofs.Bytes.{spliced_there, stands_there, leads_to}
 use Rattle.mk_tree.proofs.HeadChanged.{after_fields, entity_lines, changed_lines}
 use Rattle.mk_tree.proofs.Plugs.{lines_end, print_plug}
 use Rattle.mk_decide.specs.FieldEdits.{Found, after_name, renamed}
-use Rattle.mk_decide.specs.Plans.{Plan, add_plan, drop_plan, rename_plan, change_plan, planned}
+use Rattle.mk_decide.specs.Plans.{Plan, planned}
+use Rattle.mk_decide.proofs.PlanNames.{add_plan, drop_plan, rename_plan, change_plan}
 use Rattle.mk_decide.specs.EditSplices.{one_splice}
 use Rattle.mk_decide.proofs.Counting.{name_before}
 use Rattle.mk_decide.proofs.Runs.{IsFound}

@@ -1,3 +1,5 @@
+pub mod PlanNames
+pub mod WrapNames
 pub mod Openings
 pub mod OpenPlaces
 pub mod Walking

@@ -10,7 +10,8 @@ use Rattle.mk_tree.specs.Kinds.{Kind, Leaf, Message, Multi, kind, is_digest}
 use Rattle.mk_tree.specs.Tree.{Entity, leaf, message, multi, Parts, no_parts, part, print, print_parts, field_lines}
 use Rattle.mk_tree.specs.Documents.{tree, document_lines}
 use Rattle.mk_tree.specs.Spans.{size, digest_below}
-use Rattle.mk_tree.specs.Sections.{Placed, parts_placed, has_tail, section_at, head_text}
+use Rattle.mk_tree.specs.Sections.{Placed, parts_placed, section_at, head_text}
+use Rattle.mk_tree.proofs.TreeNames.{has_tail}
 use Rattle.mk_tree.specs.Places.{default_at}
 use Rattle.mk_decide.specs.declared.field_edits.FieldEdit.{FieldEdit}
 use Rattle.mk_decide.specs.declared.field_edits.FieldEdit.TheVariants.{Add, Remove, Rename, Set}

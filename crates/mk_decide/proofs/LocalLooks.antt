@@ -8,7 +8,8 @@ use Rattle.std.specs.Option.{option_to_list}
 use Rattle.mk_head.specs.Splits.{Stops}
 use Rattle.mk_tree.specs.Tree.{Entity, entity_head, field_lines, print_parts}
 use Rattle.mk_tree.specs.Places.{Frame, in_message, in_multi, lines_before}
-use Rattle.mk_tree.specs.Locality.{BeginsPlain, open_head, Continues, FitsFrame, FitsIn}
+use Rattle.mk_tree.specs.Locality.{BeginsPlain, open_head, FitsFrame, FitsIn}
+use Rattle.mk_tree.proofs.TreeNames.{Continues}
 use Rattle.mk_decide.specs.Looks.{has_separator, ends_before}
 use Rattle.mk_decide.proofs.Openings.{Each, each_front, each_back, some_text}
 use Rattle.mk_decide.proofs.AroundFrames.{frame_glues, frames_glued}

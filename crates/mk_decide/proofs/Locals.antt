@@ -13,7 +13,8 @@ use Rattle.mk_tree.proofs.WellRead.{well_read, well_of}
 use Rattle.mk_tree.proofs.Plugs.{print_plug}
 use Rattle.mk_tree.proofs.Stability.{replaced}
 use Rattle.mk_decide.specs.Plans.{Plan, planned}
-use Rattle.mk_decide.specs.Outcomes.{has_mark, hit, or_own}
+use Rattle.mk_decide.specs.Outcomes.{has_mark, hit}
+use Rattle.mk_decide.specs.SectionAnswers.{or_own}
 use Rattle.mk_decide.specs.Local.{IsLocal}
 use Rattle.mk_decide.proofs.Openings.{Each, each_line, each_join, each_front, each_back, are_lines}
 use Rattle.mk_decide.proofs.Marked.{none_unmarked, of_none, unmarked_both}

@@ -1,6 +1,6 @@
 -- A section under new fields: it is read back exactly where it stays of its kind, its direct parts do, and the fields end
 -- where they ended.
-use Rattle.std.proofs.Common.{◌≡◌, ◌++◌, if◌then◌else◌, ℕ, zero, suc, Bool, true, false, Option, None, Some, List, ap, sym, ◌∙◌, subst, codes}
+use Rattle.std.proofs.Common.{take, ◌≡◌, ◌++◌, if◌then◌else◌, ℕ, zero, suc, Bool, true, false, Option, None, Some, List, ap, sym, ◌∙◌, subst, codes}
 use Rattle.mk_line.specs.Lines.{TextLine, is_nil}
 use Rattle.mk_head.specs.declared.encodings.Encoding.{Encoding}
 use Rattle.mk_head.specs.Splits.{IsRun, Follows}
@@ -11,19 +11,19 @@ use Rattle.mk_tree.specs.Kinds.{Leaf, Message, Multi, kind_of, holds_message, ki
 use Rattle.mk_tree.specs.Tree.{Entity, leaf, message, multi, Parts, no_parts, part, print, print_parts, field_lines, with_fields}
 use Rattle.mk_tree.specs.Spans.{digest_below}
 use Rattle.mk_tree.specs.Places.{below}
-use Rattle.mk_tree.specs.Locality.{first_line}
 use Rattle.mk_tree.specs.Reading.{IsWellRead, AreWellRead}
 use Rattle.mk_tree.proofs.Plugs.{ends_of, of_ends, stops_first, first_stops}
-use Rattle.mk_decide.specs.Local.{IsAlike, AreKept, HeaderEnds, AreFieldsFor}
+use Rattle.mk_decide.specs.Local.{IsAlike, AreKept, AreFieldsFor}
+use Rattle.mk_decide.proofs.PlanNames.{HeaderEnds}
 
 -- a header that ends before a body
 pub ends_follow : (inside : Bool) (fields : List TextLine) (o : Option TextLine) (old new : List TextLine) → Follows inside o old → HeaderEnds fields o new → Follows (not (is_nil fields)) o new
 ends_follow inside fields (Some l) old new f e = f
-ends_follow inside fields None old new f e = first_stops (not (is_nil fields)) new (of_ends fields (first_line new) e).next
+ends_follow inside fields None old new f e = first_stops (not (is_nil fields)) new (of_ends fields (take 1 new) e).next
 
 pub follow_ends : (fields : List TextLine) (o : Option TextLine) (body : List TextLine) → IsRun false fields → Follows (not (is_nil fields)) o body → HeaderEnds fields o body
 follow_ends fields (Some l) body r f = tt
-follow_ends fields None body r f = ends_of fields (first_line body) (record { run = r; next = stops_first (not (is_nil fields)) body f })
+follow_ends fields None body r f = ends_of fields (take 1 body) (record { run = r; next = stops_first (not (is_nil fields)) body f })
 
 leaf_multi : {A : Type 0} (b : List ℕ) (g : Bool) → Leaf ≡ Multi b g → A
 leaf_multi b g e = cc

@@ -20,8 +20,8 @@ use Rattle.mk_tree.specs.Splicing.{part_count}
 use Rattle.mk_tree.proofs.Kept.{print_read}
 use Rattle.mk_tree.proofs.WellRead.{read_well}
 use Rattle.mk_tree.proofs.Plugs.{unmarked_left, unmarked_right, unmarked_join, print_append}
-use Rattle.mk_decide.specs.Plans.{Plan, read_plan, part_plan, part_read, set_body, insert_between, insert, parts_at}
-use Rattle.mk_decide.specs.Local.{HeaderEnds}
+use Rattle.mk_decide.specs.Plans.{Plan, part_plan, set_body, insert, parts_at}
+use Rattle.mk_decide.proofs.PlanNames.{read_plan, part_read, insert_between, HeaderEnds}
 use Rattle.mk_decide.proofs.Openings.{Each, each_line, each_join, each_front, each_back}
 use Rattle.mk_decide.proofs.Answered.{Holds}
 use Rattle.mk_decide.proofs.Late.{plain_fair, part_fair}

@@ -16,7 +16,8 @@ use Rattle.mk_tree.proofs.Kept.{print_read}
 use Rattle.mk_line.specs.Marks.{delimiter_line}
 use Rattle.mk_decide.specs.Wrapping.{wrapped}
 use Rattle.std.specs.Prelude.{unwrap_or}
-use Rattle.mk_decide.specs.Plans.{read_plan, plain_plan, part_read, parts_at, set_body, insert, insert_between, without, last_without, remove, wrap}
+use Rattle.mk_decide.specs.Plans.{plain_plan, parts_at, set_body, insert, without, last_without, wrap}
+use Rattle.mk_decide.proofs.PlanNames.{read_plan, part_read, insert_between, remove}
 use Rattle.mk_splice.specs.Splices.{Splice}
 use Rattle.mk_decide.specs.EditSplices.{one_splice, made_separator, front_lines, part_splices, own_delimiter}
 use Rattle.mk_decide.proofs.Answered.{Holds}

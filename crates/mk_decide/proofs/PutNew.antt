@@ -12,8 +12,8 @@ use Rattle.mk_decide.specs.declared.field_edits.FieldEdit.TheVariants.{Add, Remo
 use Rattle.mk_decide.specs.Edits.{Refusal, BadField, BadName}
 use Rattle.mk_line.specs.Kinds.{is_name}
 use Rattle.mk_decide.specs.FieldEdits.{Found, field_at, renamed}
-use Rattle.mk_decide.specs.FieldPuts.{LinePut, add_put, set_put, name_put, put_unless, puts}
-use Rattle.mk_decide.specs.Plans.{with_field}
+use Rattle.mk_decide.specs.FieldPuts.{LinePut, add_put, set_put, name_put, puts}
+use Rattle.mk_decide.proofs.PlanNames.{put_unless, with_field}
 use Rattle.mk_decide.proofs.Openings.{Each}
 use Rattle.mk_decide.proofs.Runs.{IsFound, FoundIn, field_is}
 use Rattle.mk_decide.proofs.Renaming.{renamed_line}

@@ -11,8 +11,9 @@ use Rattle.mk_decide.specs.declared.field_edits.FieldEdit.TheVariants.{Add, Remo
 use Rattle.mk_decide.specs.Edits.{Refusal, BadField, BadName}
 use Rattle.mk_line.specs.Kinds.{is_name}
 use Rattle.mk_decide.specs.FieldEdits.{Found, field_at}
-use Rattle.mk_decide.specs.Plans.{Plan, fields_plan, add_plan, change_plan, drop_plan, rename_plan, unless, with_field, plan_at}
-use Rattle.mk_decide.specs.FieldPuts.{LinePut, add_put, set_put, name_put, put_unless, puts, plain_of}
+use Rattle.mk_decide.specs.Plans.{Plan, fields_plan, unless, plan_at}
+use Rattle.mk_decide.proofs.PlanNames.{add_plan, change_plan, drop_plan, rename_plan, with_field, put_unless}
+use Rattle.mk_decide.specs.FieldPuts.{LinePut, add_put, set_put, name_put, puts, plain_of}
 
 -- the lines with those put among them
 abbrev pub lines_put : LinePut → List TextLine

@@ -13,8 +13,10 @@ use Rattle.mk_decide.specs.declared.field_edits.FieldEdit.{FieldEdit}
 use Rattle.mk_decide.specs.declared.field_edits.FieldEdit.TheVariants.{Add, Remove, Rename, Set}
 use Rattle.mk_decide.specs.Edits.{path_of}
 use Rattle.mk_decide.specs.Reasons.{is_open_early}
-use Rattle.mk_decide.specs.Plans.{plan_at, place_of, with_place, plan_of, planned}
-use Rattle.mk_decide.specs.Outcomes.{hit, or_own, hit_level, judged_by, edited}
+use Rattle.mk_decide.specs.Plans.{plan_at, place_of, plan_of, planned}
+use Rattle.mk_decide.proofs.PlanNames.{with_place}
+use Rattle.mk_decide.specs.Outcomes.{hit, hit_level, judged_by, edited}
+use Rattle.mk_decide.specs.SectionAnswers.{or_own}
 use Rattle.mk_decide.specs.FieldPuts.{LinePut, puts, plain_of}
 use Rattle.mk_decide.specs.LocalAnswers.{opens_at}
 use Rattle.mk_decide.proofs.PutPlans.{lines_put, put_plan, plan_of_put, plan_is}

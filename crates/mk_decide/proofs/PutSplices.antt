@@ -16,10 +16,11 @@ use Rattle.mk_decide.specs.declared.field_edits.FieldEdit.TheVariants.{Add, Remo
 use Rattle.mk_decide.specs.Edits.{Refusal, BadField, BadName}
 use Rattle.mk_line.specs.Kinds.{is_name}
 use Rattle.mk_decide.specs.FieldEdits.{Found, field_at, after_name, renamed}
-use Rattle.mk_decide.specs.Plans.{place_of, with_field}
+use Rattle.mk_decide.specs.Plans.{place_of}
+use Rattle.mk_decide.proofs.PlanNames.{with_field, splices_at, put_unless}
 use Rattle.mk_splice.specs.Splices.{Splice}
-use Rattle.mk_decide.specs.EditSplices.{one_splice, for_found, splices_in, splices_at, splices_of}
-use Rattle.mk_decide.specs.FieldPuts.{LinePut, add_put, set_put, name_put, put_unless, puts, plain_of}
+use Rattle.mk_decide.specs.EditSplices.{one_splice, for_found, splices_in, splices_of}
+use Rattle.mk_decide.specs.FieldPuts.{LinePut, add_put, set_put, name_put, puts, plain_of}
 use Rattle.mk_decide.proofs.Counting.{name_before}
 use Rattle.mk_decide.proofs.FieldPutFacts.{IsLinePut}
 use Rattle.mk_decide.proofs.PutNew.{OfPut, unless_put}

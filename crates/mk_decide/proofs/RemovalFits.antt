@@ -13,7 +13,8 @@ use Rattle.mk_tree.proofs.Descent.{size_append}
 use Rattle.mk_tree.proofs.Stability.{read_stable}
 use Rattle.mk_decide.specs.Edits.{RemovePart, NotPart}
 use Rattle.mk_decide.specs.EditSplices.{one_splice, front_lines, own_delimiter}
-use Rattle.mk_decide.specs.Plans.{plain_plan, parts_at, without, last_without, remove, plan_of, planned}
+use Rattle.mk_decide.specs.Plans.{plain_plan, parts_at, without, last_without, plan_of, planned}
+use Rattle.mk_decide.proofs.PlanNames.{remove}
 use Rattle.mk_decide.specs.Outcomes.{edited}
 use Rattle.mk_decide.specs.SectionAnswers.{outer_path, last_number, end_of, gap_at, removal, removal_from, removal_answer}
 use Rattle.mk_decide.proofs.Decisions.{AnswersAs, accepted_answers, unplanned}
@@ -144,8 +145,9 @@ multi_answers text path number p s q a h b pre ps t x =
     (omega (arith, sizes, start))
     (record {
       around = 1 ∷ a.numbers;
-      number = number;
-      path_is = a.path_is;
+      before = part_count i.before;
+      text = text_of (i.delimiter ∷ print p.entity);
+      path_is = a.path_is ∙ ap (λ k. (1 ∷ a.numbers) ++ k ∷ []) (sym i.counts);
       becomes = record {
         numbers = a.numbers;
         around = a.around;
@@ -159,12 +161,13 @@ multi_answers text path number p s q a h b pre ps t x =
           preamble = pre;
           before = i.before;
           delimiter = i.delimiter;
-          old = p.entity;
+          new = p.entity;
           after = i.after;
           tail = t;
-          section_is = x ∙ ap (λ qs. multi h b pre qs t) (sym i.whole);
-          result_is = refl;
-          number_is = i.counts;
+          section_is = refl;
+          result_is = x ∙ ap (λ qs. multi h b pre qs t) (sym i.whole);
+          place_is = refl;
+          text_is = refl;
         };
         result = refl;
         stable = stable;

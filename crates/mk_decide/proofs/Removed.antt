@@ -8,14 +8,15 @@ use Rattle.mk_head.specs.Split.{Head, head_lines}
 use Rattle.std.specs.Option.{option_to_list}
 use Rattle.mk_head.specs.Splits.{Stops, Follows}
 use Rattle.std.specs.Prelude.{not}
-use Rattle.mk_tree.specs.Cutting.{tail_lines, Unmarked, Closes}
+use Rattle.mk_tree.specs.Cutting.{tail_lines, Unmarked}
 use Rattle.mk_tree.specs.Kinds.{kind_at}
 use Rattle.mk_tree.specs.Tree.{Entity, multi, Parts, no_parts, part, print, print_parts}
 use Rattle.mk_tree.specs.Documents.{levels, printed, document_lines, IsStable}
 use Rattle.mk_tree.specs.Spans.{digest_below}
 use Rattle.mk_tree.specs.Places.{Frame, in_message, in_multi, append_parts, below, left_at, default_at, lines_before, lines_after, put}
-use Rattle.mk_tree.specs.Locality.{Continues, FitsIn, RootFits}
-use Rattle.mk_tree.specs.Reading.{IsWellRead, AreWellRead}
+use Rattle.mk_tree.specs.Locality.{FitsIn, RootFits}
+use Rattle.mk_tree.proofs.TreeNames.{Continues}
+use Rattle.mk_tree.specs.Reading.{Closes, IsWellRead, AreWellRead}
 use Rattle.mk_tree.proofs.WellRead.{well_read, well_of}
 use Rattle.mk_tree.proofs.Plugs.{unmarked_left, unmarked_right, unmarked_join, print_append, print_plug, untyped, multi_leaf}
 use Rattle.mk_tree.proofs.Stability.{replaced, fields_plain}

@@ -8,9 +8,10 @@ use Rattle.mk_tree.specs.Documents.{Document, IsStable}
 use Rattle.mk_tree.specs.Places.{Frame, in_message, in_multi, append_parts, plug_one, plug, place_at, put}
 use Rattle.mk_tree.proofs.Placed.{place_plug}
 use Rattle.mk_decide.specs.Edits.{RemovePart, Refusal, NoSuchSection, NotPart}
-use Rattle.mk_decide.specs.Plans.{Plan, last_without, remove, place_of, with_place, plan_of, planned}
+use Rattle.mk_decide.specs.Plans.{Plan, last_without, place_of, plan_of, planned}
+use Rattle.mk_decide.proofs.PlanNames.{remove, with_place, IsJudged}
 use Rattle.mk_decide.specs.Outcomes.{judged_by}
-use Rattle.mk_decide.specs.EditLaws.{IsJudged, RemovalReasons}
+use Rattle.mk_decide.specs.EditLaws.{RemovalReasons}
 use Rattle.mk_decide.proofs.Answered.{Holds}
 use Rattle.mk_decide.proofs.Late.{IsFair, fair, told}
 use Rattle.mk_decide.proofs.Removed.{removed_stable}

@@ -8,7 +8,8 @@ use Rattle.mk_tree.specs.Places.{Frame, in_message, in_multi, put}
 use Rattle.mk_tree.specs.Locality.{Replaces}
 use Rattle.mk_tree.proofs.Stability.{replaced}
 use Rattle.mk_decide.specs.Edits.{PlainEdit, AddField, RemoveField, RenameField, SetField, SetBody, SetSection, InsertPart, RemovePart, Wrap, path_of}
-use Rattle.mk_decide.specs.Plans.{Plan, without, last_without, remove, place_of, plan_of, planned}
+use Rattle.mk_decide.specs.Plans.{Plan, without, last_without, place_of, plan_of, planned}
+use Rattle.mk_decide.proofs.PlanNames.{remove}
 use Rattle.mk_decide.specs.Local.{LocalConditions}
 use Rattle.mk_decide.specs.EditLaws.{IsWithoutPart, EditsAreReplacements}
 use Rattle.mk_decide.proofs.Answered.{Holds}

@@ -6,7 +6,7 @@ use Rattle.mk_line.specs.Lines.{TextLine}
 use Rattle.mk_head.specs.Split.{is_start, is_more, belongs}
 use Rattle.mk_head.specs.Splits.{IsRun}
 use Rattle.mk_head.specs.Fields.{continuations, is_one_field, after_more}
-use Rattle.mk_decide.specs.Reasons.{added}
+use Rattle.mk_decide.proofs.PlanNames.{added}
 use Rattle.mk_decide.specs.FieldEdits.{starts_named, Found, found_after, find, field_at}
 
 or_false : (a : Bool) → (a || false) ≡ a

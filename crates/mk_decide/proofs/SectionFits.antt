@@ -1,5 +1,5 @@
 -- Another section in the place of one: what is answered is what is defined.
-use Rattle.std.proofs.Common.{◌≡◌, ◌↔◌, ◌==◌, ◌||◌, ◌++◌, if◌then◌else◌, ℕ, zero, suc, Bool, true, false, not, Option, None, Some, List, [], ◌∷◌, refl, ap, sym, ◌∙◌, subst, length, add-zero}
+use Rattle.std.proofs.Common.{take, ◌≡◌, ◌↔◌, ◌==◌, ◌||◌, ◌++◌, if◌then◌else◌, ℕ, zero, suc, Bool, true, false, not, Option, None, Some, List, [], ◌∷◌, refl, ap, sym, ◌∙◌, subst, length, add-zero}
 use Rattle.std.specs.Option.{option_map, option_to_list}
 use Rattle.std.proofs.lemmas.Bool.{or_parts}
 use Rattle.mk_line.specs.Lines.{TextLine, cut, text_of, is_nil, AreLines}
@@ -14,19 +14,21 @@ use Rattle.mk_tree.specs.Spans.{size, digest_below}
 use Rattle.mk_tree.specs.Reading.{IsWellRead}
 use Rattle.mk_tree.specs.Sections.{Placed, section_at, root_of}
 use Rattle.mk_tree.specs.Places.{Frame, in_message, in_multi, part_at, step_to, left_at, default_at, lines_before}
-use Rattle.mk_tree.specs.Locality.{first_line, BeginsPlain, Continues, FitsFrame, FitsIn, RootFits}
+use Rattle.mk_tree.specs.Locality.{BeginsPlain, FitsFrame, FitsIn, RootFits}
+use Rattle.mk_tree.proofs.TreeNames.{Continues}
 use Rattle.mk_tree.proofs.Kept.{print_read}
 use Rattle.mk_tree.proofs.Plugs.{lines_end, continues_of, of_ends, first_stops}
 use Rattle.mk_tree.proofs.Stability.{read_stable}
 use Rattle.mk_tree.proofs.WellRead.{well_of}
 use Rattle.mk_decide.specs.Edits.{SetSection}
-use Rattle.mk_decide.specs.Plans.{read_plan, planned}
-use Rattle.mk_decide.specs.Outcomes.{hit, or_own, edited}
+use Rattle.mk_decide.specs.Plans.{planned}
+use Rattle.mk_decide.proofs.PlanNames.{read_plan}
+use Rattle.mk_decide.specs.Outcomes.{hit, edited}
+use Rattle.mk_decide.specs.SectionAnswers.{or_own, outer_path, last_number, runs_on, stays_after, begins_well, stays, section_answer}
 use Rattle.mk_decide.specs.Local.{IsLocal}
 use Rattle.mk_decide.specs.Around.{hit_below}
 use Rattle.mk_decide.specs.Looks.{has_separator}
 use Rattle.mk_decide.specs.LocalAnswers.{after_first, opens_at}
-use Rattle.mk_decide.specs.SectionAnswers.{outer_path, last_number, runs_on, stays_after, begins_well, stays, section_answer}
 use Rattle.mk_decide.proofs.EveryEdit.{locality_lem}
 use Rattle.mk_decide.proofs.Decisions.{AnswersAs, planned_answers, fits_is}
 use Rattle.mk_decide.proofs.FieldFits.{entity_are, nil_told, before_each}
@@ -93,7 +95,7 @@ glued_after : (n : ℕ) (fields : List TextLine) (o : Option TextLine) (new : En
 glued_after n fields (Some l) new ls e r w q h = true_false (sym (separator_there l e.0) ∙ not_false (has_separator (Some l)) h)
 glued_after n fields None new ls e r w q h = (
   (λ k. continues_of n false fields None new r (subst (Stops (not (is_nil fields))) (sym q) k) w),
-  (λ c. subst (Stops (not (is_nil fields))) q (first_stops (not (is_nil fields)) (print new) (of_ends fields (first_line (print new)) c.1).next)),
+  (λ c. subst (Stops (not (is_nil fields))) q (first_stops (not (is_nil fields)) (print new) (of_ends fields (take 1 (print new)) c.1).next)),
 )
 
 not_not : (t : Bool) → not (not t) ≡ t

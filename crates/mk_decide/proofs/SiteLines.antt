@@ -14,9 +14,10 @@ use Rattle.mk_tree.proofs.Plugs.{print_plug}
 use Rattle.mk_tree.proofs.Kept.{lines_kept}
 use Rattle.mk_decide.specs.Edits.{PlainEdit, path_of}
 use Rattle.mk_decide.specs.Reasons.{is_open_early}
-use Rattle.mk_decide.specs.Plans.{place_of, with_place, plan_at, plan_of}
+use Rattle.mk_decide.specs.Plans.{place_of, plan_at, plan_of}
+use Rattle.mk_decide.proofs.PlanNames.{with_place, splices_at}
 use Rattle.mk_decide.specs.Outcomes.{hit}
-use Rattle.mk_decide.specs.EditSplices.{splices_in, splices_at, splices_of}
+use Rattle.mk_decide.specs.EditSplices.{splices_in, splices_of}
 use Rattle.mk_decide.specs.Around.{hit_below}
 use Rattle.mk_decide.specs.LocalAnswers.{opens_at}
 use Rattle.mk_decide.proofs.AroundFrames.{hit_is}

@@ -1,6 +1,6 @@
 -- The made Content-Type field says the multipart that it is made for.
 use Rattle.std.proofs.Common.{◌≡◌, ◌==◌, ◌&&◌, ◌++◌, if◌then◌else◌, ℕ, Bool, true, false, not, Some, List, [], ◌∷◌, refl, ap, ◌∙◌, codes, length, nat_le}
-use Rattle.std.specs.List.{list_all}
+use Rattle.std.specs.List.{list_all, onto_first}
 use Rattle.std.specs.Str.{bytes_eq}
 use Rattle.mk_line.specs.Ascii.{is_blank}
 use Rattle.mk_line.specs.Lines.{is_nil}
@@ -9,12 +9,12 @@ use Rattle.mk_line.proofs.Blanks.{trimmed_kept}
 use Rattle.mk_line.proofs.Cuts.{append_nil}
 use Rattle.mk_head.specs.Boundaries.{is_boundary_byte, ends_in_space, is_boundary}
 use Rattle.mk_line.specs.Parting.{before, following}
-use Rattle.mk_head.specs.Values.{Plain, Quoted, uncommented, push_first, pieces, stripped, unquoted, parameter_value, lowered, parameters, is_token_byte, is_token, MediaType, media_type, typed_as, type_of_pieces, content_type_of}
+use Rattle.mk_head.specs.Values.{Plain, Quoted, uncommented, pieces, stripped, unquoted, parameter_value, lowered, parameters, is_token_byte, is_token, MediaType, media_type, typed_as, type_of_pieces, content_type_of}
 use Rattle.mk_head.specs.declared.encodings.Encoding.{Encoding}
 use Rattle.mk_head.specs.Types.{type_by}
-use Rattle.mk_tree.specs.Kinds.{Multi, has_return, kind_of}
+use Rattle.mk_tree.specs.Kinds.{Multi, kind_of}
 use Rattle.mk_decide.proofs.Renaming.{both, differs, feed_tested}
-use Rattle.mk_decide.proofs.Bounds.{IsBound}
+use Rattle.mk_decide.proofs.Bounds.{IsBound, has_return}
 
 -- outside quotes such a byte neither opens nor ends anything, and is no blank
 abbrev Simple : List ℕ → Type 0
@@ -61,18 +61,18 @@ value_uncommented subtype b h k =
 -- the pieces
 plain_pieces : (cs rest x : List ℕ) (ps : List (List ℕ)) → Simple cs → pieces Plain rest ≡ x ∷ ps → pieces Plain (cs ++ rest) ≡ (cs ++ x) ∷ ps
 plain_pieces [] rest x ps h e = e
-plain_pieces (c ∷ cs) rest x ps h e = rw (h.2, h.0, h.1) (ap (push_first c) (plain_pieces cs rest x ps h.5 e))
+plain_pieces (c ∷ cs) rest x ps h e = rw (h.2, h.0, h.1) (ap (onto_first c) (plain_pieces cs rest x ps h.5 e))
 
 quoted_pieces : (cs : List ℕ) → InQuotes cs → pieces Quoted (cs ++ (34 ∷ [])) ≡ (cs ++ (34 ∷ [])) ∷ []
 quoted_pieces [] h = refl
-quoted_pieces (c ∷ cs) h = rw (h.1, h.0) (ap (push_first c) (quoted_pieces cs h.2))
+quoted_pieces (c ∷ cs) h = rw (h.1, h.0) (ap (onto_first c) (quoted_pieces cs h.2))
 
 -- the bytes up to the subtype, and the parameter
 front_pieces : (subtype rest x : List ℕ) (ps : List (List ℕ)) → Simple subtype → pieces Plain rest ≡ x ∷ ps → pieces Plain (codes " multipart/" ++ (subtype ++ rest)) ≡ (codes " multipart/" ++ (subtype ++ x)) ∷ ps
-front_pieces subtype rest x ps h e = ap (λ qs. push_first 32 (push_first 109 (push_first 117 (push_first 108 (push_first 116 (push_first 105 (push_first 112 (push_first 97 (push_first 114 (push_first 116 (push_first 47 qs))))))))))) (plain_pieces subtype rest x ps h e)
+front_pieces subtype rest x ps h e = ap (λ qs. onto_first 32 (onto_first 109 (onto_first 117 (onto_first 108 (onto_first 116 (onto_first 105 (onto_first 112 (onto_first 97 (onto_first 114 (onto_first 116 (onto_first 47 qs))))))))))) (plain_pieces subtype rest x ps h e)
 
 after_pieces : (b : List ℕ) → InQuotes b → pieces Plain (codes "; boundary=\"" ++ (b ++ codes "\"")) ≡ [] ∷ (codes " boundary=\"" ++ (b ++ codes "\"")) ∷ []
-after_pieces b k = ap (λ qs. [] ∷ push_first 32 (push_first 98 (push_first 111 (push_first 117 (push_first 110 (push_first 100 (push_first 97 (push_first 114 (push_first 121 (push_first 61 (push_first 34 qs))))))))))) (quoted_pieces b k)
+after_pieces b k = ap (λ qs. [] ∷ onto_first 32 (onto_first 98 (onto_first 111 (onto_first 117 (onto_first 110 (onto_first 100 (onto_first 97 (onto_first 114 (onto_first 121 (onto_first 61 (onto_first 34 qs))))))))))) (quoted_pieces b k)
 
 value_pieces : (subtype b : List ℕ) → Simple subtype → InQuotes b → pieces Plain (made_value subtype b) ≡ (codes " multipart/" ++ subtype) ∷ (codes " boundary=\"" ++ (b ++ codes "\"")) ∷ []
 value_pieces subtype b h k =

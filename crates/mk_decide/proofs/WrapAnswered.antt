@@ -11,7 +11,8 @@ use Rattle.mk_decide.specs.declared.errors.EditError.{EditError}
 use Rattle.mk_decide.specs.Answers.{refusal_of, IsRefusedBy}
 use Rattle.mk_decide.specs.Around.{hit_below}
 use Rattle.mk_decide.specs.LocalAnswers.{PlainSplice, after_first, answer_by, plain_splice}
-use Rattle.mk_decide.specs.Outcomes.{has_mark, or_own}
+use Rattle.mk_decide.specs.Outcomes.{has_mark}
+use Rattle.mk_decide.specs.SectionAnswers.{or_own}
 use Rattle.mk_decide.specs.WrapAnswers.{content_part, other_part, version_bytes, type_bytes, delimiter_bytes, close_bytes, made_bytes, separator_text, separator_part, end_part, wrap_bytes, wrap_opens, wrap_fits, wrap_in, wrap_answer}
 use Rattle.mk_decide.proofs.WrapFits.{told_in}
 use Rattle.mk_decide.proofs.WrapPieces.{not_zero}

@@ -16,7 +16,8 @@ use Rattle.mk_line.specs.Marks.{delimiter_line, close_line}
 use Rattle.mk_decide.specs.Wrapping.{ended_lines, inner_part, outer_head, wrapped}
 use Rattle.mk_decide.specs.Plans.{Plan, unless, wrap, plan_at, place_of, plan_of, planned}
 use Rattle.mk_decide.specs.Outcomes.{judged_by}
-use Rattle.mk_decide.specs.EditLaws.{IsJudged, IsLeaf, WrappingKeepsContent}
+use Rattle.mk_decide.specs.EditLaws.{IsLeaf, WrappingKeepsContent}
+use Rattle.mk_decide.proofs.PlanNames.{IsJudged}
 use Rattle.mk_decide.proofs.Answered.{Holds, unless_holds}
 use Rattle.mk_decide.proofs.Late.{IsFair, fair, told}
 use Rattle.mk_decide.proofs.EveryEdit.{plan_there}

@@ -17,7 +17,8 @@ use Rattle.std.specs.Option.{option_map_or}
 use Rattle.mk_head.proofs.FieldRuns.{more_start}
 use Rattle.mk_tree.specs.Cutting.{Unmarked}
 use Rattle.mk_tree.specs.Kinds.{kind_of, kind, kind_at}
-use Rattle.mk_decide.specs.Wrapping.{describes_content, is_content_line, content_fields, other_fields}
+use Rattle.mk_decide.specs.Wrapping.{is_content_line, content_fields, other_fields}
+use Rattle.mk_decide.proofs.WrapNames.{describes_content}
 use Rattle.mk_decide.proofs.Openings.{Each}
 use Rattle.mk_decide.proofs.Runs.{run_anywhere, start_belongs}
 use Rattle.mk_decide.proofs.MarkLines.{more_dashed, first_dashed}

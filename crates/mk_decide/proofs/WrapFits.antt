@@ -18,9 +18,11 @@ use Rattle.mk_tree.proofs.Stability.{read_stable}
 use Rattle.mk_decide.specs.Edits.{Wrap, BadBoundary, BadSubtype}
 use Rattle.mk_decide.specs.EditSplices.{one_splice}
 use Rattle.mk_line.specs.Marks.{delimiter_line, close_line}
-use Rattle.mk_decide.specs.Wrapping.{other_fields, inner_part, outer_fields, made_lines, wrapped}
+use Rattle.mk_decide.specs.Wrapping.{other_fields, inner_part, made_lines, wrapped}
+use Rattle.mk_decide.proofs.WrapNames.{outer_fields}
 use Rattle.mk_decide.specs.Plans.{unless, wrap, planned, plan_of}
-use Rattle.mk_decide.specs.Outcomes.{has_mark, hit, or_own, hit_level, edited}
+use Rattle.mk_decide.specs.Outcomes.{has_mark, hit, hit_level, edited}
+use Rattle.mk_decide.specs.SectionAnswers.{or_own}
 use Rattle.mk_decide.specs.Local.{WrapsWell, IsLocal}
 use Rattle.mk_decide.specs.Around.{hit_below, glued_below}
 use Rattle.mk_decide.specs.LocalAnswers.{after_first}

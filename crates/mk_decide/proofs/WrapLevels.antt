@@ -1,12 +1,15 @@
 -- An entity one level deeper: it is read back there where a level is left for what stands in it.
-use Rattle.std.proofs.Common.{◌≡◌, ℕ, zero, suc, Bool, false, List, refl, ◌∙◌}
+use Rattle.std.proofs.Common.{◌≡◌, ◌<◌, ℕ, zero, suc, Bool, false, List, refl, ◌∙◌, arith}
 use Rattle.mk_line.specs.Lines.{TextLine}
 use Rattle.mk_tree.specs.Kinds.{Leaf, Message, Multi, kind_at}
 use Rattle.mk_tree.specs.Tree.{Entity, leaf, message, multi, Parts, no_parts, part}
 use Rattle.mk_tree.specs.Spans.{digest_below}
 use Rattle.mk_tree.specs.Places.{below}
 use Rattle.mk_tree.specs.Reading.{IsWellRead, AreWellRead}
-use Rattle.mk_decide.specs.Local.{HasLevel, FitsLevels, FitLevels}
+use Rattle.mk_decide.specs.Local.{FitsLevels, FitLevels}
+
+pub no_level : 0 < 0 → ⊥
+no_level l = omega (arith, l)
 
 leaf_message : {A : Type 0} → Leaf ≡ Message → A
 leaf_message e = cc
@@ -14,13 +17,13 @@ leaf_message e = cc
 leaf_multi : {A : Type 0} (b : List ℕ) (g : Bool) → Leaf ≡ Multi b g → A
 leaf_multi b g e = cc
 
-pub level_message : (n : ℕ) (fields : List TextLine) (d : Bool) → kind_at n fields d ≡ Message → HasLevel n
+pub level_message : (n : ℕ) (fields : List TextLine) (d : Bool) → kind_at n fields d ≡ Message → 0 < n
 level_message zero fields d e = leaf_message e
-level_message (suc n) fields d e = tt
+level_message (suc n) fields d e = omega arith
 
-pub level_multi : (n : ℕ) (fields : List TextLine) (d : Bool) (b : List ℕ) (g : Bool) → kind_at n fields d ≡ Multi b g → HasLevel n
+pub level_multi : (n : ℕ) (fields : List TextLine) (d : Bool) (b : List ℕ) (g : Bool) → kind_at n fields d ≡ Multi b g → 0 < n
 level_multi zero fields d b g e = leaf_multi b g e
-level_multi (suc n) fields d b g e = tt
+level_multi (suc n) fields d b g e = omega arith
 
 -- the kind one level deeper
 leaf_down : (n : ℕ) (fields : List TextLine) (d : Bool) → kind_at n fields d ≡ Leaf → kind_at (below n) fields d ≡ Leaf
@@ -28,9 +31,9 @@ leaf_down zero fields d e = refl
 leaf_down (suc zero) fields d e = refl
 leaf_down (suc (suc n)) fields d e = e
 
-pub kind_down : (n : ℕ) (fields : List TextLine) (d : Bool) → HasLevel (below n) → kind_at (below n) fields d ≡ kind_at n fields d
+pub kind_down : (n : ℕ) (fields : List TextLine) (d : Bool) → 0 < (below n) → kind_at (below n) fields d ≡ kind_at n fields d
 kind_down zero fields d l = refl
-kind_down (suc zero) fields d l = absurd l
+kind_down (suc zero) fields d l = absurd (no_level l)
 kind_down (suc (suc n)) fields d l = refl
 
 mutual

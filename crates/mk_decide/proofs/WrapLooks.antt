@@ -1,5 +1,5 @@
 -- What the looks at a section that is to be wrapped tell of the local conditions: its levels, its kind, its end.
-use Rattle.std.proofs.Common.{◌≡◌, ◌↔◌, ◌==◌, ◌&&◌, ◌-◌, ◌++◌, if◌then◌else◌, ℕ, zero, suc, Bool, true, false, not, List, [], ◌∷◌, refl, ap, sym, ◌∙◌, arith}
+use Rattle.std.proofs.Common.{◌<◌, ◌≡◌, ◌↔◌, ◌==◌, ◌&&◌, ◌-◌, ◌++◌, if◌then◌else◌, ℕ, zero, suc, Bool, true, false, not, List, [], ◌∷◌, refl, ap, sym, ◌∙◌, arith}
 use Rattle.mk_line.specs.declared.cutting.Ending.{Ending}
 use Rattle.mk_line.specs.declared.cutting.Ending.TheVariants.{Crlf, Lf, Missing}
 use Rattle.mk_line.specs.Lines.{TextLine, text_of, printed_line, ending_bytes, ends_in_return, is_lf, is_open, AreLines, is_nil}
@@ -10,13 +10,14 @@ use Rattle.mk_tree.specs.Documents.{levels}
 use Rattle.mk_tree.specs.Reading.{IsWellRead}
 use Rattle.mk_tree.specs.Sections.{Placed, body_lines}
 use Rattle.mk_tree.specs.Places.{Frame, below, lines_after}
-use Rattle.mk_decide.specs.Local.{HasLevel, FitsLevels, FitLevels, MayEnd, BodyMayEnd}
+use Rattle.mk_decide.specs.Local.{FitsLevels, FitLevels, MayEnd, BodyMayEnd}
 use Rattle.mk_decide.specs.KindsKept.{fields_in}
 use Rattle.mk_decide.specs.WrapAnswers.{is_leaf, fits_levels, fit_levels, ends_in_cr, fits_below}
 use Rattle.mk_decide.proofs.Openings.{some_text}
 use Rattle.mk_decide.proofs.FieldFits.{no_text}
 use Rattle.mk_decide.proofs.KindsTold.{IsLevel, if_then, default_told}
 use Rattle.mk_decide.proofs.WrapPieces.{not_zero}
+use Rattle.mk_decide.proofs.WrapLevels.{no_level}
 use Rattle.mk_decide.proofs.Wraps.{ends_front}
 
 -- levels
@@ -48,16 +49,16 @@ if_both a b A B f g = if_then a b A B f (λ x. g)
 mutual
   pub levels_told : (n : ℕ) (e : Entity) → ((fits_levels n e ≡ true) ↔ FitsLevels n e)
   levels_told n (leaf h ls) = ((λ x. tt), (λ x. refl))
-  levels_told zero (message h e) = ((λ x. cc), (λ x. absurd x.0))
+  levels_told zero (message h e) = ((λ x. cc), (λ x. absurd (no_level x.0)))
   levels_told (suc k) (message h e) =
       let told = levels_told k e in
       let same = message_more k e in
-      ((λ x. (tt, told.0 (sym same ∙ x))), (λ x. same ∙ told.1 x.1))
-  levels_told zero (multi h b pre ps t) = ((λ x. cc), (λ x. absurd x.0))
+      ((λ x. (omega arith, told.0 (sym same ∙ x))), (λ x. same ∙ told.1 x.1))
+  levels_told zero (multi h b pre ps t) = ((λ x. cc), (λ x. absurd (no_level x.0)))
   levels_told (suc k) (multi h b pre ps t) =
       let told = parts_told k ps in
       let same = multi_more k ps in
-      ((λ x. (tt, told.0 (sym same ∙ x))), (λ x. same ∙ told.1 x.1))
+      ((λ x. (omega arith, told.0 (sym same ∙ x))), (λ x. same ∙ told.1 x.1))
 
   parts_told : (n : ℕ) (ps : Parts) → ((fit_levels n ps ≡ true) ↔ FitLevels n ps)
   parts_told n no_parts = ((λ x. tt), (λ x. refl))
@@ -66,27 +67,27 @@ mutual
 -- at the last level but one only a leaf may be wrapped
 leaf_kind : (d g : Bool) (e : Entity) → FitsLevels zero e → IsWellRead (suc zero) d e → kind_at zero (field_lines e) g ≡ kind_at (suc zero) (field_lines e) d
 leaf_kind d g (leaf h ls) f w = sym w.1
-leaf_kind d g (message h e) f w = absurd f.0
-leaf_kind d g (multi h b pre ps t) f w = absurd f.0
+leaf_kind d g (message h e) f w = absurd (no_level f.0)
+leaf_kind d g (multi h b pre ps t) f w = absurd (no_level f.0)
 
 -- what is asked of levels and of the kind
 abbrev pub StaysBelow : ℕ → Bool → Bool → Entity → Type 0
-StaysBelow n d g e = HasLevel n × FitsLevels (below n) e × (kind_at (below n) (field_lines e) g ≡ kind_at n (field_lines e) d)
+StaysBelow n d g e = (0 < n) × FitsLevels (below n) e × (kind_at (below n) (field_lines e) g ≡ kind_at n (field_lines e) d)
 
 abbrev here : ℕ → Bool → Bool → Entity → Placed
 here start followed d e = record { start = start; followed = followed; digest = d; entity = e }
 
 pub below_told : (n level start : ℕ) (followed d g : Bool) (e : Entity) → IsLevel n level → levels - level ≡ below n → IsWellRead n d e → fields_in (text_of (field_lines e)) ≡ field_lines e → ((fits_below level g (here start followed d e) ≡ true) ↔ StaysBelow n d g e)
-below_told zero level start followed d g e v m w r = rw v ((λ x. cc), (λ x. absurd x.0))
+below_told zero level start followed d g e v m w r = rw v ((λ x. cc), (λ x. absurd (no_level x.0)))
 below_told (suc zero) level start followed d g e v m w r =
     rw (v.0, m, v.1)
     (let told = if_then (fits_levels zero e) true (FitsLevels zero e) (kind_at zero (field_lines e) g ≡ kind_at (suc zero) (field_lines e) d) (levels_told zero e) (λ f. ((λ x. leaf_kind d g e f w), (λ x. refl))) in
-    ((λ x. let y = told.0 x in (tt, y.0, y.1)), (λ x. told.1 (x.1, x.2))))
+    ((λ x. let y = told.0 x in (omega arith, y.0, y.1)), (λ x. told.1 (x.1, x.2))))
 below_told (suc (suc k)) level start followed d g e v m w r =
     rw (v.0, m, v.1)
     (let kept = default_told (suc k) start followed d g e w r in
     let told = if_then (fits_levels (suc k) e) _ (FitsLevels (suc k) e) (kind_at (suc k) (field_lines e) g ≡ kind_at (suc (suc k)) (field_lines e) d) (levels_told (suc k) e) (λ f. ((λ x. sym (kept.0 x)), (λ x. kept.1 (sym x)))) in
-    ((λ x. let y = told.0 x in (tt, y.0, y.1)), (λ x. told.1 (x.1, x.2))))
+    ((λ x. let y = told.0 x in (omega arith, y.0, y.1)), (λ x. told.1 (x.1, x.2))))
 
 -- the end of the body
 crlf_ends : (ls : List TextLine) → MayEnd Crlf ls

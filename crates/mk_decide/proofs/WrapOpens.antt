@@ -17,9 +17,10 @@ use Rattle.mk_tree.proofs.Plugs.{lines_end}
 use Rattle.mk_decide.specs.Reasons.{is_open_early}
 use Rattle.mk_line.specs.Marks.{delimiter_line, close_line}
 use Rattle.mk_head.specs.Types.{type_line}
-use Rattle.mk_decide.specs.Wrapping.{is_content_line, content_fields, other_fields, names_field, version_lines, ended_lines, inner_part, outer_fields, wrapped}
+use Rattle.mk_decide.specs.Wrapping.{is_content_line, content_fields, other_fields, version_lines, ended_lines, inner_part, wrapped}
+use Rattle.mk_decide.proofs.WrapNames.{outer_fields}
+use Rattle.mk_decide.specs.WrapAnswers.{names_field, is_leaf, wrap_opens}
 use Rattle.std.specs.Prelude.{unwrap_or}
-use Rattle.mk_decide.specs.WrapAnswers.{is_leaf, wrap_opens}
 use Rattle.mk_decide.proofs.Openings.{Each, each_line, each_front, last_open, or_none, or_assoc, early_none, open_text, some_text}
 use Rattle.mk_decide.proofs.FieldFits.{split_of, no_text, after_are}
 use Rattle.mk_decide.proofs.SectionSites.{IsSite, front_lines}

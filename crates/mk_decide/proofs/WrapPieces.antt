@@ -7,7 +7,8 @@ use Rattle.mk_line.proofs.Cuts.{text_append}
 use Rattle.mk_head.specs.Split.{head_lines}
 use Rattle.std.specs.Option.{option_to_list}
 use Rattle.mk_tree.specs.Tree.{Entity, leaf, message, multi, Parts, no_parts, part, print, entity_head, field_lines}
-use Rattle.mk_tree.specs.Sections.{Placed, parts_placed, has_tail, children_of, raw_of, head_text, body_text, body_lines}
+use Rattle.mk_tree.specs.Sections.{Placed, parts_placed, children_of, raw_of, head_text, body_text, body_lines}
+use Rattle.mk_tree.proofs.TreeNames.{has_tail}
 use Rattle.mk_tree.specs.Spans.{size, digest_below}
 use Rattle.mk_tree.proofs.HeadChanged.{after_fields, entity_lines}
 use Rattle.mk_decide.specs.WrapAnswers.{is_leaf, separator_text, fits_levels, fit_levels, all_fit}

@@ -14,9 +14,9 @@ use Rattle.mk_tree.specs.Places.{Frame, lines_after}
 use Rattle.mk_tree.proofs.Plugs.{lines_end}
 use Rattle.mk_line.specs.Marks.{delimiter_line, close_line}
 use Rattle.mk_head.specs.Types.{type_line}
-use Rattle.mk_decide.specs.Wrapping.{is_content_line, content_fields, other_fields, names_field, version_lines, made_lines, ended_lines, inner_part, wrapped}
+use Rattle.mk_decide.specs.Wrapping.{is_content_line, content_fields, other_fields, version_lines, made_lines, ended_lines, inner_part, wrapped}
+use Rattle.mk_decide.specs.WrapAnswers.{names_field, content_part, other_part, version_bytes, type_bytes, delimiter_bytes, close_bytes, made_bytes, separator_text, separator_part, is_leaf, end_part, part_bytes, wrap_bytes}
 use Rattle.std.specs.Prelude.{unwrap_or}
-use Rattle.mk_decide.specs.WrapAnswers.{content_part, other_part, version_bytes, type_bytes, delimiter_bytes, close_bytes, made_bytes, separator_text, separator_part, is_leaf, end_part, part_bytes, wrap_bytes}
 use Rattle.mk_decide.proofs.Openings.{Each, each_line, each_front, each_join, some_text}
 use Rattle.mk_decide.proofs.FieldFits.{no_text, entity_are, after_are}
 use Rattle.mk_decide.proofs.SectionSites.{IsSite, head_cut}

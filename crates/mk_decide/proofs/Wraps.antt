@@ -1,5 +1,5 @@
 -- A section that becomes the one part of a multipart shows of itself what an edit has to.
-use Rattle.std.proofs.Common.{◌≡◌, ◌++◌, if◌then◌else◌, ℕ, zero, suc, Bool, true, false, not, Some, List, [], ◌∷◌, refl, ap, sym, ◌∙◌, subst, codes}
+use Rattle.std.proofs.Common.{◌<◌, ◌≡◌, ◌++◌, if◌then◌else◌, ℕ, zero, suc, Bool, true, false, not, Some, List, [], ◌∷◌, refl, ap, sym, ◌∙◌, subst, codes}
 use Rattle.std.specs.List.{list_all}
 use Rattle.std.specs.Str.{bytes_eq}
 use Rattle.mk_line.specs.declared.cutting.Ending.{Ending}
@@ -21,9 +21,11 @@ use Rattle.mk_tree.specs.Spans.{digest_below}
 use Rattle.mk_tree.specs.Places.{Frame, below, left_at, default_at}
 use Rattle.mk_tree.specs.Reading.{IsWellRead}
 use Rattle.mk_tree.proofs.Plugs.{unmarked_left, unmarked_right, unmarked_join}
-use Rattle.mk_decide.specs.Wrapping.{other_fields, names_field, version_lines, made_lines, inner_part, outer_fields, outer_head}
+use Rattle.mk_decide.specs.Wrapping.{other_fields, version_lines, made_lines, inner_part, outer_head}
+use Rattle.mk_decide.proofs.WrapNames.{outer_fields}
+use Rattle.mk_decide.specs.WrapAnswers.{names_field}
 use Rattle.mk_decide.specs.Plans.{wrap}
-use Rattle.mk_decide.specs.Local.{HasLevel, WrapsWell}
+use Rattle.mk_decide.specs.Local.{WrapsWell}
 use Rattle.mk_decide.proofs.Openings.{Each, each_join, each_front, each_back}
 use Rattle.mk_decide.proofs.Late.{wrap_fair}
 use Rattle.mk_decide.proofs.Locals.{IsEdit}
@@ -33,7 +35,7 @@ use Rattle.mk_decide.proofs.FieldChanges.{fields_each, fields_marks, run_read}
 use Rattle.mk_decide.proofs.Bounds.{IsBound, made_line, delimiter_is, delimiter_mark, close_mark_is}
 use Rattle.mk_decide.proofs.Typed.{made_value, MayBound, made_bound, made_kind}
 use Rattle.mk_decide.proofs.WrapFields.{other_each, other_marks, are_runs, skip_others}
-use Rattle.mk_decide.proofs.WrapLevels.{level_multi}
+use Rattle.mk_decide.proofs.WrapLevels.{level_multi, no_level}
 use Rattle.mk_decide.proofs.WrapParts.{inner_each, inner_may, inner_marks, inner_free, inner_read, inner_fits, inner_kind}
 
 -- the made lines are lines
@@ -108,8 +110,8 @@ outer_kind d eol fs fields subtype b h k =
     ap (λ o. kind_of (type_by d o) (header_encoding (outer_fields eol fs (other_fields false fields) subtype b))) (outer_value eol fs fields subtype b)
     ∙ made_kind d (header_encoding (outer_fields eol fs (other_fields false fields) subtype b)) subtype b h k
 
-level_kind : (n : ℕ) (fields : List TextLine) (d : Bool) (k : Kind) → HasLevel n → kind fields d ≡ k → kind_at n fields d ≡ k
-level_kind zero fields d k l e = absurd l
+level_kind : (n : ℕ) (fields : List TextLine) (d : Bool) (k : Kind) → 0 < n → kind fields d ≡ k → kind_at n fields d ≡ k
+level_kind zero fields d k l e = absurd (no_level l)
 level_kind (suc n) fields d k l e = e
 
 -- all lines of the multipart

@@ -1,5 +1,5 @@
 -- What a call answers, beside what is defined.
-use Rattle.std.specs.Prelude.{◌≡◌, Bool, true, false, Option, None, Some, Result, Ok, Err, is_none}
+use Rattle.std.specs.Prelude.{◌≡◌, Bool, Option, None, Some, Result, Ok, Err, IsOk, is_none}
 use Rattle.mk_decide.specs.declared.errors.EditError.{EditError}
 use Rattle.mk_decide.specs.declared.errors.EditError.TheVariants as error
 use Rattle.mk_decide.specs.Edits.{Refusal, NoSuchSection, NotMultipart, NotLeaf, NotPart, NoSuchField, BadPlace, BadField, BadName, BadBoundary, BadSubtype, OpenLine, HoldsBoundary, Recut, NothingToUndo, NothingToRedo}
@@ -32,12 +32,7 @@ abbrev pub IsRefusedBy : {X : Type 0} → Option Refusal → Result X Refusal �
 IsRefusedBy None r = Unit {0}
 IsRefusedBy (Some e) r = r ≡ Err e
 
--- something is defined, and not a reason against it
-abbrev pub IsAccepted : {X : Type 0} → Result X Refusal → Type 0
-IsAccepted (Ok x) = Unit {0}
-IsAccepted (Err e) = ⊥
-
 -- what a call answered is what is defined
 abbrev pub Answers : {X Y : Type 0} → Result X EditError → Result Y Refusal → Type 0
-Answers (Ok x) defined = IsAccepted defined
+Answers (Ok x) defined = IsOk defined
 Answers (Err e) defined = IsRefusedBy (refusal_of e) defined

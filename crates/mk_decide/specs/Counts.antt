@@ -28,13 +28,9 @@ abbrev pub part_lines : Parts → ℕ
 part_lines no_parts = 0
 part_lines (part l e ps) = length (field_lines e) + part_lines ps
 
--- whether other fields of a section change the default of its direct parts
-abbrev pub changes_default : Bool → Entity → List TextLine → Bool
-changes_default digest s fields = is_other (is_digest (kind (field_lines s) digest)) (is_digest (kind fields digest))
-
--- the lines of its parts' fields, where they do
+-- the lines of the fields of a section's parts, where other fields of the section change the default of its direct parts
 abbrev pub default_lines : Bool → Entity → List TextLine → ℕ
-default_lines digest s fields = if changes_default digest s fields then part_lines (parts_of s) else 0
+default_lines digest s fields = if is_other (is_digest (kind (field_lines s) digest)) (is_digest (kind fields digest)) then part_lines (parts_of s) else 0
 
 -- the lines of a section: all where it is wrapped, none where it goes, and otherwise those of its fields, and, where an edit
 -- of fields changes the default of its direct parts, those of their fields

@@ -6,25 +6,24 @@ use Rattle.mk_tree.specs.Splicing.{ChangesFields, SectionBecomes, HasBody, HasTe
 use Rattle.mk_decide.specs.Edits.{PlainEdit, AddField, RemoveField, RenameField, SetField, SetBody, SetSection, InsertPart, RemovePart, Wrap}
 use Rattle.mk_decide.specs.Outcomes.{edited}
 use Rattle.mk_decide.specs.EditSplices.{splices_of}
-use Rattle.mk_decide.specs.LocalAnswers.{PlainSplice}
 
 -- the bytes change the section that the edit names, and the document that comes of it is stable
-abbrev pub ChangesBy : PlainEdit → PlainSplice → Document → Document → Type 0
-ChangesBy (AddField path top text) r t u = ChangesFields path r.place r.count r.new t
-ChangesBy (RemoveField path name k) r t u = ChangesFields path r.place r.count r.new t
-ChangesBy (RenameField path name k to) r t u = ChangesFields path r.place r.count r.new t
-ChangesBy (SetField path name k text) r t u = ChangesFields path r.place r.count r.new t
-ChangesBy (SetBody path text) r t u = SectionBecomes path (HasBody r.new) t u
-ChangesBy (SetSection path text) r t u = SectionBecomes path (HasText r.new) t u
-ChangesBy (InsertPart path place text) r t u = SectionBecomes path (HasPart place r.new) t u
-ChangesBy (RemovePart path) r t u = PartGoes path t u
-ChangesBy (Wrap path subtype boundary) r t u = SectionBecomes path (HasText r.new) t u
+abbrev pub ChangesAt : PlainEdit → (place count : ℕ) → (new : List ℕ) → Document → Document → Type 0
+ChangesAt (AddField path top text) place count new t u = ChangesFields path place count new t
+ChangesAt (RemoveField path name k) place count new t u = ChangesFields path place count new t
+ChangesAt (RenameField path name k to) place count new t u = ChangesFields path place count new t
+ChangesAt (SetField path name k text) place count new t u = ChangesFields path place count new t
+ChangesAt (SetBody path text) place count new t u = SectionBecomes path (HasBody new) t u
+ChangesAt (SetSection path text) place count new t u = SectionBecomes path (HasText new) t u
+ChangesAt (InsertPart path after text) place count new t u = SectionBecomes path (HasPart after new) t u
+ChangesAt (RemovePart path) place count new t u = PartGoes path t u
+ChangesAt (Wrap path subtype boundary) place count new t u = SectionBecomes path (HasText new) t u
 
 -- the edit is accepted, and these bytes are its splice
-pub record IsDecided (e : PlainEdit) (text : List ℕ) (r : PlainSplice) : Type 0 where
+pub record IsSpliceOf (e : PlainEdit) (text : List ℕ) (place count : ℕ) (new : List ℕ) : Type 0 where
   pub document : Document
   pub accepted : edited e (tree text) ≡ Ok document
-  pub printed_so : printed document ≡ spliced r.place r.count r.new text
-  pub splices : splices_of e (tree text) ≡ record { place = r.place; old = take r.count (drop r.place text); new = r.new } ∷ []
-  pub within : r.place + r.count ≤ length text
-  pub changes : ChangesBy e r (tree text) document
+  pub printed_so : printed document ≡ spliced place count new text
+  pub splices : splices_of e (tree text) ≡ record { place = place; old = take count (drop place text); new = new } ∷ []
+  pub within : place + count ≤ length text
+  pub changes : ChangesAt e place count new (tree text) document

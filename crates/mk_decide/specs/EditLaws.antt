@@ -1,5 +1,5 @@
 -- The laws of the nine edits.
-use Rattle.std.specs.Prelude.{◌≡◌, ◌↔◌, ◌⊎◌, ◌++◌, ℕ, Bool, true, false, Option, None, Some, Result, Ok, Err, List, [], ◌∷◌}
+use Rattle.std.specs.Prelude.{◌≡◌, ◌↔◌, ◌⊎◌, ◌++◌, ℕ, Bool, true, false, Option, Some, IfSome, MatchResult, Result, Ok, Err, List, [], ◌∷◌}
 use Rattle.std.specs.Option.{option_map}
 use Rattle.mk_tree.specs.Tree.{Entity, leaf, message, multi}
 use Rattle.mk_tree.specs.Sections.{Placed, section_at, content_text}
@@ -25,15 +25,11 @@ is_late (HoldsBoundary level) = true
 is_late Recut = true
 is_late _ = false
 
--- an answer is the document, which is stable, or a late reason, and the document isn't stable
-abbrev pub IsJudged : Result Document Refusal → Document → Type 0
-IsJudged (Ok t) edit = (t ≡ edit) × IsStable edit
-IsJudged (Err e) edit = (is_late e ≡ true) × (IsStable edit → ⊥)
-
 -- an edit that no earlier reason holds against gives the edited document exactly where this is stable, and a reason from
 -- OpenLine to Recut exactly where it isn't
 abbrev pub StabilityReasons : Type 0
-StabilityReasons = (e : PlainEdit) (t : Document) (p : Plan) → plan_of e t ≡ Ok p → IsJudged (edited e t) (planned t.envelope p)
+StabilityReasons = (e : PlainEdit) (t : Document) (p : Plan) → plan_of e t ≡ Ok p
+    → MatchResult (edited e t) (λ u. (u ≡ planned t.envelope p) × IsStable (planned t.envelope p)) (λ r. (is_late r ≡ true) × (IsStable (planned t.envelope p) → ⊥))
 
 -- a part of a stable document is never refused to go but for its path
 abbrev pub RemovalReasons : Type 0
@@ -74,14 +70,9 @@ EditsAreReplacements = (e : PlainEdit) (t : Document) (fs : List Frame) (s : Ent
 abbrev pub FieldsAreCounted : Type 0
 FieldsAreCounted = (name : List ℕ) (k : ℕ) (fields : List TextLine) → option_map (λ f. field_text f.start f.more) (field_at name k fields) ≡ find_field name k (fields_of fields)
 
--- what is found: the lines are those before the field, its own, and those after it
-abbrev pub IsApart : List TextLine → Option Found → Type 0
-IsApart ls None = Unit {0}
-IsApart ls (Some f) = f.before ++ (f.start ∷ (f.more ++ f.after)) ≡ ls
-
--- a field that is found leaves no line out
+-- a field that is found leaves no line out: the lines are those before it, its own, and those after it
 abbrev pub FieldsAreApart : Type 0
-FieldsAreApart = (name : List ℕ) (k : ℕ) (fields : List TextLine) → IsApart fields (field_at name k fields)
+FieldsAreApart = (name : List ℕ) (k : ℕ) (fields : List TextLine) → IfSome (field_at name k fields) (λ (f : Found). f.before ++ (f.start ∷ (f.more ++ f.after)) ≡ fields)
 
 -- a field start under another name: the name is the new one, and what follows it is as it was
 abbrev pub NamesAreReplaced : Type 0

@@ -20,8 +20,8 @@ use Rattle.mk_splice.specs.Splices.{Splice}
 abbrev pub one_splice : ℕ → List ℕ → List ℕ → List Splice
 one_splice place old new = record { place = place; old = old; new = new } ∷ []
 
--- one for a field that is found
-abbrev pub for_found : Option Found → (Found → List Splice) → List Splice
+-- the splices for what is found
+abbrev pub for_found : {A : Type 0} → Option A → (A → List Splice) → List Splice
 for_found None f = []
 for_found (Some x) f = f x
 
@@ -61,11 +61,6 @@ splices_in (InsertPart path place text) eol start fs s = part_splices eol start 
 splices_in (RemovePart path) eol start fs s = one_splice (start - size (own_delimiter fs)) (text_of (own_delimiter fs ++ print s)) []
 splices_in (Wrap path subtype boundary) eol start fs s = one_splice start (text_of (print s)) (text_of (print (wrapped eol fs s subtype boundary)))
 
--- the splice of an edit at a place that is there
-abbrev pub splices_at : PlainEdit → Ending → Option TextLine → Option (List Frame × Entity) → List Splice
-splices_at e eol envelope None = []
-splices_at e eol envelope (Some q) = splices_in e eol (placed envelope q.0 q.1).start q.0 q.1
-
 -- what an edit of a document replaces
 abbrev pub splices_of : PlainEdit → Document → List Splice
-splices_of e t = splices_at e (eol_of (document_lines t)) t.envelope (place_of (path_of e) t.root)
+splices_of e t = for_found (place_of (path_of e) t.root) (λ q. splices_in e (eol_of (document_lines t)) (placed t.envelope q.0 q.1).start q.0 q.1)

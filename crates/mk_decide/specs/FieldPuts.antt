@@ -1,6 +1,6 @@
 -- The four edits of fields: what each puts among the lines of a head.
-use Rattle.mk_decide.specs.Plans.{with_field}
-use Rattle.std.specs.Prelude.{◌≡◌, ◌==◌, ◌+◌, ◌-◌, ◌++◌, if◌then◌else◌, ℕ, Bool, true, false, not, Option, None, Some, Result, Ok, Err, List, [], ◌∷◌, length, take, drop}
+use Rattle.mk_decide.specs.Plans.{unless, unless_none}
+use Rattle.std.specs.Prelude.{◌≡◌, ◌==◌, ◌+◌, ◌-◌, ◌++◌, if◌then◌else◌, ℕ, Bool, true, false, not, Option, None, Some, Result, Ok, Err, IsOkAnd, List, [], ◌∷◌, length, take, drop}
 use Rattle.mk_line.specs.Lines.{TextLine, cut, text_of, printed_line, ending_bytes}
 use Rattle.mk_head.specs.Fields.{FieldText, name_of, is_named, is_one_field}
 use Rattle.mk_tree.specs.Spans.{size}
@@ -46,33 +46,12 @@ name_put to f = record {
   kept = after_name f.start.content ++ ending_bytes f.start.ending;
 }
 
--- what is put, unless a reason holds
-abbrev pub put_unless : Bool → Refusal → LinePut → Result LinePut Refusal
-put_unless true e p = Err e
-put_unless false e p = Ok p
-
 -- what each edit puts among fields, or the first reason against it
-abbrev pub adds : Bool → List ℕ → List TextLine → Result LinePut Refusal
-adds top text fields = put_unless (not (is_one_field (cut text))) BadField (add_put top (cut text) fields)
-
--- nothing in the place of a field
-abbrev pub removes : Option Found → Result LinePut Refusal
-removes o = with_field o (λ f. Ok (set_put [] f))
-
--- another name in the place of its own
-abbrev pub renames : List ℕ → Option Found → Result LinePut Refusal
-renames to o = with_field o (λ f. put_unless (not (is_name to)) BadName (name_put to f))
-
--- a field in the place of another
-abbrev pub sets : List ℕ → Option Found → Result LinePut Refusal
-sets text o = with_field o (λ f. put_unless (not (is_one_field (cut text))) BadField (set_put (cut text) f))
-
--- what each edit puts
 abbrev pub puts : FieldEdit → List TextLine → Result LinePut Refusal
-puts (Add top text) fields = adds top text.now fields
-puts (Remove name k) fields = removes (field_at name.now k fields)
-puts (Rename name k to) fields = renames to.now (field_at name.now k fields)
-puts (Set name k text) fields = sets text.now (field_at name.now k fields)
+puts (Add top text) fields = unless (not (is_one_field (cut text.now))) BadField (Ok (add_put top (cut text.now) fields))
+puts (Remove name k) fields = unless_none NoSuchField (field_at name.now k fields) (λ f. Ok (set_put [] f))
+puts (Rename name k to) fields = unless_none NoSuchField (field_at name.now k fields) (λ f. unless (not (is_name to.now)) BadName (Ok (name_put to.now f)))
+puts (Set name k text) fields = unless_none NoSuchField (field_at name.now k fields) (λ f. unless (not (is_one_field (cut text.now))) BadField (Ok (set_put (cut text.now) f)))
 
 -- lines in memory are these
 pub record PutsLines (r : Put) (p : LinePut) : Type 0 where
@@ -83,8 +62,7 @@ pub record PutsLines (r : Put) (p : LinePut) : Type 0 where
 
 -- what is put in memory is this
 abbrev pub IsPut : Put → Result LinePut Refusal → Type 0
-IsPut r (Ok p) = PutsLines r p
-IsPut r (Err e) = ⊥
+IsPut r o = IsOkAnd o (PutsLines r)
 
 -- the k-th field of a name, and how many bytes stand before it
 abbrev pub placed_field : List ℕ → ℕ → ℕ → List FieldText → Option (ℕ × FieldText)

@@ -1,5 +1,5 @@
 -- The conditions under which an edit of a stable document gives a stable one, each on the section alone (own).
-use Rattle.std.specs.Prelude.{◌≡◌, ℕ, Bool, true, false, Option, None, Some, List, [], ◌∷◌, zero, suc, codes, not}
+use Rattle.std.specs.Prelude.{take, IfNone, ◌<◌, ◌≡◌, ℕ, Bool, true, false, Option, None, Some, List, [], ◌∷◌, codes, not}
 use Rattle.std.specs.Str.{bytes_eq}
 use Rattle.mk_line.specs.declared.cutting.Ending.{Ending}
 use Rattle.mk_line.specs.Lines.{TextLine, eol_of, is_open, EndsWell, is_nil}
@@ -9,7 +9,7 @@ use Rattle.mk_tree.specs.Tree.{Entity, leaf, message, multi, Parts, no_parts, pa
 use Rattle.mk_tree.specs.Documents.{Document, levels, document_lines}
 use Rattle.mk_tree.specs.Sections.{body_lines}
 use Rattle.mk_tree.specs.Places.{Frame, below, left_at, default_at, lines_after}
-use Rattle.mk_tree.specs.Locality.{first_line, Ends, FitsIn, RootFits}
+use Rattle.mk_tree.specs.Locality.{Ends, FitsIn, RootFits}
 use Rattle.mk_decide.specs.Reasons.{is_open_early}
 use Rattle.mk_decide.specs.Edits.{PlainEdit, AddField, RemoveField, RenameField, SetField, SetBody, SetSection, InsertPart, RemovePart, Wrap}
 use Rattle.mk_decide.specs.Wrapping.{content_fields}
@@ -33,29 +33,19 @@ parts_of (leaf h ls) = no_parts
 parts_of (message h e) = no_parts
 parts_of (multi h b pre ps t) = ps
 
--- fields without a separator end before the first line of the body
-abbrev pub HeaderEnds : List TextLine → Option TextLine → List TextLine → Type 0
-HeaderEnds fields None body = Ends fields (first_line body)
-HeaderEnds fields (Some l) body = Unit {0}
-
 -- what new fields of a section have to meet: the section stays of its kind, so do its direct parts where their default
--- changes, and the fields end where they ended
+-- changes, and fields without a separator end before the first line of the body
 pub record AreFieldsFor (left : ℕ) (digest : Bool) (fields : List TextLine) (s : Entity) : Type 0 where
   pub kind : IsAlike (kind_at left (field_lines s) digest) (kind_at left fields digest)
   pub parts : AreKept (below left) (is_digest (kind_at left (field_lines s) digest)) (is_digest (kind_at left fields digest)) (parts_of s)
-  pub header : HeaderEnds fields (entity_head s).separator (body_lines s)
-
--- some level may stand below
-abbrev pub HasLevel : ℕ → Type 0
-HasLevel zero = ⊥
-HasLevel (suc left) = Unit {0}
+  pub header : IfNone (entity_head s).separator (Ends fields (take 1 (body_lines s)))
 
 abbrev mutual
   -- no multipart and no message stands where no level is left below
   pub FitsLevels : ℕ → Entity → Type 0
   FitsLevels left (leaf h ls) = Unit {0}
-  FitsLevels left (message h e) = HasLevel left × FitsLevels (below left) e
-  FitsLevels left (multi h b pre ps t) = HasLevel left × FitLevels (below left) ps
+  FitsLevels left (message h e) = (0 < left) × FitsLevels (below left) e
+  FitsLevels left (multi h b pre ps t) = (0 < left) × FitLevels (below left) ps
 
   -- in none of the parts
   pub FitLevels : ℕ → Parts → Type 0
@@ -77,7 +67,7 @@ BodyMayEnd eol fs (multi h b pre ps t) = Unit {0}
 -- what a section that becomes a part has to meet: a level is left for it and for what stands in it, it stays of its kind
 -- under its Content- fields and the new default, and its last line may get an ending
 pub record WrapsWell (left : ℕ) (digest : Bool) (eol : Ending) (fs : List Frame) (s : Entity) (subtype : List ℕ) : Type 0 where
-  pub level : HasLevel left
+  pub level : 0 < left
   pub depth : FitsLevels (below left) s
   pub kind : kind_at (below left) (content_fields false (field_lines s)) (bytes_eq (lowered subtype) (codes "digest")) ≡ kind_at left (field_lines s) digest
   pub ends : BodyMayEnd eol fs s
@@ -90,7 +80,7 @@ Own (RenameField path name k to) eol s p = AreFieldsFor (left_at levels p.around
 Own (SetField path name k text) eol s p = AreFieldsFor (left_at levels p.around) (default_at false p.around) (field_lines p.new) s
 Own (SetBody path text) eol s p = Unit {0}
 Own (SetSection path text) eol s p = Unit {0}
-Own (InsertPart path place text) eol s p = HeaderEnds (field_lines p.new) (entity_head p.new).separator (body_lines p.new)
+Own (InsertPart path place text) eol s p = IfNone (entity_head p.new).separator (Ends (field_lines p.new) (take 1 (body_lines p.new)))
 Own (RemovePart path) eol s p = Unit {0}
 Own (Wrap path subtype boundary) eol s p = WrapsWell (left_at levels p.around) (default_at false p.around) eol p.around s subtype
 

@@ -8,7 +8,8 @@ use Rattle.mk_splice.specs.Splices.{spliced}
 use Rattle.mk_tree.specs.Sections.{Placed, root_of, section_at, head_text, body_text}
 use Rattle.mk_decide.specs.declared.field_edits.FieldEdit.{FieldEdit}
 use Rattle.mk_decide.specs.declared.deciding.Replacement.{Replacement}
-use Rattle.mk_decide.specs.Edits.{Refusal, NoSuchSection, OpenLine, HoldsBoundary, Recut}
+use Rattle.mk_decide.specs.Decided.{ChangesAt, IsSpliceOf}
+use Rattle.mk_decide.specs.Edits.{PlainEdit, Refusal, NoSuchSection, OpenLine, HoldsBoundary, Recut}
 use Rattle.mk_decide.specs.FieldPuts.{LinePut, puts}
 use Rattle.mk_decide.specs.Looks.{ends_there}
 use Rattle.mk_decide.specs.KindsKept.{keeps_kinds, looked_below}
@@ -19,6 +20,14 @@ pub record PlainSplice : Type 0 where
   pub place : ℕ
   pub count : ℕ
   pub new : List ℕ
+
+-- bytes change the section that an edit names
+abbrev pub ChangesBy : PlainEdit → PlainSplice → Document → Document → Type 0
+ChangesBy e r t u = ChangesAt e r.place r.count r.new t u
+
+-- an edit is accepted, and bytes are its splice
+abbrev pub IsDecided : PlainEdit → List ℕ → PlainSplice → Type 0
+IsDecided e text r = IsSpliceOf e text r.place r.count r.new
 
 -- whether whole lines in the place of `count` bytes would make an open line stand before another
 abbrev pub opens_at : List ℕ → ℕ → ℕ → List ℕ → Bool

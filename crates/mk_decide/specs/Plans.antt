@@ -12,7 +12,6 @@ use Rattle.mk_tree.specs.Documents.{Document, levels, document_lines}
 use Rattle.mk_tree.specs.Sections.{body_lines}
 use Rattle.mk_tree.specs.Spans.{digest_below}
 use Rattle.mk_tree.specs.Places.{Frame, in_message, in_multi, append_parts, place_at, below, left_at, default_at, put}
-use Rattle.mk_decide.specs.Reasons.{added}
 use Rattle.mk_decide.specs.Edits.{PlainEdit, AddField, RemoveField, RenameField, SetField, SetBody, SetSection, InsertPart, RemovePart, Wrap, path_of, Refusal, NoSuchSection, NotMultipart, NotLeaf, NotPart, NoSuchField, BadPlace, BadField, BadName, BadBoundary, BadSubtype}
 use Rattle.mk_line.specs.Kinds.{is_name}
 use Rattle.mk_decide.specs.FieldEdits.{Found, field_at, renamed}
@@ -36,43 +35,19 @@ plain_plan fs new given = record { around = fs; new = new; given = given; bounda
 abbrev pub fields_plan : List Frame → Entity → List TextLine → List TextLine → Plan
 fields_plan fs s fields given = plain_plan fs (with_fields fields s) given
 
--- with lines put before its fields (top) or after them
-abbrev pub add_plan : List Frame → Entity → Bool → List TextLine → Plan
-add_plan fs s top given = fields_plan fs s (added top given (field_lines s)) given
-
--- without a field of it
-abbrev pub drop_plan : List Frame → Entity → Found → Plan
-drop_plan fs s f = fields_plan fs s (f.before ++ f.after) []
-
--- with a field under another name
-abbrev pub rename_plan : List Frame → Entity → List ℕ → Found → Plan
-rename_plan fs s to f = fields_plan fs s (f.before ++ (renamed to f.start ∷ (f.more ++ f.after))) (renamed to f.start ∷ [])
-
--- with lines in the place of a field
-abbrev pub change_plan : List Frame → Entity → List TextLine → Found → Plan
-change_plan fs s given f = fields_plan fs s (f.before ++ (given ++ f.after)) given
-
 -- a reason where a test holds, and else what follows
-abbrev pub unless : Bool → Refusal → Result Plan Refusal → Result Plan Refusal
+abbrev pub unless : {A : Type 0} → Bool → Refusal → Result A Refusal → Result A Refusal
 unless true e r = Err e
 unless false e r = r
 
--- what follows for the field that is found
-abbrev pub with_field : {A : Type 0} → Option Found → (Found → Result A Refusal) → Result A Refusal
-with_field None f = Err NoSuchField
-with_field (Some x) f = f x
+-- a reason where there is nothing, and else what follows for what is there
+abbrev pub unless_none : {A B : Type 0} → Refusal → Option A → (A → Result B Refusal) → Result B Refusal
+unless_none e None f = Err e
+unless_none e (Some x) f = f x
 
--- the entity that lines are read as at a place
-abbrev pub read_plan : List Frame → List TextLine → Plan
-read_plan fs given = plain_plan fs (read (left_at levels fs) (default_at false fs) given) given
-
--- a leaf with another body, after its separator or a made one
-abbrev pub body_plan : Ending → List Frame → Head → List TextLine → Plan
-body_plan eol fs h given = plain_plan fs (leaf (record { fields = h.fields; separator = Some (unwrap_or h.separator (text_line [] eol)) }) given) given
-
--- another body, where the section is a leaf
+-- another body, after the separator or a made one, where the section is a leaf
 abbrev pub set_body : Ending → List Frame → Entity → List TextLine → Result Plan Refusal
-set_body eol fs (leaf h ls) given = Ok (body_plan eol fs h given)
+set_body eol fs (leaf h ls) given = Ok (plain_plan fs (leaf (record { fields = h.fields; separator = Some (unwrap_or h.separator (text_line [] eol)) }) given) given)
 set_body eol fs (message h e) given = Err NotLeaf
 set_body eol fs (multi h b pre ps t) given = Err NotLeaf
 
@@ -82,30 +57,21 @@ parts_at zero ps = Some (no_parts, ps)
 parts_at (suc k) no_parts = None
 parts_at (suc k) (part l e ps) = option_map (λ q. (part l e q.0, q.1)) (parts_at k ps)
 
--- lines read as a part of a multipart at a place
-abbrev pub part_read : List Frame → Head → List TextLine → Entity
-part_read fs h given = read (below (left_at levels fs)) (digest_below (default_at false fs) h) given
-
 -- a multipart with a part more between its parts: a made delimiter, and what lines are read as there
 abbrev pub part_plan : Ending → List Frame → Head → List ℕ → List TextLine → Option (TextLine × List TextLine) → List TextLine → Parts × Parts → Plan
 part_plan eol fs h b pre t given q = record {
   around = fs;
-  new = multi h b pre (append_parts q.0 (part (delimiter_line eol b) (part_read fs h given) q.1)) t;
+  new = multi h b pre (append_parts q.0 (part (delimiter_line eol b) (read (below (left_at levels fs)) (digest_below (default_at false fs) h) given) q.1)) t;
   given = delimiter_line eol b ∷ given;
   boundary = b;
   inside = given;
 }
 
--- a part more, where there are so many parts
-abbrev pub insert_between : Ending → List Frame → Head → List ℕ → List TextLine → Option (TextLine × List TextLine) → List TextLine → Option (Parts × Parts) → Result Plan Refusal
-insert_between eol fs h b pre t given None = Err BadPlace
-insert_between eol fs h b pre t given (Some q) = Ok (part_plan eol fs h b pre t given q)
-
--- a part more, where the section is a multipart
+-- a part more, where the section is a multipart with so many parts
 abbrev pub insert : Ending → List Frame → Entity → ℕ → List TextLine → Result Plan Refusal
 insert eol fs (leaf h ls) place given = Err NotMultipart
 insert eol fs (message h e) place given = Err NotMultipart
-insert eol fs (multi h b pre ps t) place given = insert_between eol fs h b pre t given (parts_at place ps)
+insert eol fs (multi h b pre ps t) place given = unless_none BadPlace (parts_at place ps) (λ q. Ok (part_plan eol fs h b pre t given q))
 
 -- a multipart without the part that stands here
 abbrev pub without : Frame → Option Entity
@@ -118,11 +84,6 @@ last_without [] = None
 last_without (f ∷ []) = option_map (λ e. ([], e)) (without f)
 last_without (f ∷ g ∷ fs) = option_map (λ q. (f ∷ q.0, q.1)) (last_without (g ∷ fs))
 
--- the multipart without the part, where the section is a part
-abbrev pub remove : Option (List Frame × Entity) → Result Plan Refusal
-remove None = Err NotPart
-remove (Some q) = Ok (plain_plan q.0 q.1 [])
-
 -- the section as the one part of a multipart; the new boundary stands at the place itself
 abbrev pub wrap : Ending → List Frame → Entity → List ℕ → List ℕ → Plan
 wrap eol fs s subtype boundary = record {
@@ -133,16 +94,20 @@ wrap eol fs s subtype boundary = record {
   inside = body_lines s;
 }
 
--- what an edit does at a place; an edit of a field looks for the field first
+-- what an edit does at a place: the plan, or the first reason against it
 abbrev pub plan_at : PlainEdit → Ending → List Frame → Entity → Result Plan Refusal
-plan_at (AddField path top text) eol fs s = unless (not (is_one_field (cut text))) BadField (Ok (add_plan fs s top (cut text)))
-plan_at (RemoveField path name k) eol fs s = with_field (field_at name k (field_lines s)) (λ f. Ok (drop_plan fs s f))
-plan_at (RenameField path name k to) eol fs s = with_field (field_at name k (field_lines s)) (λ f. unless (not (is_name to)) BadName (Ok (rename_plan fs s to f)))
-plan_at (SetField path name k text) eol fs s = with_field (field_at name k (field_lines s)) (λ f. unless (not (is_one_field (cut text))) BadField (Ok (change_plan fs s (cut text) f)))
+plan_at (AddField path top text) eol fs s = unless (not (is_one_field (cut text))) BadField (Ok (fields_plan fs s (if top then cut text ++ field_lines s else field_lines s ++ cut text) (cut text)))
+plan_at (RemoveField path name k) eol fs s = unless_none NoSuchField (field_at name k (field_lines s)) (λ f. Ok (fields_plan fs s (f.before ++ f.after) []))
+plan_at (RenameField path name k to) eol fs s =
+    unless_none NoSuchField (field_at name k (field_lines s)) (λ f. unless (not (is_name to)) BadName
+    (Ok (fields_plan fs s (f.before ++ (renamed to f.start ∷ (f.more ++ f.after))) (renamed to f.start ∷ []))))
+plan_at (SetField path name k text) eol fs s =
+    unless_none NoSuchField (field_at name k (field_lines s)) (λ f. unless (not (is_one_field (cut text))) BadField
+    (Ok (fields_plan fs s (f.before ++ (cut text ++ f.after)) (cut text))))
 plan_at (SetBody path text) eol fs s = set_body eol fs s (cut text)
-plan_at (SetSection path text) eol fs s = Ok (read_plan fs (cut text))
+plan_at (SetSection path text) eol fs s = Ok (plain_plan fs (read (left_at levels fs) (default_at false fs) (cut text)) (cut text))
 plan_at (InsertPart path place text) eol fs s = insert eol fs s place (cut text)
-plan_at (RemovePart path) eol fs s = remove (last_without fs)
+plan_at (RemovePart path) eol fs s = unless_none NotPart (last_without fs) (λ q. Ok (plain_plan q.0 q.1 []))
 plan_at (Wrap path subtype boundary) eol fs s = unless (not (is_boundary boundary)) BadBoundary (unless (not (is_token subtype)) BadSubtype (Ok (wrap eol fs s subtype boundary)))
 
 -- the section at a path, and what stands around it
@@ -150,14 +115,9 @@ abbrev pub place_of : List ℕ → Entity → Option (List Frame × Entity)
 place_of [] root = None
 place_of (k ∷ ks) root = if k == 1 then place_at ks root else None
 
--- what follows for the section that is found
-abbrev pub with_place : Option (List Frame × Entity) → (List Frame → Entity → Result Plan Refusal) → Result Plan Refusal
-with_place None f = Err NoSuchSection
-with_place (Some q) f = f q.0 q.1
-
 -- the plan of an edit, or the first of the reasons before OpenLine. Made lines end as the message does
 abbrev pub plan_of : PlainEdit → Document → Result Plan Refusal
-plan_of e t = with_place (place_of (path_of e) t.root) (plan_at e (eol_of (document_lines t)))
+plan_of e t = unless_none NoSuchSection (place_of (path_of e) t.root) (λ q. plan_at e (eol_of (document_lines t)) q.0 q.1)
 
 -- the edited document
 abbrev pub planned : Option TextLine → Plan → Document

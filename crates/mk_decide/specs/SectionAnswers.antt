@@ -1,6 +1,6 @@
 -- What the edits of bodies, sections and parts are answered, by looks at the section and at what stands around it.
 use Rattle.std.specs.Prelude.{◌==◌, ◌&&◌, ◌||◌, ◌+◌, ◌-◌, ◌++◌, if◌then◌else◌, ℕ, zero, suc, Bool, true, false, not, Option, None, Some, Result, Ok, Err, List, [], ◌∷◌, length, take, slice_index}
-use Rattle.std.specs.Option.{option_map}
+use Rattle.std.specs.Option.{option_map, option_or}
 use Rattle.mk_line.specs.Kinds.{is_field_start, is_continuation, is_from_line}
 use Rattle.mk_line.specs.Lines.{TextLine, cut, text_of, is_nil, ending_bytes, eol_of}
 use Rattle.mk_head.specs.Split.{is_start, head_lines}
@@ -11,10 +11,14 @@ use Rattle.mk_tree.specs.Spans.{size}
 use Rattle.mk_tree.specs.Sections.{Placed, root_of, children, raw_of, body_text, preamble_lines}
 use Rattle.mk_decide.specs.Edits.{Refusal, NotMultipart, NotLeaf, NotPart, BadPlace}
 use Rattle.mk_line.specs.Marks.{delimiter_line}
-use Rattle.mk_decide.specs.Outcomes.{has_mark, or_own}
+use Rattle.mk_decide.specs.Outcomes.{has_mark}
 use Rattle.mk_decide.specs.Looks.{has_separator}
 use Rattle.mk_decide.specs.Around.{hit_below, glues, glued_below}
 use Rattle.mk_decide.specs.LocalAnswers.{PlainSplice, opens_at, answer_by}
+
+-- the level that is hit around, or else that of the place itself, where it is hit
+abbrev pub or_own : Option ℕ → Bool → ℕ → Option ℕ
+or_own o hits level = option_or o (if hits then Some level else None)
 
 -- the path of the section around, and the number of a section in it
 abbrev pub outer_path : List ℕ → List ℕ

@@ -3,7 +3,7 @@ use Rattle.std.specs.Prelude.{◌==◌, ◌&&◌, ◌+◌, ◌-◌, ◌++◌, if
 use Rattle.std.specs.Str.{bytes_eq}
 use Rattle.mk_line.specs.declared.cutting.Ending.{Ending}
 use Rattle.mk_line.specs.Ascii.{carriage_return}
-use Rattle.mk_line.specs.Lines.{cut, text_of, is_nil, is_lf, ending_bytes, eol_of, ends_open, printed_line}
+use Rattle.mk_line.specs.Lines.{TextLine, cut, text_of, is_nil, is_lf, ending_bytes, eol_of, ends_open, printed_line}
 use Rattle.mk_line.specs.Marks.{close_line, delimiter_line}
 use Rattle.std.specs.Option.{option_to_list}
 use Rattle.mk_head.specs.Boundaries.{is_boundary}
@@ -13,11 +13,18 @@ use Rattle.mk_tree.specs.Tree.{Entity, leaf, message, multi, Parts, no_parts, pa
 use Rattle.mk_tree.specs.Documents.{Document, levels, tree}
 use Rattle.mk_tree.specs.Sections.{Placed, root_of, raw_of, head_text, body_text}
 use Rattle.mk_decide.specs.Edits.{Refusal, BadBoundary, BadSubtype}
-use Rattle.mk_decide.specs.Wrapping.{content_fields, other_fields, names_field}
-use Rattle.mk_decide.specs.Outcomes.{has_mark, or_own}
+use Rattle.mk_decide.specs.Wrapping.{content_fields, other_fields}
+use Rattle.std.specs.List.{list_any}
+use Rattle.mk_decide.specs.FieldEdits.{starts_named}
+use Rattle.mk_decide.specs.Outcomes.{has_mark}
+use Rattle.mk_decide.specs.SectionAnswers.{or_own}
 use Rattle.mk_decide.specs.KindsKept.{keeps_default}
 use Rattle.mk_decide.specs.Around.{hit_below, glued_below}
 use Rattle.mk_decide.specs.LocalAnswers.{PlainSplice, answer_by}
+
+-- some field has the name
+abbrev pub names_field : List ℕ → List TextLine → Bool
+names_field name ls = list_any (starts_named name) ls
 
 -- the fields at the start of a text that describe the content, and the others
 abbrev pub content_part : List ℕ → List ℕ

@@ -1,6 +1,6 @@
 -- A section made the one part of a multipart: what stands around it, and what it becomes (own; RFC 2046, 5.1).
 use Rattle.std.specs.Prelude.{◌||◌, ◌++◌, if◌then◌else◌, ℕ, Bool, true, false, Option, None, Some, List, [], ◌∷◌, codes, nat_eq, unwrap_or, not}
-use Rattle.std.specs.List.{starts_with}
+use Rattle.std.specs.List.{list_any, starts_with}
 use Rattle.mk_line.specs.declared.cutting.Ending.{Ending}
 use Rattle.mk_line.specs.Lines.{TextLine, text_line, is_open, is_nil}
 use Rattle.mk_line.specs.Marks.{close_line, delimiter_line}
@@ -12,13 +12,10 @@ use Rattle.mk_tree.specs.Tree.{Entity, leaf, message, multi, no_parts, part, fie
 use Rattle.mk_tree.specs.Places.{Frame, lines_after}
 use Rattle.mk_decide.specs.FieldEdits.{starts_named}
 
--- a field start whose name begins with Content-, without regard to ASCII case (RFC 2045, 9: such fields describe the content)
-abbrev pub describes_content : TextLine → Bool
-describes_content l = starts_with nat_eq (lowered (name_of l)) (codes "content-")
-
--- whether a line belongs to such a field; inside: one stands before it
+-- whether a line belongs to a field whose name begins with Content-, without regard to ASCII case (RFC 2045, 9: such fields
+-- describe the content); inside: one stands before it
 abbrev pub is_content_line : Bool → TextLine → Bool
-is_content_line inside l = if is_start l then describes_content l else inside
+is_content_line inside l = if is_start l then starts_with nat_eq (lowered (name_of l)) (codes "content-") else inside
 
 -- the lines of these fields
 abbrev pub content_fields : Bool → List TextLine → List TextLine
@@ -30,14 +27,9 @@ abbrev pub other_fields : Bool → List TextLine → List TextLine
 other_fields inside [] = []
 other_fields inside (l ∷ ls) = if is_content_line inside l then other_fields true ls else l ∷ other_fields false ls
 
--- some field has the name
-abbrev pub names_field : List ℕ → List TextLine → Bool
-names_field name [] = false
-names_field name (l ∷ ls) = starts_named name l || names_field name ls
-
 -- only the root of a document says its MIME version (RFC 2045, 4), and says it once
 abbrev pub version_lines : Ending → List Frame → List TextLine → List TextLine
-version_lines eol [] others = if names_field (codes "MIME-Version") others then [] else text_line (codes "MIME-Version: 1.0") eol ∷ []
+version_lines eol [] others = if list_any (starts_named (codes "MIME-Version")) others then [] else text_line (codes "MIME-Version: 1.0") eol ∷ []
 version_lines eol (f ∷ fs) others = []
 
 -- the made lines that aren't empty; an empty line is never a mark
@@ -60,13 +52,11 @@ inner_part eol fs (leaf h ls) = leaf (inner_head eol h) (if not (is_nil (lines_a
 inner_part eol fs (message h e) = message (inner_head eol h) e
 inner_part eol fs (multi h b pre ps t) = multi (inner_head eol h) b pre ps t
 
--- the fields of the multipart: those that don't describe the content, and the made ones
-abbrev pub outer_fields : Ending → List Frame → List TextLine → List ℕ → List ℕ → List TextLine
-outer_fields eol fs others subtype boundary = others ++ (version_lines eol fs others ++ (type_line eol subtype boundary ∷ []))
-
--- the head of the multipart
+-- the head of the multipart: the fields that don't describe the content, and the made ones
 abbrev pub outer_head : Ending → List Frame → Entity → List ℕ → List ℕ → Head
-outer_head eol fs s subtype boundary = record { fields = outer_fields eol fs (other_fields false (field_lines s)) subtype boundary; separator = Some (text_line [] eol) }
+outer_head eol fs s subtype boundary =
+    let others = other_fields false (field_lines s) in
+    record { fields = others ++ (version_lines eol fs others ++ (type_line eol subtype boundary ∷ [])); separator = Some (text_line [] eol) }
 
 -- the multipart
 abbrev pub wrapped : Ending → List Frame → Entity → List ℕ → List ℕ → Entity

@@ -1,11 +1,10 @@
 //! Whether an edit is accepted, and the bytes that it puts in the place of others.
 ghost use Rattle.std.specs.Prelude.{◌≤◌, ◌+◌, ◌*◌, IfOk, IfErr};
 ghost use Rattle.mk_tree.specs.Documents.{tree};
+ghost use Rattle.mk_decide.specs.Decided.{IsSpliceOf};
 ghost use Rattle.mk_decide.specs.Answers.{refusal_of, IsRefusedBy};
 ghost use Rattle.mk_decide.specs.Counts.{edit_lines};
-ghost use Rattle.mk_decide.specs.Decided.{IsDecided};
 ghost use Rattle.mk_decide.specs.FieldPuts.{plain_of};
-ghost use Rattle.mk_decide.specs.LocalAnswers.{plain_splice};
 ghost use Rattle.mk_decide.specs.Outcomes.{edited};
 ghost use Rattle.mk_decide.specs.Views.{edit_of};
 
@@ -36,7 +35,7 @@ pub fn decide(
     edit: &Edit,
     meter: &mut Meter,
 ) -> Result<Replacement, EditError>
-    ensures ok { IfOk result (λ r. IsDecided (edit_of edit.now) doc.now (plain_splice r)) }
+    ensures ok { IfOk result (λ r. IsSpliceOf (edit_of edit.now) doc.now r.place r.count r.new.items) }
     ensures err { IfErr result (λ e. IsRefusedBy (refusal_of e) (edited (edit_of edit.now) (tree doc.now))) }
     ensures most { meter.new ≤ meter.old + 2 * edit_lines (edit_of edit.now) (tree doc.now) + 2 }
 {

@@ -7,11 +7,10 @@ ghost use Rattle.mk_tree.specs.Sections.{section_at, head_text};
 ghost use Rattle.mk_splice.specs.Splices.{spliced};
 ghost use Rattle.mk_decide.specs.FieldPuts.{plain_of};
 ghost use Rattle.mk_decide.specs.Answers.{refusal_of, IsRefusedBy};
-ghost use Rattle.mk_decide.specs.Decided.{IsDecided};
+ghost use Rattle.mk_decide.specs.LocalAnswers.{IsDecided, answer_at, answer_bytes, looked_at, looked_bytes, fits_at, is_first as begins_document, opens_at, plain_splice};
 ghost use Rattle.mk_decide.specs.Counts.{edit_lines};
 ghost use Rattle.mk_decide.specs.Outcomes.{edited};
 ghost use Rattle.mk_decide.specs.KindsKept.{looked_below};
-ghost use Rattle.mk_decide.specs.LocalAnswers.{answer_at, answer_bytes, looked_at, looked_bytes, fits_at, is_first as begins_document, opens_at, plain_splice};
 
 use crate::around::{hit_level, is_glued};
 use crate::deciding::Replacement;

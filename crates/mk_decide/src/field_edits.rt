@@ -1,5 +1,5 @@
 //! The four edits of fields, and what each puts among the lines of a head.
-ghost use Rattle.std.specs.Prelude.{◌≡◌, ◌≤◌, if◌then◌else◌, false, length, None, IfOk, IfErr, IfNone, IfSome};
+ghost use Rattle.std.specs.Prelude.{◌≡◌, ◌≤◌, if◌then◌else◌, false, length, None, IfOk, IfErr, IfNone, IfSome, IsOkAnd};
 ghost use Rattle.std.specs.Option.{option_map};
 ghost use Rattle.mk_line.specs.Lines.{cut as lines_of};
 ghost use Rattle.mk_head.specs.Split.{fields_from};
@@ -7,7 +7,8 @@ ghost use Rattle.mk_head.specs.Splits.{IsRun};
 ghost use Rattle.mk_head.specs.Fields.{fields_of};
 ghost use Rattle.mk_head.specs.Views.{field_view};
 ghost use Rattle.mk_decide.specs.FieldEdits.{field_at as found_in};
-ghost use Rattle.mk_decide.specs.FieldPuts.{adds, after_field_name, first_line_size, placed_field, puts, removes, renames, sets, IsFieldAt, IsPut};
+ghost use Rattle.mk_decide.specs.FieldPuts.{after_field_name, first_line_size, placed_field, puts, IsFieldAt, IsPut, PutsLines};
+ghost use Rattle.mk_decide.specs.declared.field_edits.FieldEdit.TheVariants.{Add, Remove, Rename, Set};
 ghost use Rattle.mk_decide.specs.Answers.{refusal_of, IsRefusedBy};
 
 use crate::errors::EditError;
@@ -59,7 +60,7 @@ pub struct Put {
 /// What an edit puts among the lines of a head.
 pub fn put_of(alloc: Global, head: &[u8], edit: &FieldEdit<'_>) -> Result<Put, EditError>
     requires { IsRun false (lines_of head.now) }
-    ensures ok { IfOk result (λ r. IsPut r (puts edit.now (lines_of head.now))) }
+    ensures ok { IfOk result (λ r. IsOkAnd (puts edit.now (lines_of head.now)) (PutsLines r)) }
     ensures err { IfErr result (λ e. IsRefusedBy (refusal_of e) (puts edit.now (lines_of head.now))) }
 {
     match edit {
@@ -73,8 +74,8 @@ pub fn put_of(alloc: Global, head: &[u8], edit: &FieldEdit<'_>) -> Result<Put, E
 // A field more.
 fn put_more(alloc: Global, head: &[u8], top: bool, text: &[u8]) -> Result<Put, EditError>
     requires { IsRun false (lines_of head.now) }
-    ensures ok { IfOk result (λ r. IsPut r (adds top text.now (lines_of head.now))) }
-    ensures err { IfErr result (λ e. IsRefusedBy (refusal_of e) (adds top text.now (lines_of head.now))) }
+    ensures ok { IfOk result (λ r. IsPut r (puts (Add top text.entry) (lines_of head.now))) }
+    ensures err { IfErr result (λ e. IsRefusedBy (refusal_of e) (puts (Add top text.entry) (lines_of head.now))) }
 {
     if !one_field(text) {
         return Err(EditError::BadField);
@@ -97,8 +98,8 @@ fn add_place(head: &[u8], top: bool) -> usize
 // Nothing in the place of a field.
 fn put_nothing(alloc: Global, head: &[u8], name: &[u8], k: u32) -> Result<Put, EditError>
     requires { IsRun false (lines_of head.now) }
-    ensures ok { IfOk result (λ r. IsPut r (removes (found_in name.now k (lines_of head.now)))) }
-    ensures err { IfErr result (λ e. IsRefusedBy (refusal_of e) (removes (found_in name.now k (lines_of head.now)))) }
+    ensures ok { IfOk result (λ r. IsPut r (puts (Remove name.entry k) (lines_of head.now))) }
+    ensures err { IfErr result (λ e. IsRefusedBy (refusal_of e) (puts (Remove name.entry k) (lines_of head.now))) }
 {
     match find(head, name, k) {
         Some((from, field)) => Ok(Put {
@@ -114,8 +115,8 @@ fn put_nothing(alloc: Global, head: &[u8], name: &[u8], k: u32) -> Result<Put, E
 // A field start under another name, in the place of the old one.
 fn put_name(alloc: Global, head: &[u8], name: &[u8], k: u32, to: &[u8]) -> Result<Put, EditError>
     requires { IsRun false (lines_of head.now) }
-    ensures ok { IfOk result (λ r. IsPut r (renames to.now (found_in name.now k (lines_of head.now)))) }
-    ensures err { IfErr result (λ e. IsRefusedBy (refusal_of e) (renames to.now (found_in name.now k (lines_of head.now)))) }
+    ensures ok { IfOk result (λ r. IsPut r (puts (Rename name.entry k to.entry) (lines_of head.now))) }
+    ensures err { IfErr result (λ e. IsRefusedBy (refusal_of e) (puts (Rename name.entry k to.entry) (lines_of head.now))) }
 {
     match find(head, name, k) {
         Some((from, field)) => {
@@ -149,8 +150,8 @@ fn after_name<'a>(field: &Field<'a>) -> &'a [u8]
 // A field in the place of another.
 fn put_other(alloc: Global, head: &[u8], name: &[u8], k: u32, text: &[u8]) -> Result<Put, EditError>
     requires { IsRun false (lines_of head.now) }
-    ensures ok { IfOk result (λ r. IsPut r (sets text.now (found_in name.now k (lines_of head.now)))) }
-    ensures err { IfErr result (λ e. IsRefusedBy (refusal_of e) (sets text.now (found_in name.now k (lines_of head.now)))) }
+    ensures ok { IfOk result (λ r. IsPut r (puts (Set name.entry k text.entry) (lines_of head.now))) }
+    ensures err { IfErr result (λ e. IsRefusedBy (refusal_of e) (puts (Set name.entry k text.entry) (lines_of head.now))) }
 {
     match find(head, name, k) {
         Some((from, field)) => {

@@ -5,11 +5,10 @@ ghost use Rattle.mk_tree.specs.Documents.{tree};
 ghost use Rattle.mk_tree.specs.Sections.{root_of, section_at};
 ghost use Rattle.mk_decide.specs.Answers.{refusal_of, IsRefusedBy};
 ghost use Rattle.mk_decide.specs.Around.{hit_below};
-ghost use Rattle.mk_decide.specs.Decided.{IsDecided};
+ghost use Rattle.mk_decide.specs.LocalAnswers.{IsDecided, after_first, plain_splice};
 ghost use Rattle.mk_decide.specs.Edits.{InsertPart, RemovePart};
-ghost use Rattle.mk_decide.specs.LocalAnswers.{after_first, plain_splice};
-ghost use Rattle.mk_decide.specs.Outcomes.{edited, has_mark as have_mark, or_own};
-ghost use Rattle.mk_decide.specs.SectionAnswers.{ends_at_delimiter as ends_at, gap_at, insertion_answer, insertion_at, last_number, outer_path, part_bytes, removal, removal_answer, removal_from};
+ghost use Rattle.mk_decide.specs.Outcomes.{edited, has_mark as have_mark};
+ghost use Rattle.mk_decide.specs.SectionAnswers.{or_own, ends_at_delimiter as ends_at, gap_at, insertion_answer, insertion_at, last_number, outer_path, part_bytes, removal, removal_answer, removal_from};
 
 use crate::around::{has_mark, hit_level};
 use crate::deciding::Replacement;

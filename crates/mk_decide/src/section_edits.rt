@@ -5,9 +5,8 @@ ghost use Rattle.mk_line.specs.Views.{line_of};
 ghost use Rattle.mk_tree.specs.Documents.{tree};
 ghost use Rattle.mk_tree.specs.Sections.{section_at, raw_of, body_text};
 ghost use Rattle.mk_decide.specs.Answers.{refusal_of, IsRefusedBy};
-ghost use Rattle.mk_decide.specs.Decided.{IsDecided};
+ghost use Rattle.mk_decide.specs.LocalAnswers.{IsDecided, after_first, plain_splice};
 ghost use Rattle.mk_decide.specs.Edits.{SetBody, SetSection};
-ghost use Rattle.mk_decide.specs.LocalAnswers.{after_first, plain_splice};
 ghost use Rattle.mk_decide.specs.Outcomes.{edited};
 ghost use Rattle.mk_decide.specs.SectionAnswers.{begins_well, body_answer, body_bytes, body_place, leaf_answer, outer_path, runs_on as may_run_on, section_answer, separator_bytes, stays as may_stay, stays_after as may_stay_after};
 

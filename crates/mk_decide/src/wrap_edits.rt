@@ -5,9 +5,8 @@ ghost use Rattle.mk_tree.specs.Documents.{tree};
 ghost use Rattle.mk_tree.specs.Sections.{body_text, head_text, raw_of, section_at};
 ghost use Rattle.mk_decide.specs.Answers.{refusal_of, IsRefusedBy};
 ghost use Rattle.mk_decide.specs.Counts.{edit_lines};
-ghost use Rattle.mk_decide.specs.Decided.{IsDecided};
+ghost use Rattle.mk_decide.specs.LocalAnswers.{IsDecided, after_first, plain_splice};
 ghost use Rattle.mk_decide.specs.Edits.{Wrap};
-ghost use Rattle.mk_decide.specs.LocalAnswers.{after_first, plain_splice};
 ghost use Rattle.mk_decide.specs.Outcomes.{edited};
 ghost use Rattle.mk_decide.specs.WrapAnswers.{close_bytes, content_part, delimiter_bytes, other_part, separator_text, type_bytes, version_bytes, ends_in_cr as ends_in_return, fits_below as fit_below, fits_levels as fit_in_levels, keeps_wrapped as keeps_when_wrapped, makes_digest as make_digest, may_end as may_get_end, wrap_answer, wrap_fits, wrap_in, wrap_looked, wrap_opens};
 

@@ -6,8 +6,8 @@ ghost use Rattle.mk_line.specs.Views.{line_of};
 ghost use Rattle.mk_head.specs.Values.{lowered};
 ghost use Rattle.mk_tree.specs.Sections.{body_text, head_text, raw_of};
 ghost use Rattle.mk_decide.specs.FieldEdits.{starts_named};
-ghost use Rattle.mk_decide.specs.WrapAnswers.{close_bytes, content_part, delimiter_bytes, end_part, gains_end as may_gain_end, is_leaf as is_leaf_entity, other_part, separator_part, separator_text, type_bytes, version_bytes};
-ghost use Rattle.mk_decide.specs.Wrapping.{is_content_line as is_line_of_content, names_field};
+ghost use Rattle.mk_decide.specs.WrapAnswers.{close_bytes, content_part, delimiter_bytes, end_part, gains_end as may_gain_end, is_leaf as is_leaf_entity, other_part, separator_part, separator_text, type_bytes, version_bytes, names_field};
+ghost use Rattle.mk_decide.specs.Wrapping.{is_content_line as is_line_of_content};
 
 use mk_head::push_multipart_type;
 use mk_line::{Ending, Line, cut, eol_of, name_len, push_close, push_delimiter};

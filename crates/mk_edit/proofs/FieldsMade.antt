@@ -5,8 +5,7 @@ use Rattle.mk_splice.specs.Splices.{spliced}
 use Rattle.mk_tree.specs.Splicing.{ChangesFields}
 use Rattle.mk_tree.proofs.Kept.{text_kept}
 use Rattle.mk_decide.specs.Edits.{PlainEdit, AddField, RemoveField, RenameField, SetField, SetBody, SetSection, InsertPart, RemovePart, Wrap, path_of}
-use Rattle.mk_decide.specs.LocalAnswers.{PlainSplice}
-use Rattle.mk_decide.specs.Decided.{IsDecided}
+use Rattle.mk_decide.specs.LocalAnswers.{PlainSplice, IsDecided}
 
 abbrev pub IsOfFields : PlainEdit → Type 0
 IsOfFields (AddField path top text) = Unit {0}

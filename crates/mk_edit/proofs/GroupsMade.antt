@@ -4,18 +4,16 @@ use Rattle.std.proofs.lemmas.List.{drop_more}
 use Rattle.mk_tree.specs.Documents.{tree}
 use Rattle.mk_splice.specs.Splices.{spliced, Splice, forth_one, forth_step, GoesForth}
 use Rattle.mk_decide.specs.Answers.{IsRefusedBy}
-use Rattle.mk_decide.specs.Decided.{IsDecided}
+use Rattle.mk_decide.specs.LocalAnswers.{IsDecided, PlainSplice}
 use Rattle.mk_decide.specs.Edits.{PlainEdit, Refusal, Member}
 use Rattle.mk_decide.specs.EditSplices.{splices_of}
 use Rattle.mk_edit.specs.Groups.{Together, following, made_on, together}
 use Rattle.mk_edit.specs.History.{History}
 use Rattle.mk_edit.specs.Histories.{grouped_by}
-use Rattle.mk_decide.specs.LocalAnswers.{PlainSplice}
 use Rattle.mk_edit.specs.Made.{IsMade}
 use Rattle.mk_decide.specs.Outcomes.{edited}
 use Rattle.mk_decide.proofs.EditsLead.{edits_read_back_lem}
-use Rattle.mk_splice.proofs.Bytes.{forth_append}
-use Rattle.mk_splice.proofs.Bytes.{copied_stands}
+use Rattle.mk_splice.proofs.Bytes.{forth_append, copied_stands}
 
 -- an accepted edit, once its bytes are in place
 pub made_so : (e : PlainEdit) (x y : List ℕ) (r : PlainSplice) (old : List ℕ) → IsDecided e x r → old ≡ take r.count (drop r.place x) → y ≡ spliced r.place r.count r.new x → IsMade e x (record { place = r.place; old = old; new = r.new }) y

@@ -9,7 +9,8 @@ use Rattle.mk_decide.specs.EditSplices.{splices_of}
 use Rattle.mk_splice.specs.Splices.{Splice, LeadsTo}
 use Rattle.mk_edit.specs.Groups.{Together, together}
 use Rattle.mk_edit.specs.History.{History}
-use Rattle.mk_edit.specs.Histories.{AreLinked, IsHistory, text_now, with_step, edited_by, grouped_by, after, after_all}
+use Rattle.mk_edit.specs.Histories.{AreLinked, IsHistory, text_now, with_step, edited_by, grouped_by, after_all}
+use Rattle.mk_edit.proofs.HistoryNames.{after}
 use Rattle.std.specs.Result.{result_unwrap_or}
 use Rattle.mk_edit.specs.Laws.{HistoriesStay, TextsStart}
 use Rattle.mk_decide.proofs.EditsLead.{splices_lead_lem}

@@ -1,3 +1,5 @@
+pub mod PutNames
+pub mod HistoryNames
 pub mod OneEdit
 pub mod Steps
 pub mod Moves

@@ -1,16 +1,15 @@
 -- Steps in memory: what a session's fields are when it goes back, forth, or takes one more.
-use Rattle.std.proofs.Common.{◌≡◌, ◌+◌, ◌-◌, ◌≤◌, ◌<◌, ◌++◌, ℕ, suc, zero, Option, None, Some, Result, Ok, Err, List, [], ◌∷◌, refl, ap, sym, ◌∙◌, subst, length, take, drop, map, get_or, arith}
+use Rattle.std.proofs.Common.{IsOk, ◌≡◌, ◌+◌, ◌-◌, ◌≤◌, ◌<◌, ◌++◌, ℕ, suc, zero, Option, None, Some, Result, Ok, Err, List, [], ◌∷◌, refl, ap, sym, ◌∙◌, subst, length, take, drop, map, get_or, arith}
 use Rattle.std.proofs.lemmas.List.{length-map, map-append}
 use Rattle.std.proofs.lemmas.Bool.{lt-ltb}
 use Rattle.std.specs.Global.{Vec}
 use Rattle.mk_splice.specs.declared.splicing.Splice.{Splice as SpliceIn}
 use Rattle.mk_tree.specs.Documents.{Document, tree, printed}
-use Rattle.mk_decide.specs.Answers.{IsAccepted, IsRefusedBy}
+use Rattle.mk_decide.specs.Answers.{IsRefusedBy}
 use Rattle.mk_decide.specs.Counts.{edit_lines}
-use Rattle.mk_decide.specs.Decided.{IsDecided}
+use Rattle.mk_decide.specs.LocalAnswers.{IsDecided, PlainSplice}
 use Rattle.mk_decide.specs.Edits.{PlainEdit, Refusal, Do, Undo, Redo}
 use Rattle.mk_decide.specs.EditSplices.{splices_of}
-use Rattle.mk_decide.specs.LocalAnswers.{PlainSplice}
 use Rattle.mk_decide.specs.Outcomes.{edited}
 use Rattle.mk_splice.specs.Splices.{Splice, Stands, back_step, forth_step, GoesBack, GoesForth, spliced}
 use Rattle.mk_edit.specs.History.{History, history_of}
@@ -113,8 +112,8 @@ step_accepted e h g r d m =
     ∙ (ap (λ y. Ok (with_step h y (record { place = r.place; old = take r.count (drop r.place (text_now h)); new = r.new } ∷ []))) d.printed_so ∙ ap (λ k. Ok k) (sym m)))
 
 -- what a decision says of the answer
-pub is_accepted : (r : Result Document Refusal) (t : Document) → r ≡ Ok t → IsAccepted r
-is_accepted (Ok s) t h = tt
+pub is_accepted : (r : Result Document Refusal) (t : Document) → r ≡ Ok t → IsOk r
+is_accepted (Ok s) t h = refl
 is_accepted (Err f) t h = cc
 
 pub refused_at : (e : PlainEdit) (x y : List ℕ) (o : Option Refusal) → x ≡ y → IsRefusedBy o (edited e (tree x)) → IsRefusedBy o (edited e (tree y))

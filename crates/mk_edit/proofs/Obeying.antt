@@ -5,7 +5,8 @@ use Rattle.mk_edit.specs.declared.replies.Reply.{Reply}
 use Rattle.mk_edit.specs.Answers.{reply_of}
 use Rattle.mk_decide.specs.Edits.{Order, Refusal}
 use Rattle.mk_edit.specs.History.{History}
-use Rattle.mk_edit.specs.Histories.{step, after, after_all, replies}
+use Rattle.mk_edit.specs.Histories.{step, after_all, replies}
+use Rattle.mk_edit.proofs.HistoryNames.{after}
 use Rattle.std.specs.Result.{result_err}
 
 -- one order more

@@ -16,7 +16,9 @@ use Rattle.mk_decide.specs.Answers.{IsRefusedBy}
 use Rattle.mk_decide.specs.Edits.{Refusal, BadName}
 use Rattle.mk_line.specs.Kinds.{is_name}
 use Rattle.mk_decide.specs.FieldEdits.{starts_named, Found, found_after, find, field_at, renamed}
-use Rattle.mk_decide.specs.FieldPuts.{LinePut, IsPut, name_put, put_unless, puts, removes, renames}
+use Rattle.mk_decide.specs.FieldPuts.{LinePut, IsPut, name_put, puts}
+use Rattle.mk_decide.proofs.PlanNames.{put_unless}
+use Rattle.mk_edit.proofs.PutNames.{removes, renames}
 use Rattle.mk_edit.specs.RootFields.{IsBehind}
 use Rattle.mk_edit.specs.SilentEdits.{by_option, numbered}
 use Rattle.mk_decide.proofs.FieldPutFacts.{puts_is, puts_fit}

@@ -25,12 +25,11 @@ use Rattle.mk_decide.specs.declared.field_edits.FieldEdit.{FieldEdit}
 use Rattle.mk_decide.specs.declared.field_edits.Put.{Put}
 use Rattle.mk_decide.specs.declared.errors.EditError.{EditError}
 use Rattle.mk_decide.specs.Answers.{refusal_of, IsRefusedBy}
-use Rattle.mk_decide.specs.Decided.{IsDecided}
+use Rattle.mk_decide.specs.LocalAnswers.{IsDecided, PlainSplice, opens_at, fits_at, unless_recut, unless_held, answer_puts, answer}
 use Rattle.mk_decide.specs.Edits.{Refusal, OpenLine}
 use Rattle.mk_decide.specs.FieldPuts.{LinePut, PutsLines, IsPut, puts, plain_of}
 use Rattle.mk_decide.specs.KindsKept.{keeps_kinds}
 use Rattle.mk_decide.specs.Local.{IsAlike, AreKept, parts_of}
-use Rattle.mk_decide.specs.LocalAnswers.{PlainSplice, opens_at, fits_at, unless_recut, unless_held, answer_puts, answer}
 use Rattle.mk_decide.specs.Looks.{has_separator, ends_there}
 use Rattle.mk_edit.specs.Made.{IsMade}
 use Rattle.mk_decide.specs.Outcomes.{edited}

@@ -2,7 +2,8 @@
 use Rattle.std.proofs.Common.{◌≡◌, ◌≤◌, ℕ, suc, zero, List, [], ◌∷◌, refl, ap, sym, ◌∙◌, subst, length, take, drop, get_or, arith}
 use Rattle.mk_splice.specs.Splices.{Splice, back_step, GoesBack}
 use Rattle.mk_splice.specs.Fits.{back_all, AllBack, AllForth, Fit}
-use Rattle.mk_edit.specs.History.{History, texts_after, texts_from, history_of}
+use Rattle.mk_edit.specs.History.{History, texts_after, history_of}
+use Rattle.mk_edit.proofs.Steps.{texts_from}
 use Rattle.mk_edit.specs.Histories.{AreLinked, IsHistory, text_now}
 
 -- linked texts are what the steps make of the first

@@ -16,7 +16,9 @@ use Rattle.mk_decide.specs.declared.field_edits.FieldEdit.TheVariants.{Add, Remo
 use Rattle.mk_decide.specs.Edits.{Refusal, BadName}
 use Rattle.mk_line.specs.Kinds.{is_name}
 use Rattle.mk_decide.specs.FieldEdits.{starts_named, Found, found_after, find, field_at, renamed}
-use Rattle.mk_decide.specs.FieldPuts.{LinePut, name_put, put_unless, puts, removes, renames}
+use Rattle.mk_decide.specs.FieldPuts.{LinePut, name_put, puts}
+use Rattle.mk_edit.proofs.PutNames.{removes, renames}
+use Rattle.mk_decide.proofs.PlanNames.{put_unless}
 use Rattle.mk_edit.specs.declared.silent_edits.SilentEdit.{SilentEdit}
 use Rattle.mk_edit.specs.SilentEdits.{are_same, is_silent, by_option, numbered, IsSilent}
 use Rattle.mk_decide.proofs.Counting.{names_lem}

@@ -4,7 +4,7 @@ use Rattle.std.proofs.lemmas.List.{take_at, drop_at, length-take-le, take-append
 use Rattle.mk_splice.specs.Splices.{Splice, forth_step, back_step, GoesForth, GoesBack}
 use Rattle.mk_edit.specs.Histories.{AreLinked, IsHistory, text_now, with_step}
 use Rattle.mk_splice.specs.Fits.{back_all, forth_all, AllBack, AllForth, Fit}
-use Rattle.mk_edit.specs.History.{texts_after, texts_from, history_of}
+use Rattle.mk_edit.specs.History.{texts_after, history_of}
 use Rattle.mk_splice.proofs.Bytes.{back_forth, forth_back, leads_to}
 
 -- one step more at the end
@@ -33,6 +33,10 @@ all_forth_back (s ∷ ss) x h =
 pub AllForth-join : (ss rs : List (List Splice)) (x : List ℕ) → AllForth ss x → AllForth rs (forth_all ss x) → AllForth (ss ++ rs) x
 AllForth-join [] rs x h g = g
 AllForth-join (s ∷ ss) rs x h g = (h.0, AllForth-join ss rs (forth_step s x) h.1 g)
+
+-- the first text and those that steps give
+abbrev pub texts_from : List ℕ → List (List Splice) → List (List ℕ)
+texts_from x ss = x ∷ texts_after x ss
 
 -- the text at a place is what the steps before it make
 pub text_at : (n : ℕ) (t : List ℕ) (ss : List (List Splice)) → n ≤ length ss → get_or (texts_from t ss) n [] ≡ forth_all (take n ss) t

@@ -1,5 +1,5 @@
 -- Undoing all that is done, and redoing all of it.
-use Rattle.std.proofs.Common.{◌≡◌, ◌+◌, ◌-◌, ◌≤◌, ◌<◌, ◌++◌, ℕ, suc, zero, Bool, true, false, nat_lt, if◌then◌else◌, Some, Result, Ok, Err, List, [], ◌∷◌, refl, ap, sym, ◌∙◌, length, take, get_or, arith, length-append}
+use Rattle.std.proofs.Common.{option_and_then, ◌≡◌, ◌+◌, ◌-◌, ◌≤◌, ◌<◌, ◌++◌, ℕ, suc, zero, Bool, true, false, nat_lt, if◌then◌else◌, Some, Result, Ok, Err, List, [], ◌∷◌, refl, ap, sym, ◌∙◌, length, take, get_or, arith, length-append}
 use Rattle.std.proofs.lemmas.Bool.{lt-ltb, ltb-true}
 use Rattle.std.proofs.lemmas.List.{length-take-le}
 use Rattle.mk_tree.specs.Documents.{Document, tree, printed}
@@ -9,8 +9,9 @@ use Rattle.mk_decide.specs.EditSplices.{splices_of}
 use Rattle.mk_edit.specs.Groups.{Together, together}
 use Rattle.mk_splice.specs.Splices.{Splice}
 use Rattle.mk_edit.specs.History.{History}
-use Rattle.mk_edit.specs.Histories.{AreLinked, IsHistory, first_text, text_now, with_step, edited_by, grouped_by, step, after, after_all, next_by, repeated}
-use Rattle.std.specs.Result.{result_unwrap_or}
+use Rattle.mk_edit.specs.Histories.{AreLinked, IsHistory, first_text, text_now, with_step, edited_by, grouped_by, step, after_all, repeated}
+use Rattle.mk_edit.proofs.HistoryNames.{after}
+use Rattle.std.specs.Result.{result_ok, result_unwrap_or}
 use Rattle.mk_edit.specs.Laws.{Restores, UndoingRestores}
 
 -- a history at another place
@@ -25,7 +26,7 @@ undo_one texts steps n = rw (lt-ltb 0 (suc n) (omega arith)) (ap (λ p. Ok (at t
 
 pub undo_all : (texts : List (List ℕ)) (steps : List (List Splice)) (n : ℕ) → repeated n Undo (at texts steps n) ≡ Some (at texts steps 0)
 undo_all texts steps zero = refl
-undo_all texts steps (suc n) = ap (next_by (repeated n Undo)) (undo_one texts steps n) ∙ undo_all texts steps n
+undo_all texts steps (suc n) = ap (λ r. option_and_then (repeated n Undo) (result_ok r)) (undo_one texts steps n) ∙ undo_all texts steps n
 
 redo_one : (texts : List (List ℕ)) (steps : List (List Splice)) (k : ℕ) → k < length steps → step Redo (at texts steps k) ≡ Ok (at texts steps (k + 1))
 redo_one texts steps k h = rw (lt-ltb k (length steps) h) refl
@@ -35,7 +36,7 @@ same_place k m e = omega (arith, e)
 
 pub redo_all : (texts : List (List ℕ)) (steps : List (List Splice)) (n k m : ℕ) → m ≡ n + k → m ≤ length steps → repeated n Redo (at texts steps k) ≡ Some (at texts steps m)
 redo_all texts steps zero k m e h = ap (λ p. Some (at texts steps p)) (same_place k m e)
-redo_all texts steps (suc n) k m e h = ap (next_by (repeated n Redo)) (redo_one texts steps k (omega (arith, e, h))) ∙ redo_all texts steps n (k + 1) m (omega (arith, e)) h
+redo_all texts steps (suc n) k m e h = ap (λ r. option_and_then (repeated n Redo) (result_ok r)) (redo_one texts steps k (omega (arith, e, h))) ∙ redo_all texts steps n (k + 1) m (omega (arith, e)) h
 
 -- what every history keeps that begins with a text
 pub record Begun (text : List ℕ) (h : History) : Type 0 where

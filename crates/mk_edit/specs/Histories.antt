@@ -1,6 +1,6 @@
 -- What edits, undoing and redoing make of a history (own).
-use Rattle.std.specs.Result.{result_err, result_unwrap_or}
-use Rattle.std.specs.Prelude.{◌≡◌, ◌+◌, ◌-◌, ◌≤◌, ◌++◌, if◌then◌else◌, ℕ, Option, None, Some, Result, Ok, Err, List, [], ◌∷◌, length, take, slice_index_or, nat_lt, suc, zero}
+use Rattle.std.specs.Result.{result_err, result_ok, result_unwrap_or}
+use Rattle.std.specs.Prelude.{◌≡◌, ◌+◌, ◌-◌, ◌≤◌, ◌++◌, if◌then◌else◌, ℕ, Option, option_and_then, None, Some, Result, Ok, Err, List, [], ◌∷◌, length, take, slice_index_or, nat_lt, suc, zero}
 use Rattle.mk_tree.specs.Documents.{Document, tree, printed}
 use Rattle.mk_decide.specs.Edits.{Order, Do, Group, Undo, Redo, Refusal, NothingToUndo, NothingToRedo, Member}
 use Rattle.mk_decide.specs.Outcomes.{edited}
@@ -57,26 +57,17 @@ step (Group es) h = grouped_by h (together es (tree (text_now h)))
 step Undo h = if nat_lt 0 h.place then Ok (record h { place = h.place - 1 }) else Err NothingToUndo
 step Redo h = if nat_lt h.place (length h.steps) then Ok (record h { place = h.place + 1 }) else Err NothingToRedo
 
--- what an order leaves
-abbrev pub after : Order → History → History
-after o h = result_unwrap_or (step o h) h
-
 -- what is answered to orders, one after another, and what they leave
 abbrev pub replies : List Order → History → List (Option Refusal)
 replies [] h = []
-replies (o ∷ os) h = result_err (step o h) ∷ replies os (after o h)
+replies (o ∷ os) h = result_err (step o h) ∷ replies os (result_unwrap_or (step o h) h)
 
 -- what orders leave, one after another
 abbrev pub after_all : List Order → History → History
 after_all [] h = h
-after_all (o ∷ os) h = after_all os (after o h)
-
--- what follows from the history that an order left; nothing where it was refused
-abbrev pub next_by : (History → Option History) → Result History Refusal → Option History
-next_by f (Ok h) = f h
-next_by f (Err e) = None
+after_all (o ∷ os) h = after_all os (result_unwrap_or (step o h) h)
 
 -- the history after an order given so often; nothing where it is refused on the way
 abbrev pub repeated : ℕ → Order → History → Option History
 repeated zero o h = Some h
-repeated (suc n) o h = next_by (repeated n o) (step o h)
+repeated (suc n) o h = option_and_then (repeated n o) (result_ok (step o h))

@@ -14,10 +14,6 @@ abbrev pub texts_after : List ℕ → List (List Splice) → List (List ℕ)
 texts_after x [] = []
 texts_after x (s ∷ ss) = forth_step s x ∷ texts_after (forth_step s x) ss
 
--- the same with the first text
-abbrev pub texts_from : List ℕ → List (List Splice) → List (List ℕ)
-texts_from x ss = x ∷ texts_after x ss
-
 -- the history of a text and steps of which so many are done
 abbrev pub history_of : List ℕ → List (List Splice) → ℕ → History
-history_of x ss done = record { texts = texts_from (back_all (take done ss) x) ss; steps = ss; place = done }
+history_of x ss done = let first = back_all (take done ss) x in record { texts = first ∷ texts_after first ss; steps = ss; place = done }

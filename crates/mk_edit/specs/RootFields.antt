@@ -9,10 +9,9 @@ use Rattle.mk_tree.specs.Sections.{Placed, head_text, root_of}
 use Rattle.mk_tree.specs.Spans.{size}
 use Rattle.mk_splice.specs.Splices.{spliced}
 use Rattle.mk_edit.specs.declared.silent_edits.SilentEdit.{SilentEdit}
-use Rattle.mk_decide.specs.Decided.{IsDecided}
+use Rattle.mk_decide.specs.LocalAnswers.{IsDecided, PlainSplice}
 use Rattle.mk_decide.specs.FieldEdits.{starts_named}
 use Rattle.mk_decide.specs.FieldPuts.{plain_of}
-use Rattle.mk_decide.specs.LocalAnswers.{PlainSplice}
 use Rattle.mk_decide.specs.Looks.{has_separator}
 use Rattle.mk_edit.specs.inner.FieldNames.{BeginsField, IsKnown}
 use Rattle.mk_edit.specs.SilentEdits.{numbered}

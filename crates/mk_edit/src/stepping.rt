@@ -4,7 +4,7 @@ ghost use Rattle.mk_tree.specs.ChangeViews.{ChangesTo};
 ghost use Rattle.mk_tree.specs.Documents.{tree};
 ghost use Rattle.mk_splice.specs.Splices.{spliced};
 ghost use Rattle.mk_decide.specs.Answers.{refusal_of, IsRefusedBy};
-ghost use Rattle.mk_decide.specs.Decided.{IsDecided};
+ghost use Rattle.mk_decide.specs.LocalAnswers.{IsDecided};
 ghost use Rattle.mk_decide.specs.Edits.{path_of};
 ghost use Rattle.mk_edit.specs.Made.{IsMade};
 ghost use Rattle.mk_decide.specs.Outcomes.{edited};

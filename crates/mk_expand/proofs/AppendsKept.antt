@@ -11,7 +11,8 @@ use Rattle.mk_head.specs.Split.{Head, head_lines}
 use Rattle.mk_head.specs.Fields.{counted}
 use Rattle.mk_tree.specs.Documents.{Document, IsStable, document_lines, levels, tree}
 use Rattle.mk_tree.specs.Places.{Frame, in_multi, append_parts, default_at, left_at, part_at, place_at, placed, plug, put}
-use Rattle.mk_tree.specs.Sections.{Placed, children, has_part, has_tail, parts_placed, raw_of, section_at}
+use Rattle.mk_tree.specs.Sections.{Placed, children, has_part, parts_placed, raw_of, section_at}
+use Rattle.mk_tree.proofs.TreeNames.{has_tail}
 use Rattle.mk_tree.specs.Spans.{digest_below, size}
 use Rattle.mk_tree.specs.Tree.{Entity, leaf, message, multi, Parts, no_parts, part, print, read}
 use Rattle.mk_tree.proofs.FieldsChanged.{stable_well}
@@ -22,7 +23,8 @@ use Rattle.mk_tree.proofs.WellRead.{well_read}
 use Rattle.mk_decide.specs.Edits.{InsertPart, SetSection}
 use Rattle.mk_decide.specs.EditLaws.{IsLeaf}
 use Rattle.mk_decide.specs.Outcomes.{edited}
-use Rattle.mk_decide.specs.Plans.{Plan, insert_between, part_plan, part_read, parts_at, place_of, plan_of, read_plan}
+use Rattle.mk_decide.specs.Plans.{Plan, part_plan, parts_at, place_of, plan_of}
+use Rattle.mk_decide.proofs.PlanNames.{insert_between, part_read, read_plan}
 use Rattle.mk_decide.proofs.Accepted.{none_some, ok_same, plan_by, some_same, there_again}
 use Rattle.mk_decide.proofs.EveryEdit.{plan_there}
 use Rattle.mk_decide.proofs.FieldFits.{entity_are}
@@ -33,7 +35,7 @@ use Rattle.mk_view.specs.Extracts.{IsExtract}
 use Rattle.mk_expand.specs.Appends.{appended, divided_at, last_divided}
 use Rattle.mk_view.specs.Listed.{greatest_number}
 use Rattle.mk_expand.specs.Contents.{divided}
-use Rattle.mk_expand.specs.ExpandLaws.{AppendsKeepContents, IsMultipart, all_edited}
+use Rattle.mk_expand.specs.ExpandLaws.{IsMultipart, all_edited}
 use Rattle.mk_expand.proofs.EncodingsKept.{in_turn, last_edit}
 use Rattle.mk_build.proofs.EndedTexts.{Grows}
 use Rattle.mk_expand.proofs.GrownTexts.{grown_divided}
@@ -294,6 +296,6 @@ there_told eol path text mail other bytes u p q (Some r) n there is m few done a
     multi_told eol path text mail other bytes u r.0 r.1 q n there (subst (λ (x : Placed). IsMultipart x.entity) (sym same) m) (subst (λ x. length (children x) ≤ greatest_number) (sym same) few)
     (ap (λ x. all_edited (appended eol path text x) t) same ∙ done) at leaf_at extract
 
-pub appends_kept : AppendsKeepContents
+pub appends_kept : (eol : Ending) (path text mail other bytes : List ℕ) (u : Document) (p q : Placed) → eol ≢ Missing → section_at path (tree mail) ≡ Some p → IsMultipart p.entity → length (children p) ≤ greatest_number → all_edited (appended eol path text p) (tree mail) ≡ Ok u → section_at other (tree mail) ≡ Some q → IsLeaf q.entity → IsExtract (Some q) bytes → IsExtract (section_at other u) bytes
 appends_kept eol path text mail other bytes u p q n found m few done at leaf_at extract =
     there_told eol path text mail other bytes u p q (place_of path (tree mail).root) n refl (sym (section_there path (tree mail)) ∙ found) m few done at leaf_at extract

@@ -22,7 +22,8 @@ use Rattle.mk_tree.proofs.Endings.{ended_crlf, ended_lf}
 use Rattle.mk_decide.specs.Edits.{PlainEdit, SetBody}
 use Rattle.mk_decide.specs.EditLaws.{IsLeaf}
 use Rattle.mk_decide.specs.Outcomes.{edited}
-use Rattle.mk_decide.specs.Plans.{body_plan, place_of, plan_of, planned}
+use Rattle.mk_decide.specs.Plans.{place_of, plan_of, planned}
+use Rattle.mk_decide.proofs.PlanNames.{body_plan}
 use Rattle.mk_decide.proofs.Accepted.{none_some, ok_same, plan_by, some_same}
 use Rattle.mk_decide.proofs.EveryEdit.{plan_there}
 use Rattle.mk_decide.proofs.Late.{fair}
@@ -32,7 +33,6 @@ use Rattle.mk_view.specs.Extracts.{IsExtract}
 use Rattle.mk_view.specs.Listing.{encoding_in, type_of}
 use Rattle.mk_expand.specs.Charsets.{may_hold}
 use Rattle.mk_expand.specs.Contents.{body_with, encoded_in}
-use Rattle.mk_expand.specs.ExpandLaws.{ContentsAreGivenBack}
 use Rattle.mk_expand.specs.Meanings.{Meaning, BadCharset, UnknownEncoding}
 use Rattle.mk_expand.specs.Words.{body_set, content_set}
 
@@ -107,6 +107,6 @@ back_there eol path bytes t u p e (Some q) n small there is l m done =
     let same : placed t.envelope q.0 q.1 ≡ p = some_same (placed t.envelope q.0 q.1) p is in
     back_leaf eol path bytes t u q.0 q.1 e n small there (subst (λ (x : Placed). IsLeaf x.entity) (sym same) l) (ap (λ x. content_set eol path bytes (Some x)) same ∙ m) done
 
-pub contents_back : ContentsAreGivenBack
+pub contents_back : (eol : Ending) (path bytes : List ℕ) (t u : Document) (p : Placed) (e : PlainEdit) → eol ≢ Missing → IsBytes bytes → section_at path t ≡ Some p → IsLeaf p.entity → content_set eol path bytes (Some p) ≡ Ok (e ∷ []) → edited e t ≡ Ok u → IsExtract (section_at path u) bytes
 contents_back eol path bytes t u p e n small there l m done =
     back_there eol path bytes t u p e (place_of path t.root) n small refl (sym (section_there path t) ∙ there) l m done

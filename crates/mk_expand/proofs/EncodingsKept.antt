@@ -19,7 +19,8 @@ use Rattle.mk_decide.specs.Edits.{PlainEdit, AddField, RemoveField, SetField, Se
 use Rattle.mk_decide.specs.EditLaws.{IsLeaf}
 use Rattle.mk_decide.specs.FieldEdits.{Found, field_at, find, starts_named}
 use Rattle.mk_decide.specs.Outcomes.{edited}
-use Rattle.mk_decide.specs.Plans.{Plan, add_plan, change_plan, drop_plan, fields_plan, place_of, plan_of, planned, unless, with_field}
+use Rattle.mk_decide.specs.Plans.{Plan, fields_plan, place_of, plan_of, planned, unless}
+use Rattle.mk_decide.proofs.PlanNames.{add_plan, change_plan, drop_plan, with_field}
 use Rattle.mk_decide.proofs.Accepted.{found_ok, none_some, ok_same, plan_by, some_same, there_again, unless_ok}
 use Rattle.mk_decide.proofs.EveryEdit.{plan_there}
 use Rattle.mk_decide.proofs.Late.{fair}
@@ -30,7 +31,7 @@ use Rattle.mk_script.specs.declared.script.ChosenEncoding.{ChosenEncoding}
 use Rattle.mk_script.specs.declared.script.ChosenEncoding.TheVariants.{Qp as ToQp, QuotedPrintable, Base64 as ToBase64, EightBit, Identity as ToIdentity}
 use Rattle.mk_expand.specs.Contents.{body_with, encoded_in}
 use Rattle.mk_expand.specs.Encodings.{encoded_as, encoding_field, encoding_set, encoding_value, may_be_encoded, recoded, recoded_to}
-use Rattle.mk_expand.specs.ExpandLaws.{EncodingsKeepContents, all_edited}
+use Rattle.mk_expand.specs.ExpandLaws.{all_edited}
 use Rattle.mk_line.specs.Results.{made_of}
 use Rattle.mk_expand.specs.FieldWords.{name_in, put, put_over, those}
 use Rattle.mk_expand.specs.Meanings.{Meaning, BinaryContent}
@@ -224,6 +225,6 @@ kept_there eol path bytes to t u p es (Some q) n small there is l content set do
     let same : placed t.envelope q.0 q.1 ≡ p = some_same (placed t.envelope q.0 q.1) p is in
     kept_leaf eol path bytes to t u q.0 q.1 es n small there (subst (λ (x : Placed). IsLeaf x.entity) (sym same) l) (subst (λ x. IsExtract (Some x) bytes) (sym same) content) (ap (λ x. encoding_set eol path to (Some x)) same ∙ set) done
 
-pub encodings_kept : EncodingsKeepContents
+pub encodings_kept : (eol : Ending) (path bytes : List ℕ) (to : ChosenEncoding) (t u : Document) (p : Placed) (es : List PlainEdit) → eol ≢ Missing → IsBytes bytes → section_at path t ≡ Some p → IsLeaf p.entity → IsExtract (Some p) bytes → encoding_set eol path to (Some p) ≡ Ok es → all_edited es t ≡ Ok u → IsExtract (section_at path u) bytes
 encodings_kept eol path bytes to t u p es n small there l content set done =
     kept_there eol path bytes to t u p es (place_of path t.root) n small refl (sym (section_there path t) ∙ there) l content set done

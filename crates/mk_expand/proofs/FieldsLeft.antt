@@ -16,13 +16,14 @@ use Rattle.mk_tree.specs.Places.{Frame, placed}
 use Rattle.mk_decide.specs.Edits.{PlainEdit, AddField, RemoveField, SetField, Refusal, BadField}
 use Rattle.mk_decide.specs.FieldEdits.{Found, field_at, find, found_after, starts_named}
 use Rattle.mk_decide.specs.Outcomes.{edited}
-use Rattle.mk_decide.specs.Plans.{Plan, add_plan, change_plan, drop_plan, fields_plan, place_of, plan_of, planned, unless}
+use Rattle.mk_decide.specs.Plans.{Plan, fields_plan, place_of, plan_of, planned, unless}
+use Rattle.mk_decide.proofs.PlanNames.{add_plan, change_plan, drop_plan}
 use Rattle.mk_decide.proofs.Accepted.{found_ok, none_some, ok_same, plan_by, some_same, there_again, unless_ok}
 use Rattle.mk_decide.proofs.EveryEdit.{plan_there}
 use Rattle.mk_decide.proofs.Late.{fair}
 use Rattle.mk_decide.proofs.PlacesAgain.{section_there}
 use Rattle.mk_decide.proofs.WrapFields.{start_more}
-use Rattle.mk_expand.specs.ExpandLaws.{DropsLeaveNone, PutsLeaveOne, all_edited}
+use Rattle.mk_expand.specs.ExpandLaws.{all_edited}
 use Rattle.mk_expand.specs.FieldWords.{dropped, first_name, name_in, put, put_over, those}
 use Rattle.mk_expand.proofs.EncodingsKept.{document_same, in_turn}
 use Rattle.mk_expand.proofs.FirstFields.{ended, nil_cons, none_found, same_found}
@@ -277,7 +278,7 @@ drops_there path name t u p (Some q) there is done =
     let same : placed t.envelope q.0 q.1 ≡ p = some_same (placed t.envelope q.0 q.1) p is in
     left_at path name [] u (all_removed path name (those name (placed t.envelope q.0 q.1)) t u (record { around = q.0; section = q.1; there = there; fields = refl }) (ap (λ x. all_edited (dropped path name (Some x)) t) same ∙ done))
 
-pub drops_left : DropsLeaveNone
+pub drops_left : (path name : List ℕ) (t u : Document) (p : Placed) → section_at path t ≡ Some p → all_edited (dropped path name (Some p)) t ≡ Ok u → (q : Placed) × (section_at path u ≡ Some q) × (those name q ≡ [])
 drops_left path name t u p there done = drops_there path name t u p (place_of path t.root) refl (sym (section_there path t) ∙ there) done
 
 -- a field is named as it is
@@ -316,5 +317,5 @@ puts_there path text t u p (l ∷ more) (Some q) line one there is done =
     only : (l : TextLine) (more : List TextLine) → is_start l ≡ true → list_all is_more more ≡ true → fields_of (l ∷ more) ≡ field_text l more ∷ []
     only l more start a = rw start (ap (λ xs. field_text l xs ∷ fields_of more) (ap continuations (sym (append-nil more)) ∙ given_more more [] a refl) ∙ ap (λ xs. field_text l more ∷ xs) (none more a))
 
-pub puts_left : PutsLeaveOne
+pub puts_left : (path text : List ℕ) (t u : Document) (p : Placed) → section_at path t ≡ Some p → is_one_field (cut text) ≡ true → all_edited (put path text (Some p)) t ≡ Ok u → (q : Placed) × (section_at path u ≡ Some q) × (those (name_in text) q ≡ fields_of (cut text))
 puts_left path text t u p there one done = puts_there path text t u p (cut text) (place_of path t.root) refl one refl (sym (section_there path t) ∙ there) done

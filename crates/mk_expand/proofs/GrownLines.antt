@@ -16,7 +16,8 @@ use Rattle.mk_head.specs.Unfolding.{contents}
 use Rattle.std.specs.Prelude.{unwrap_or}
 use Rattle.mk_build.proofs.EndedTexts.{Grows}
 use Rattle.mk_tree.specs.Cutting.{Cut, cut_before, cut_by}
-use Rattle.mk_tree.specs.Sections.{has_tail, unended}
+use Rattle.mk_tree.specs.Sections.{unended}
+use Rattle.mk_tree.proofs.TreeNames.{has_tail}
 
 -- or no lines at all
 abbrev pub GrowsOr : List TextLine → List TextLine → Type 0

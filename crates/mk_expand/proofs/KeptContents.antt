@@ -6,7 +6,8 @@ use Rattle.mk_head.specs.Types.{field_value, header_encoding, type_by}
 use Rattle.std.specs.Option.{option_map_or}
 use Rattle.mk_tree.specs.Cutting.{Cut, cut_by}
 use Rattle.mk_tree.specs.Kinds.{Kind, Leaf, Message, Multi, kind, kind_at, kind_of}
-use Rattle.mk_tree.specs.Sections.{has_part, has_tail}
+use Rattle.mk_tree.specs.Sections.{has_part}
+use Rattle.mk_tree.proofs.TreeNames.{has_tail}
 use Rattle.mk_tree.specs.Tree.{Entity, leaf, message, multi, Parts, no_parts, part, entity_by, parts_by, read}
 use Rattle.mk_expand.proofs.GrownLines.{CutGrows, GrowsOr, PartsGrow, bare, content_by, cut_grows, grown_content, heads_grow_or, same_value}
 use Rattle.mk_head.specs.Encodings.{encoding_of}

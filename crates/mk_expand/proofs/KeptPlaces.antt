@@ -9,7 +9,8 @@ use Rattle.mk_tree.specs.Cutting.{tail_lines}
 use Rattle.mk_tree.specs.Documents.{Document}
 use Rattle.mk_tree.specs.Forms.{kind_in}
 use Rattle.mk_tree.specs.Places.{Frame, in_message, in_multi, append_parts, lines_after, plug}
-use Rattle.mk_tree.specs.Sections.{Placed, children, children_of, content_text, has_part, has_tail, parts_placed, root_of, section_at, section_below}
+use Rattle.mk_tree.specs.Sections.{Placed, children, children_of, content_text, has_part, parts_placed, root_of, section_at, section_below}
+use Rattle.mk_tree.proofs.TreeNames.{has_tail}
 use Rattle.mk_tree.specs.Tree.{Entity, leaf, message, multi, Parts, no_parts, part, print_parts}
 use Rattle.mk_decide.specs.EditLaws.{IsLeaf}
 use Rattle.mk_view.specs.Extracts.{IsContentBy, IsExtract}

@@ -10,10 +10,12 @@ use Rattle.mk_line.specs.Marks.{delimiter_line, mark}
 use Rattle.mk_line.proofs.Cuts.{text_append}
 use Rattle.mk_head.specs.Split.{Head, head_lines}
 use Rattle.mk_head.specs.Fields.{counted}
-use Rattle.mk_tree.specs.Cutting.{Closes, tail_lines}
+use Rattle.mk_tree.specs.Cutting.{tail_lines}
+use Rattle.mk_tree.specs.Reading.{Closes}
 use Rattle.mk_tree.specs.Documents.{Document, IsStable, document_lines, levels, tree}
 use Rattle.mk_tree.specs.Places.{Frame, in_message, in_multi, append_parts, default_at, left_at, part_at, place_at, placed, plug, put}
-use Rattle.mk_tree.specs.Sections.{Placed, children, has_part, has_tail, parts_placed, section_at}
+use Rattle.mk_tree.specs.Sections.{Placed, children, has_part, parts_placed, section_at}
+use Rattle.mk_tree.proofs.TreeNames.{has_tail}
 use Rattle.mk_tree.specs.Spans.{digest_below, size}
 use Rattle.mk_tree.specs.Tree.{Entity, leaf, message, multi, Parts, no_parts, part, print, print_parts, read}
 use Rattle.mk_tree.proofs.FieldsChanged.{stable_well}
@@ -21,7 +23,8 @@ use Rattle.mk_tree.proofs.Plugs.{own_of}
 use Rattle.mk_tree.proofs.Stability.{read_stable}
 use Rattle.mk_decide.specs.Edits.{Refusal, InsertPart, SetSection}
 use Rattle.mk_decide.specs.Outcomes.{edited}
-use Rattle.mk_decide.specs.Plans.{Plan, insert_between, part_plan, part_read, parts_at, place_of, plan_of}
+use Rattle.mk_decide.specs.Plans.{Plan, part_plan, parts_at, place_of, plan_of}
+use Rattle.mk_decide.proofs.PlanNames.{insert_between, part_read}
 use Rattle.mk_decide.proofs.Accepted.{none_some, ok_same, plan_by, some_same, there_again}
 use Rattle.mk_decide.proofs.EveryEdit.{plan_there}
 use Rattle.mk_decide.proofs.Late.{fair}

@@ -7,7 +7,7 @@ use Rattle.std.specs.declared.cmp.Ordering.{Ordering}
 use Rattle.std.specs.declared.cmp.Ordering.TheVariants.{Less, Equal, Greater}
 use Rattle.std.proofs.lemmas.Map.Lookups.{exact_bytes}
 use Rattle.mk_expand.specs.Paths.{latest_among, latest_first, placed_among, placed_by}
-use Rattle.mk_expand.specs.Removals.{AreLatestFirst, IsAmong, IsLater, RemovalsAreInOrder}
+use Rattle.mk_expand.specs.Removals.{AreLatestFirst, IsAmong, IsLater}
 
 turned : (r : Ordering) → Greater ≡ ordering_reverse r → r ≡ Less
 turned Less h = refl
@@ -74,7 +74,7 @@ among_all x placed (path ∷ paths) =
       λ a. elim a [ inl p ↦ rest.1 (inl (here.1 (inr p))) | inr q ↦ elim q [ inl s ↦ rest.1 (inl (here.1 (inl s))) | inr s ↦ rest.1 (inr s) ] ],
     )
 
-pub removals_ordered : RemovalsAreInOrder
+pub removals_ordered : (paths : List (List ℕ)) → AreLatestFirst (latest_first paths) × ((path : List ℕ) → IsAmong path (latest_first paths) ↔ IsAmong path paths)
 removals_ordered paths = (
   in_order paths,
   λ path. let all = among_all path [] paths in (λ a. elim (all.0 a) [ inl n ↦ absurd n | inr p ↦ p ], λ a. all.1 (inr a)),

@@ -8,20 +8,20 @@ use Rattle.std.specs.Ordering.{nat_cmp, ordering_reverse, ordering_then}
 use Rattle.std.specs.Cmp.{nat_cmp_total}
 use Rattle.std.specs.declared.cmp.Ordering.{Ordering}
 use Rattle.std.specs.declared.cmp.Ordering.TheVariants.{Less, Equal, Greater}
-use Rattle.mk_line.specs.Lines.{TextLine}
+use Rattle.mk_line.specs.Lines.{TextLine, eol_of}
 use Rattle.mk_tree.specs.Tree.{Entity, leaf, message, multi, Parts, no_parts, part}
 use Rattle.mk_tree.specs.Documents.{Document, document_lines}
-use Rattle.mk_line.specs.Lines.{eol_of}
 use Rattle.mk_tree.specs.Places.{Frame, append_parts, in_message, in_multi, part_at, place_at, plug, step_to}
 use Rattle.mk_decide.specs.Edits.{PlainEdit, RemovePart, Refusal, NoSuchSection, NotPart}
 use Rattle.mk_decide.specs.Outcomes.{edited}
-use Rattle.mk_decide.specs.Plans.{Plan, last_without, place_of, plain_plan, plan_at, plan_of, planned, remove, with_place, without}
+use Rattle.mk_decide.specs.Plans.{Plan, last_without, place_of, plain_plan, plan_at, plan_of, planned, without}
+use Rattle.mk_decide.proofs.PlanNames.{remove, with_place}
 use Rattle.mk_decide.proofs.Accepted.{ok_same, plan_by}
 use Rattle.mk_decide.proofs.Late.{fair}
 use Rattle.mk_expand.specs.ExpandLaws.{all_edited}
 use Rattle.mk_line.specs.Results.{made_of}
 use Rattle.mk_expand.specs.Paths.{latest_first}
-use Rattle.mk_expand.specs.Removals.{AreLatestFirst, IsLater, RemovalsTakeThose, has_empty, parts_without, paths_after, without_those}
+use Rattle.mk_expand.specs.Removals.{AreLatestFirst, IsLater, has_empty, parts_without, paths_after, without_those}
 use Rattle.mk_expand.proofs.EncodingsKept.{document_same, in_turn}
 use Rattle.mk_expand.proofs.RemovalOrder.{in_order}
 
@@ -294,5 +294,5 @@ all_removed (path ∷ paths) t u s done =
     let rest = all_removed paths made.0 u s.1 made.2 in
     (rest.0 ∙ first.0, rest.1 ∙ first.1)
 
-pub removals_made : RemovalsTakeThose
+pub removals_made : (paths : List (List ℕ)) (t u : Document) → all_edited (map (λ path. RemovePart path) (latest_first paths)) t ≡ Ok u → (u.envelope ≡ t.envelope) × (u.root ≡ without_those (paths_after 1 (latest_first paths)) t.root)
 removals_made paths t u done = all_removed (latest_first paths) t u (in_order paths) done

@@ -16,13 +16,9 @@ encoded_in Qp eol bytes = Some (qp_encoded eol bytes)
 encoded_in Base64 eol bytes = Some (base64_encoded eol bytes)
 encoded_in Other eol bytes = None
 
--- the ending between a text and a line after it: CR LF after a CR, of which LF alone would make an ending
-abbrev pub dividing : Ending → List ℕ → List ℕ
-dividing eol text = ending_bytes (if ends_in_return text then Crlf else eol)
-
--- a text with such an ending
+-- a text with the ending between it and a line after it: CR LF after a CR, of which LF alone would make an ending
 abbrev pub divided : Ending → List ℕ → List ℕ
-divided eol text = text ++ dividing eol text
+divided eol text = text ++ ending_bytes (if ends_in_return text then Crlf else eol)
 
 -- a body whose content is a text: where a line follows, the ending before it isn't content (RFC 2046, 5.1.1)
 abbrev pub body_with : Ending → Bool → List ℕ → List ℕ

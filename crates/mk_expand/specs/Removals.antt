@@ -1,13 +1,9 @@
 -- Several parts removed at once: in which order they go, and what is left (own).
-use Rattle.std.specs.Prelude.{◌≡◌, ◌==◌, ◌+◌, ◌⊎◌, ◌↔◌, if◌then◌else◌, ℕ, Bool, true, false, Ok, List, [], ◌∷◌, map}
+use Rattle.std.specs.Prelude.{◌≡◌, ◌==◌, ◌+◌, ◌⊎◌, if◌then◌else◌, ℕ, Bool, true, false, List, [], ◌∷◌}
 use Rattle.std.specs.Cmp.Lexicographic.{slice_cmp}
 use Rattle.std.specs.Ordering.{nat_cmp}
 use Rattle.std.specs.declared.cmp.Ordering.TheVariants.{Less}
 use Rattle.mk_tree.specs.Tree.{Entity, leaf, message, multi, Parts, no_parts, part}
-use Rattle.mk_tree.specs.Documents.{Document}
-use Rattle.mk_decide.specs.Edits.{RemovePart}
-use Rattle.mk_expand.specs.ExpandLaws.{all_edited}
-use Rattle.mk_expand.specs.Paths.{latest_first}
 
 -- each of some paths comes before a path
 abbrev pub IsLater : List ℕ → List (List ℕ) → Type 0
@@ -23,10 +19,6 @@ AreLatestFirst (path ∷ paths) = IsLater path paths × AreLatestFirst paths
 abbrev pub IsAmong : List ℕ → List (List ℕ) → Type 0
 IsAmong path [] = ⊥
 IsAmong path (other ∷ others) = (path ≡ other) ⊎ IsAmong path others
-
--- the paths are taken the later first, and they are those that are given
-abbrev pub RemovalsAreInOrder : Type 0
-RemovalsAreInOrder = (paths : List (List ℕ)) → AreLatestFirst (latest_first paths) × ((path : List ℕ) → IsAmong path (latest_first paths) ↔ IsAmong path paths)
 
 -- of paths that begin with a number, what follows it
 abbrev pub paths_after : ℕ → List (List ℕ) → List (List ℕ)
@@ -53,8 +45,3 @@ abbrev mutual
   parts_without paths number (part l e ps) =
       if has_empty (paths_after number paths) then parts_without paths (number + 1) ps
       else part l (without_those (paths_after number paths) e) (parts_without paths (number + 1) ps)
-
--- where the removal of parts is accepted, what is left is the document without the parts that stood at these paths
-abbrev pub RemovalsTakeThose : Type 0
-RemovalsTakeThose = (paths : List (List ℕ)) (t u : Document) → all_edited (map (λ path. RemovePart path) (latest_first paths)) t ≡ Ok u
-    → (u.envelope ≡ t.envelope) × (u.root ≡ without_those (paths_after 1 (latest_first paths)) t.root)

@@ -1,4 +1,5 @@
 -- A value that was written in encoded words is read again.
+use Rattle.mk_line.specs.Kinds.{is_name}
 use Rattle.std.proofs.Common.{◌≡◌, ◌==◌, ◌||◌, ◌++◌, ◌<◌, if◌then◌else◌, ℕ, Bool, Option, suc, zero, true, false, not, List, [], ◌∷◌, Some, refl, ap, sym, ◌∙◌, get_or, lit<, map}
 use Rattle.std.specs.Prelude.{codes}
 use Rattle.std.specs.List.{list_all}
@@ -25,7 +26,6 @@ use Rattle.mk_wording.specs.Wording.{field_kind, is_structured, worded_field, wo
 use Rattle.mk_wording.proofs.FieldLemmas.{text_written}
 use Rattle.mk_field.specs.Wording.{decoded_value, line_byte}
 use Rattle.mk_mail.proofs.Plainness.{needed, plain_stays}
-use Rattle.mk_field.specs.WordLaws.{WordedFieldsAreRead}
 
 -- a text on one line stays as it is
 line_kept : (text : List ℕ) → is_one_line text ≡ true → map line_byte text ≡ text
@@ -116,7 +116,7 @@ parts_read eol name text false e h a u b l s =
     ap (made_by eol name text) (needed text u e)
     ∙ (ap (λ o. decoded_value (after_colon (field_or (field name text) name o))) (text_written eol name text a) ∙ words_read eol name text h u b l s)
 
-pub worded_read : WordedFieldsAreRead
+pub worded_read : (eol : Ending) (name text : List ℕ) → is_name name ≡ true → is_structured name ≡ false → IsUtf8 text → IsBytes text → is_one_line text ≡ true → stripped text ≡ text → decoded_value (after_colon (worded_field eol (name ++ (codes ": " ++ text)))) ≡ text
 worded_read eol name text n a u b l s =
     let h = (and_parts (not (is_nil name)) (list_all is_name_byte name) n).1 in
     ap (λ made. decoded_value (after_colon made)) (field_worded eol name text h s)

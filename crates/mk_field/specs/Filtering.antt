@@ -43,14 +43,6 @@ fields_named path name text = filter (is_named name) (fields_at path text)
 abbrev pub after_colon : List ℕ → List ℕ
 after_colon raw = option_map_or (λ p. p.1) (parted colon raw) []
 
--- the values of the fields of a name, one after another (`-x`)
-abbrev pub values_named : List ℕ → ValueForm → List ℕ → List ℕ → List ℕ
-values_named path form name text = flat_map (λ f. printed_value form (after_colon f.raw)) (fields_named path name text)
-
--- the fields of a name, one after another (`-X`)
-abbrev pub wholes_named : List ℕ → List ℕ → List ℕ → List ℕ
-wholes_named path name text = flat_map (λ f. f.raw) (fields_named path name text)
-
 -- what is reported of what was made at a path: nothing, where no edit was refused
 abbrev pub report_of : List ℕ → ℕ → Made → List ℕ
 report_of path number (Ok made) = []
@@ -60,10 +52,11 @@ report_of path number (Err reason) = message_line_at path number reason
 abbrev pub missing_report : List ℕ → ℕ → List ℕ → List ℕ
 missing_report path number text = if has_section path text then [] else message_line_at path number NoSuchSection
 
--- what letters at a path give of a message that ask for fields of a name; nothing where none does
+-- what letters at a path give of a message that ask for fields of a name: their values, one after another (`-x`), or the whole fields
+-- (`-X`); nothing where none does
 abbrev pub given_by : List ℕ → ValueForm → Option (List ℕ) → Option (List ℕ) → List ℕ → Option (List ℕ)
-given_by path form (Some name) whole text = Some (values_named path form name text)
-given_by path form None (Some name) text = Some (wholes_named path name text)
+given_by path form (Some name) whole text = Some (flat_map (λ f. printed_value form (after_colon f.raw)) (fields_named path name text))
+given_by path form None (Some name) text = Some (flat_map (λ f. f.raw) (fields_named path name text))
 given_by path form None None text = None
 
 -- letters that ask for fields

@@ -5,5 +5,4 @@ pub mod FieldForms
 pub mod Filtering
 pub mod FilterViews
 pub mod FilterClauses
-pub mod WordLaws
 pub mod inner

@@ -3,11 +3,10 @@ use Rattle.std.proofs.Common.{◌≡◌, ◌&&◌, ◌||◌, ◌++◌, ℕ, Bool
 use Rattle.std.proofs.lemmas.Bool.{cases_Bool}
 use Rattle.mk_line.specs.Lines.{TextLine, is_nil}
 use Rattle.mk_line.specs.Kinds.{is_field_start, is_continuation}
-use Rattle.mk_head.specs.Split.{is_empty, belongs, fields_from, rest_from, separator_of, body_of, head_lines}
+use Rattle.mk_head.specs.Split.{is_empty, belongs, fields_from, rest_from, separator_of, body_of, head_lines, Head, head_of, after_head}
 use Rattle.std.specs.Option.{option_to_list}
-use Rattle.mk_head.specs.Splits.{IsRun, Follows}
+use Rattle.mk_head.specs.Splits.{IsRun, Follows, IsSplit}
 use Rattle.std.specs.Prelude.{not}
-use Rattle.mk_head.specs.Laws.{SplitsAreRead, ReadsAreSplit}
 
 or_false : (a : Bool) → (a || false) ≡ a
 or_false true = refl
@@ -27,10 +26,10 @@ empty_line : (inside : Bool) (l : TextLine) → is_empty l ≡ true → belongs 
 empty_line inside l h = empty_content inside l.content h
 
 -- what follows the fields of a head
-after_head : (inside : Bool) (o : Option TextLine) (ls : List TextLine) → Follows inside o ls → (fields_from inside (option_to_list o ++ ls) ≡ []) × (rest_from inside (option_to_list o ++ ls) ≡ option_to_list o ++ ls)
-after_head inside (Some l) ls h = (rw (empty_line inside l h) refl, rw (empty_line inside l h) refl)
-after_head inside None [] h = (refl, refl)
-after_head inside None (l ∷ ls) h = (rw h.0 refl, rw h.0 refl)
+head_passed : (inside : Bool) (o : Option TextLine) (ls : List TextLine) → Follows inside o ls → (fields_from inside (option_to_list o ++ ls) ≡ []) × (rest_from inside (option_to_list o ++ ls) ≡ option_to_list o ++ ls)
+head_passed inside (Some l) ls h = (rw (empty_line inside l h) refl, rw (empty_line inside l h) refl)
+head_passed inside None [] h = (refl, refl)
+head_passed inside None (l ∷ ls) h = (rw h.0 refl, rw h.0 refl)
 
 run_read : (inside : Bool) (fs rest : List TextLine) → IsRun inside fs → fields_from (inside || not (is_nil fs)) rest ≡ [] → rest_from (inside || not (is_nil fs)) rest ≡ rest → (fields_from inside (fs ++ rest) ≡ fs) × (rest_from inside (fs ++ rest) ≡ rest)
 run_read inside [] rest h f r = (ap (λ i. fields_from i rest) (sym (or_false inside)) ∙ f, ap (λ i. rest_from i rest) (sym (or_false inside)) ∙ r)
@@ -44,9 +43,9 @@ parts_read inside (Some l) ls h = (rw h refl, rw h refl)
 parts_read inside None [] h = (refl, refl)
 parts_read inside None (l ∷ ls) h = (rw h.1 refl, rw h.1 refl)
 
-pub splits_read : SplitsAreRead
+pub splits_read : (h : Head) (ls : List TextLine) → IsSplit h ls → (head_of (head_lines h ++ ls) ≡ h) × (after_head (head_lines h ++ ls) ≡ ls)
 splits_read h ls s =
-    let a = after_head (not (is_nil h.fields)) h.separator ls s.next in
+    let a = head_passed (not (is_nil h.fields)) h.separator ls s.next in
     let q = run_read false h.fields (option_to_list h.separator ++ ls) s.run a.0 a.1 in
     let p = parts_read (not (is_nil h.fields)) h.separator ls s.next in
     let whole : head_lines h ++ ls ≡ h.fields ++ (option_to_list h.separator ++ ls) = append_assoc h.fields (option_to_list h.separator) ls in (
@@ -90,5 +89,5 @@ follows_of inside (l ∷ ls) h =
       | inr e ↦ rw e (none_belongs inside l ls h, e)
     ]
 
-pub reads_split : ReadsAreSplit
+pub reads_split : (ls : List TextLine) → IsSplit (head_of ls) (after_head ls)
 reads_split ls = record { run = run_of false ls; next = follows_of (not (is_nil (fields_from false ls))) (rest_from false ls) (rest_stops false ls) }

@@ -1,14 +1,14 @@
 -- Bytes of a parameter are bytes of the value; a boundary is trimmed.
+use Rattle.mk_head.specs.Types.{boundary_of}
 use Rattle.std.proofs.Common.{◌≡◌, ◌==◌, ◌&&◌, ℕ, Bool, true, false, Option, None, Some, List, [], ◌∷◌, refl, ap, sym, inl, inr, subst, codes}
 use Rattle.std.proofs.lemmas.Bool.{cases_Bool}
-use Rattle.std.specs.List.{list_all}
+use Rattle.std.specs.List.{list_all, onto_first}
 use Rattle.std.specs.Str.{bytes_eq}
 use Rattle.mk_line.specs.Ascii.{is_blank, semicolon, quote, backslash, equals_sign, slash}
 use Rattle.mk_line.specs.Marks.{trimmed, trimmed_before}
 use Rattle.mk_line.specs.Parting.{before, following}
-use Rattle.mk_head.specs.Values.{Scan, Plain, scan, is_kept, is_plain, uncommented, pieces, push_first, unled, stripped, unquoted, parameter_value, parameter_before, parameters, typed_as, type_of_pieces, content_type_of, param_of, is_token}
+use Rattle.mk_head.specs.Values.{Scan, Plain, scan, is_kept, is_plain, uncommented, pieces, unled, stripped, unquoted, parameter_value, parameter_before, parameters, typed_as, type_of_pieces, content_type_of, param_of, is_token, MediaType}
 use Rattle.std.specs.Prelude.{unwrap_or}
-use Rattle.mk_head.specs.Laws.{ParametersAreBytes, BoundariesAreTrimmed}
 
 -- all bytes pass a test
 abbrev Passes : (ℕ → Bool) → List ℕ → Type 0
@@ -34,7 +34,7 @@ uncommented_all t s (x ∷ xs) h =
       | inr k ↦ rw k (uncommented_all t (scan s x) xs p.1)
     ]
 
-push_all : (t : ℕ → Bool) (x : ℕ) (ps : List (List ℕ)) → t x ≡ true → AllPass t ps → AllPass t (push_first x ps)
+push_all : (t : ℕ → Bool) (x : ℕ) (ps : List (List ℕ)) → t x ≡ true → AllPass t ps → AllPass t (onto_first x ps)
 push_all t x [] h k = (and_true (t x) true h refl, tt)
 push_all t x (p ∷ ps) h k = (and_true (t x) (list_all t p) h k.0, k.1)
 
@@ -138,7 +138,7 @@ param_all t name bytes (p ∷ ps) h e =
       | inr k ↦ param_all t name bytes ps h.1 (rw k at e)
     ]
 
-pub parameters_bytes : ParametersAreBytes
+pub parameters_bytes : (test : ℕ → Bool) (value name bytes : List ℕ) → list_all test value ≡ true → param_of name (content_type_of value).params ≡ Some bytes → list_all test bytes ≡ true
 parameters_bytes test value name bytes h e =
     param_all test name bytes (content_type_of value).params (type_all test (pieces Plain (uncommented Plain value)) (pieces_all test Plain (uncommented Plain value) (uncommented_all test Plain value h))) e
 
@@ -159,5 +159,5 @@ boundary_twice : (o : Option (List ℕ)) → trimmed (trimmed (unwrap_or o [])) 
 boundary_twice None = refl
 boundary_twice (Some b) = trimmed_twice b
 
-pub boundaries_trimmed : BoundariesAreTrimmed
+pub boundaries_trimmed : (t : MediaType) → trimmed (boundary_of t) ≡ boundary_of t
 boundaries_trimmed t = boundary_twice (param_of (codes "boundary") t.params)

@@ -9,3 +9,4 @@ pub mod Apart
 pub mod Bytes
 pub mod FoldSizes
 pub mod NamedStarts
+pub mod ByGrammar

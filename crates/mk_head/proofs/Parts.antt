@@ -3,19 +3,19 @@ use Rattle.std.proofs.Common.{◌≡◌, ◌==◌, ◌&&◌, ◌+◌, ◌-◌, �
 use Rattle.std.proofs.lemmas.Bool.{cases_Bool}
 use Rattle.std.proofs.lemmas.Bool.Decides.{eqb_tells}
 use Rattle.std.proofs.lemmas.List.{take_rest}
-use Rattle.std.specs.List.{prefix_len}
+use Rattle.std.specs.List.{prefix_len, onto_first}
 use Rattle.std.specs.Option.{option_map}
 use Rattle.std.specs.Result.{IfOk}
 use Rattle.std.proofs.lemmas.Result.{IfOk-weaker}
 use Rattle.std.specs.Global.{Vec}
 use Rattle.mk_line.specs.Ascii.{is_blank, semicolon, slash, equals_sign}
-use Rattle.mk_line.specs.Lines.{TextLine, text_line, is_nil, cut, onto_first, with_byte}
+use Rattle.mk_line.specs.Lines.{TextLine, text_line, is_nil, cut, onto_first as line_onto, with_byte}
 use Rattle.mk_line.specs.declared.cutting.Ending.{Ending}
 use Rattle.mk_line.specs.declared.cutting.Ending.TheVariants.{Crlf, Lf, Missing}
 use Rattle.mk_line.proofs.Cuts.{cut_other}
 use Rattle.mk_line.specs.Marks.{trimmed}
 use Rattle.mk_line.specs.Parting.{before, following, following as stands_after}
-use Rattle.mk_head.specs.Values.{Scan, Plain, scan, is_plain, is_token, lowered, media_type, pieces, push_first, unled, stripped, parameters, parameter_before, typed_as, type_of_pieces}
+use Rattle.mk_head.specs.Values.{Scan, Plain, scan, is_plain, is_token, lowered, media_type, pieces, unled, stripped, parameters, parameter_before, typed_as, type_of_pieces}
 use Rattle.mk_head.specs.Depths.{first_piece, other_pieces, pieces_after}
 use Rattle.mk_head.specs.Unfolding.{contents, value_in}
 use Rattle.std.specs.Prelude.{unwrap_or}
@@ -27,7 +27,7 @@ pieces_parts s [] = refl
 pieces_parts s (b ∷ bytes) =
     elim (cases_Bool (is_plain s && b == semicolon)) [
       | inl h ↦ rw h refl
-      | inr h ↦ rw h (ap (push_first b) (pieces_parts (scan s b) bytes))
+      | inr h ↦ rw h (ap (onto_first b) (pieces_parts (scan s b) bytes))
     ]
 
 one_more : (n : ℕ) → 1 + n ≡ suc n
@@ -67,7 +67,7 @@ with_contents b [] Lf ls h =
 with_contents b (c ∷ content) Lf ls h = rw h refl
 with_contents b content Missing ls h = rw h refl
 
-onto_contents : (b : ℕ) (ls : List TextLine) → (b == 58) ≡ false → following 58 (contents (onto_first b ls)) ≡ following 58 (contents ls)
+onto_contents : (b : ℕ) (ls : List TextLine) → (b == 58) ≡ false → following 58 (contents (line_onto b ls)) ≡ following 58 (contents ls)
 onto_contents b [] h = rw h refl
 onto_contents b (l ∷ ls) h = with_contents b l.content l.ending ls h
 
@@ -77,7 +77,7 @@ colon_line [] Lf ls = refl
 colon_line (c ∷ content) Lf ls = refl
 colon_line content Missing ls = refl
 
-colon_contents : (ls : List TextLine) → following 58 (contents (onto_first 58 ls)) ≡ Some (contents ls)
+colon_contents : (ls : List TextLine) → following 58 (contents (line_onto 58 ls)) ≡ Some (contents ls)
 colon_contents [] = refl
 colon_contents (l ∷ ls) = colon_line l.content l.ending ls
 

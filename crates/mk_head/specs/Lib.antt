@@ -2,6 +2,7 @@ pub mod Split
 pub mod Fields
 pub mod Views
 pub mod Values
+pub mod Grammar
 pub mod Encodings
 pub mod Boundaries
 pub mod Unfolding
@@ -10,5 +11,4 @@ pub mod Depths
 pub mod Matching
 pub mod Types
 pub mod Splits
-pub mod Laws
 pub mod inner

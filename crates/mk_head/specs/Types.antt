@@ -17,15 +17,12 @@ abbrev pub field_value : List ℕ → List TextLine → Option (List ℕ)
 field_value name [] = None
 field_value name (l ∷ ls) = if is_start l && is_named name (field_text l []) then Some (value_in (l ∷ continuations ls)) else field_value name ls
 
--- without a Content-Type field the type is the default: text/plain, and message/rfc822 for the parts of a digest
-abbrev pub default_type : Bool → MediaType
-default_type true = media_type (codes "message") (codes "rfc822") []
-default_type false = media_type (codes "text") (codes "plain") []
-
--- the type that a value says, or the default where there is none
+-- the type that a value says; without a Content-Type field it is the default: text/plain, and message/rfc822 for the parts of a
+-- digest
 abbrev pub type_by : Bool → Option (List ℕ) → MediaType
-type_by digest None = default_type digest
 type_by digest (Some value) = content_type_of value
+type_by true None = media_type (codes "message") (codes "rfc822") []
+type_by false None = media_type (codes "text") (codes "plain") []
 
 -- the content type of a header
 abbrev pub header_type : Bool → List TextLine → MediaType

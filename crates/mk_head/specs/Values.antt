@@ -1,6 +1,6 @@
 -- Structured values of fields: comments, quoted strings, parameters (RFC 2045, 5.1; each step is defined on any bytes, which is our own).
 use Rattle.std.specs.Prelude.{◌==◌, ◌&&◌, if◌then◌else◌, ℕ, suc, zero, Bool, true, false, not, Option, None, Some, List, [], ◌∷◌, codes, nat_le}
-use Rattle.std.specs.List.{list_all, list_any}
+use Rattle.std.specs.List.{list_all, list_any, onto_first}
 use Rattle.std.specs.Str.{bytes_eq, str_to_ascii_lowercase}
 use Rattle.mk_line.specs.Ascii.{backslash, closing, equals_sign, is_blank, opening, quote, semicolon, slash}
 use Rattle.mk_line.specs.Lines.{is_nil}
@@ -50,15 +50,10 @@ abbrev pub uncommented : Scan → List ℕ → List ℕ
 uncommented s [] = []
 uncommented s (byte ∷ bytes) = if is_kept s byte then byte ∷ uncommented (scan s byte) bytes else uncommented (scan s byte) bytes
 
--- a byte put before the first piece
-abbrev pub push_first : ℕ → List (List ℕ) → List (List ℕ)
-push_first byte [] = (byte ∷ []) ∷ []
-push_first byte (piece ∷ pieces) = (byte ∷ piece) ∷ pieces
-
 -- the pieces between the semicolons outside quoted strings
 abbrev pub pieces : Scan → List ℕ → List (List ℕ)
 pieces s [] = [] ∷ []
-pieces s (byte ∷ bytes) = if is_plain s && byte == semicolon then [] ∷ pieces s bytes else push_first byte (pieces (scan s byte) bytes)
+pieces s (byte ∷ bytes) = if is_plain s && byte == semicolon then [] ∷ pieces s bytes else onto_first byte (pieces (scan s byte) bytes)
 
 -- without the blanks at the start
 abbrev pub unled : List ℕ → List ℕ

@@ -38,9 +38,9 @@ use Rattle.std.specs.Str.{bytes_eq}
 use Rattle.mk_view.specs.Extracts.{IsContentOf, IsExtract}
 use Rattle.mk_mail.proofs.BuiltFields.{AreFreeFields, field_lines, fields_are_lines, fields_closed, fields_lines, fields_text, run_fields, skip_fields}
 use Rattle.mk_mail.proofs.BuiltParts.{AreFull, empty_line, full_join, full_one, inner_line, part_content, part_entity, part_free, part_full, part_read, part_text}
-use Rattle.mk_build.specs.Forwards.{Forwarded, built_with, forwarded_part, head_with, is_8bit, is_clear, refusal_with}
+use Rattle.mk_build.specs.Forwards.{Forwarded, built_with, forwarded_part, head_with, is_8bit, is_clear, refusal_with, built, build_refusal}
 use Rattle.mk_build.proofs.Failing.{position_here, position_more}
-use Rattle.mk_mail.specs.BuiltLaws.{BuiltMessagesGiveBack, BuiltMultipartsGiveBack, ForwardedMessagesGiveBack, GivesAllBack, AreBytes}
+use Rattle.mk_mail.specs.BuiltLaws.{GivesAllBack, AreBytes}
 use Rattle.mk_mail.proofs.BuiltForwards.{AreClear, eight, eight_full, forwards, forwards_count, forwards_full, forwards_hold, IsMessage, forwards_text, forwards_well, none_counted, or_true}
 
 -- the parts that may be attached
@@ -378,13 +378,13 @@ part_at eol fields m list fs k a e =
     let p = all_are 98 eol m _ _ list fs k a e in
     record { place = p.place; found = ap (option_and_then (section_below [])) p.found; entity_is = p.entity_is }
 
-pub forwarded_messages_lem : ForwardedMessagesGiveBack
+pub forwarded_messages_lem : (eol : Ending) (fields : List (List ℕ)) (parts : List Attached) (messages : List Forwarded) (m : Multipart) → eol ≢ Missing → AllByRecursion (λ a. AreBytes a.text) parts → refusal_with fields parts messages m ≡ None → GivesAllBack parts messages (tree (built_with eol fields parts messages m))
 forwarded_messages_lem eol fields parts messages m is small none =
     let b = is_built eol fields parts messages m is small none in
     subst (GivesAllBack parts messages) (sym b.read) (gives_all 98 eol fields m parts messages b.closed is b.good)
 
-pub built_multiparts_lem : BuiltMultipartsGiveBack
+pub built_multiparts_lem : (eol : Ending) (fields : List (List ℕ)) (parts : List Attached) (m : Multipart) → eol ≢ Missing → AllByRecursion (λ a. AreBytes a.text) parts → refusal_with fields parts [] m ≡ None → GivesAllBack parts [] (tree (built_with eol fields parts [] m))
 built_multiparts_lem eol fields parts m is small none = forwarded_messages_lem eol fields parts [] m is small none
 
-pub built_messages_lem : BuiltMessagesGiveBack
+pub built_messages_lem : (eol : Ending) (fields : List (List ℕ)) (parts : List Attached) (boundary : List ℕ) → eol ≢ Missing → AllByRecursion (λ a. AreBytes a.text) parts → build_refusal fields parts boundary ≡ None → GivesAllBack parts [] (tree (built eol fields parts boundary))
 built_messages_lem eol fields parts boundary is small none = forwarded_messages_lem eol fields parts [] (mixed boundary) is small none

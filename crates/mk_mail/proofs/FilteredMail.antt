@@ -1,40 +1,38 @@
 -- A message filtered by letters: its fields alone change, so it begins and ends as it did.
 use Rattle.mk_mailbox.specs.declared.from_lines.FromLines.{FromLines}
 use Rattle.mk_mailbox.specs.declared.from_lines.FromLines.TheVariants.{Any, Dated, Fielded}
-use Rattle.mk_mailbox.specs.Pieces.{is_followed, is_left_alone, is_mail_start, needs_field}
+use Rattle.mk_mailbox.specs.Pieces.{is_followed, is_left_alone, is_mail_start, needs_field, mailbox_pieces}
 use Rattle.std.proofs.Common.{◌+◌, ◌≡◌, ◌&&◌, ◌||◌, ◌++◌, ℕ, Bool, true, false, not, if◌then◌else◌, Option, None, Some, Result, Ok, Err, List, [], ◌∷◌, drop, filter, refl, ap, sym, ◌∙◌, subst, inl, inr, map, append_assoc}
-use Rattle.std.specs.List.{list_any}
+use Rattle.std.specs.List.{list_any, flat_map}
 use Rattle.std.proofs.lemmas.Bool.{cases_Bool}
-use Rattle.std.specs.Option.{option_map_or}
+use Rattle.std.specs.Option.{option_map_or, option_to_list}
 use Rattle.std.specs.Prelude.{nat_lt}
 use Rattle.std.specs.Result.{result_map_both, result_unwrap_or}
 use Rattle.mk_line.specs.declared.cutting.Ending.{Ending}
 use Rattle.mk_line.specs.Kinds.{is_continuation, is_field_start, is_from_line, is_name}
 use Rattle.mk_line.specs.Lines.{TextLine, cut, eol_of, is_nil}
 use Rattle.mk_head.specs.Fields.{FieldText, is_named, is_one_field}
-use Rattle.std.specs.Option.{option_to_list}
 use Rattle.mk_head.specs.Splits.{IsRun}
-use Rattle.mk_tree.specs.Documents.{Document, document_lines, document_of, enveloped, printed, tree}
+use Rattle.mk_tree.specs.Documents.{Document, document_lines, document_of, printed, tree}
 use Rattle.mk_tree.specs.Places.{put}
 use Rattle.mk_tree.specs.Sections.{root_of}
 use Rattle.mk_tree.specs.Tree.{Entity, leaf, message, multi, field_lines, with_fields}
 use Rattle.mk_tree.proofs.HeadChanged.{after_fields, changed_lines, entity_lines}
-use Rattle.mk_tree.proofs.Kept.{lines_kept}
+use Rattle.mk_tree.proofs.Kept.{enveloped, lines_kept}
 use Rattle.mk_tree.proofs.OwnFields.{fields_are}
-use Rattle.mk_decide.specs.EditLaws.{IsJudged}
+use Rattle.mk_decide.proofs.PlanNames.{IsJudged, add_plan, change_plan, drop_plan, rename_plan, with_place, added as with_added}
 use Rattle.mk_decide.specs.Edits.{PlainEdit, AddField, RemoveField, RenameField, SetField, SetBody, SetSection, InsertPart, RemovePart, Wrap, Refusal, BadField, BadName}
 use Rattle.mk_decide.specs.EditSplices.{splices_of}
 use Rattle.mk_decide.specs.FieldEdits.{field_at, renamed}
 use Rattle.mk_edit.specs.Groups.{Together, following, made_on, together}
 use Rattle.mk_decide.specs.Outcomes.{edited, judged_by}
-use Rattle.mk_decide.specs.Plans.{Plan, add_plan, change_plan, drop_plan, plan_at, plan_of, place_of, planned, rename_plan, unless, with_place}
-use Rattle.mk_decide.specs.Reasons.{added as with_added}
+use Rattle.mk_decide.specs.Plans.{Plan, plan_at, plan_of, place_of, planned, unless}
 use Rattle.mk_splice.specs.Splices.{Splice}
 use Rattle.mk_decide.proofs.Answered.{Holds, field_holds, unless_holds}
 use Rattle.mk_edit.proofs.GroupFacts.{groups_read_back_lem}
 use Rattle.mk_decide.proofs.Late.{IsFair, fair, told}
 use Rattle.mk_decide.proofs.SectionSites.{head_cut, head_is_run, site}
-use Rattle.mk_mail.specs.Filtered.{FilteredStayApart, IsFielded, LettersChangeFieldsAlone, filtered, filtered_in, outcome_at}
+use Rattle.mk_mail.specs.Filtered.{IsFielded, filtered, filtered_in, outcome_at, is_left}
 use Rattle.mk_mail.specs.Letters.{PlainLetters, PlainPattern, Work, add_if_letter, added, added_full, dropped, first_letter, is_bare, is_dropped, letter, made_old, name_in, next_number, old_name, only_letter, fields_at, edits_at, letter_edits, most_prepended, prepending, prefixed_letter, removed_all, rename_letter, replaced, respelling, respelt, names_at, root_path, same_name, those, untouched, worked}
 use Rattle.mk_mail.specs.Prepended.{PlainPrepend}
 use Rattle.mk_mailbox.specs.Dates.{ends_with_date}
@@ -345,7 +343,7 @@ fielded_by : (l : PlainLetters) (text : List ℕ) (r : Together) → outcome l t
 fielded_by l text (Ok q) e a = record { fields = a.fields; same = groups_read_back_lem (edits_at root_path text l) text q.0 q.1 e ∙ a.same }
 fielded_by l text (Err q) e a = as_it_was (tree text)
 
-pub fields_alone : LettersChangeFieldsAlone
+pub fields_alone : (l : PlainLetters) (text : List ℕ) → IsFielded (tree text) (tree (filtered l text))
 fields_alone l text = fielded_by l text (outcome l text) refl (together_fielded (edits_at root_path text l) (tree text) (edits_root text l))
 
 pub filtered_kept : (way : FromLines) (l : PlainLetters) (text : List ℕ) → needs_field way ≡ false → IsWhole way false (cut text) → IsKept way (cut text) (cut (filtered l text))
@@ -355,5 +353,5 @@ kept : (way : FromLines) (l : PlainLetters) (text : List ℕ) (alone : Bool) →
 kept way l text true n m = record { whole = m.1; ends = λ h. h; begins = λ h. h }
 kept way l text false n m = filtered_kept way l text n m.1
 
-pub filtered_apart : FilteredStayApart
+pub filtered_apart : (way : FromLines) → needs_field way ≡ false → (l : PlainLetters) (text : List ℕ) → mailbox_pieces way (flat_map (filtered_in way l) (mailbox_pieces way text)) ≡ filter is_left (map (filtered_in way l) (mailbox_pieces way text))
 filtered_apart way n l text = kept_apart way (filtered_in way l) (λ message m. kept way l message (is_left_alone way message) n m) text

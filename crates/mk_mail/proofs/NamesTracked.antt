@@ -22,7 +22,8 @@ use Rattle.mk_decide.specs.Edits.{PlainEdit, AddField, RemoveField, RenameField,
 use Rattle.mk_decide.specs.EditSplices.{splices_of}
 use Rattle.mk_decide.specs.FieldEdits.{Found, field_at, find, found_after, renamed, starts_named}
 use Rattle.mk_decide.specs.Outcomes.{edited}
-use Rattle.mk_decide.specs.Plans.{Plan, add_plan, drop_plan, fields_plan, place_of, plan_of, planned, rename_plan, unless}
+use Rattle.mk_decide.specs.Plans.{Plan, fields_plan, place_of, plan_of, planned, unless}
+use Rattle.mk_decide.proofs.PlanNames.{add_plan, drop_plan, rename_plan}
 use Rattle.mk_decide.proofs.Counting.{names_lem}
 use Rattle.mk_decide.proofs.Accepted.{found_ok, none_some, ok_same, plan_by, some_same, there_again, unless_ok}
 use Rattle.mk_decide.proofs.EveryEdit.{plan_there}
@@ -32,7 +33,7 @@ use Rattle.mk_decide.proofs.Renaming.{renamed_start}
 use Rattle.mk_edit.specs.Groups.{Together, following, made_on, together}
 use Rattle.mk_mail.specs.Letters.{PlainLetters, PlainPattern, Work, add_if_letter, added, added_full, dropped, first_letter, is_bare, is_dropped, is_meant, letter, made_old, name_in, next_number, old_name, only_letter, others, prefixed_letter, removed_all, rename_letter, replaced, respelling, respelt, same_name, then_do, those, with_first, worked}
 use Rattle.mk_view.specs.Listed.{greatest_number}
-use Rattle.mk_mail.specs.Tracked.{NamesAreTracked, own_names}
+use Rattle.mk_mail.specs.Tracked.{own_names}
 use Rattle.mk_mail.proofs.FieldLines.{first_content, name_first, name_one}
 use Rattle.mk_mail.proofs.FieldNames.{both_true}
 
@@ -588,5 +589,5 @@ tracked_there path eol l t u ss p (Some q) there is done =
     let named : names_in (field_lines q.1) ≡ own_names p = ap own_names same in
     named_there path (worked path eol l (own_names p)).names u (tracks_worked path eol l (own_names p) t (u, ss) (record { around = q.0; section = q.1; there = there; named = named }) done)
 
-pub names_tracked : NamesAreTracked
+pub names_tracked : (path : List ℕ) (eol : Ending) (l : PlainLetters) (t u : Document) (splices : List Splice) (p : Placed) → section_at path t ≡ Some p → together (worked path eol l (own_names p)).edits t ≡ Ok (u, splices) → (q : Placed) × (section_at path u ≡ Some q) × (own_names q ≡ (worked path eol l (own_names p)).names)
 names_tracked path eol l t u ss p there done = tracked_there path eol l t u ss p (place_of path t.root) refl (sym (section_there path t) ∙ there) done

@@ -1,7 +1,7 @@
 -- The made Content-Type field of a part says the media type that it is made for.
 use Rattle.std.proofs.Common.{◌≡◌, ◌==◌, ◌&&◌, ◌++◌, if◌then◌else◌, ℕ, Bool, true, false, not, Option, None, Some, List, [], ◌∷◌, refl, ap, sym, ◌∙◌, codes, length, nat_le, inl, inr, append_assoc}
 use Rattle.std.proofs.lemmas.Bool.{cases_Bool, eqb-true}
-use Rattle.std.specs.List.{list_all}
+use Rattle.std.specs.List.{list_all, onto_first}
 use Rattle.std.specs.Str.{bytes_eq}
 use Rattle.mk_line.specs.Ascii.{is_blank}
 use Rattle.mk_line.specs.Lines.{is_nil}
@@ -10,7 +10,7 @@ use Rattle.mk_line.proofs.Cuts.{append_nil}
 use Rattle.mk_head.specs.declared.encodings.Encoding.{Encoding}
 use Rattle.mk_line.specs.Parting.{before, following}
 use Rattle.mk_head.specs.Types.{type_by}
-use Rattle.mk_head.specs.Values.{Plain, Quoted, uncommented, push_first, pieces, unled, stripped, lowered, parameters, is_token_byte, is_token, MediaType, media_type, typed_as, type_of_pieces, content_type_of}
+use Rattle.mk_head.specs.Values.{Plain, Quoted, uncommented, pieces, unled, stripped, lowered, parameters, is_token_byte, is_token, MediaType, media_type, typed_as, type_of_pieces, content_type_of}
 use Rattle.mk_tree.specs.Kinds.{Leaf, kind_of}
 use Rattle.mk_build.specs.Building.{longest, is_single, is_media, is_name_byte, is_name}
 use Rattle.mk_build.specs.Multiparts.{charset_param}
@@ -72,7 +72,7 @@ quoted_uncommented (c ∷ cs) h = rw (h.1, h.0) (ap (λ xs. c ∷ xs) (quoted_un
 -- the pieces
 pub plain_pieces : (cs rest x : List ℕ) (ps : List (List ℕ)) → Simple cs → pieces Plain rest ≡ x ∷ ps → pieces Plain (cs ++ rest) ≡ (cs ++ x) ∷ ps
 plain_pieces [] rest x ps h e = e
-plain_pieces (c ∷ cs) rest x ps h e = rw (h.2, h.0, h.1) (ap (push_first c) (plain_pieces cs rest x ps h.5 e))
+plain_pieces (c ∷ cs) rest x ps h e = rw (h.2, h.0, h.1) (ap (onto_first c) (plain_pieces cs rest x ps h.5 e))
 
 -- what may stand after a type: it has no comment, and begins a piece of its own
 record IsBehind (tail : List ℕ) : Type 0 where
@@ -162,7 +162,7 @@ made_uncommented m sub tail h k b =
 
 made_pieces : (m sub tail : List ℕ) → Simple m → Simple sub → (b : IsBehind tail) → pieces Plain (32 ∷ (m ++ 47 ∷ (sub ++ tail))) ≡ (32 ∷ (m ++ 47 ∷ sub)) ∷ b.others
 made_pieces m sub tail h k b =
-    ap (push_first 32) (plain_pieces m (47 ∷ (sub ++ tail)) (47 ∷ (sub ++ [])) b.others h (ap (push_first 47) (plain_pieces sub tail [] b.others k b.apart)))
+    ap (onto_first 32) (plain_pieces m (47 ∷ (sub ++ tail)) (47 ∷ (sub ++ [])) b.others h (ap (onto_first 47) (plain_pieces sub tail [] b.others k b.apart)))
     ∙ ap (λ xs. (32 ∷ (m ++ 47 ∷ xs)) ∷ b.others) (append_nil sub)
 
 typed_main : (t : Bool) (m sub : List ℕ) (ps : List (List ℕ × List ℕ)) → t ≡ true → (if t then media_type (lowered m) (lowered sub) ps else media_type (codes "text") (codes "plain") ps).main ≡ lowered m

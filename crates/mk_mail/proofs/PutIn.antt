@@ -1,11 +1,12 @@
 -- A text put into a field leaves the field's own bytes.
+use Rattle.mk_line.specs.declared.cutting.Ending.{Ending}
 use Rattle.std.proofs.Common.{◌≡◌, ◌==◌, ◌≤◌, ◌+◌, ◌-◌, if◌then◌else◌, ℕ, Bool, true, false, Option, None, Some, List, [], ◌∷◌, suc, refl, ap, sym, ◌∙◌, inl, inr, arith, drop, length, take, unwrap_or}
 use Rattle.std.specs.List.{list_all, prefix_len}
 use Rattle.std.proofs.lemmas.Bool.{cases_Bool}
 use Rattle.std.proofs.lemmas.List.{take-append-drop, take_all}
 use Rattle.mk_line.specs.Ascii.{colon, is_blank}
 use Rattle.mk_line.specs.Parting.{following}
-use Rattle.mk_mail.specs.Prepended.{PrependedFieldsKeepTheirBytes, is_white, said_at, text_before, text_place, value_of}
+use Rattle.mk_mail.specs.Prepended.{is_white, said_at, text_before, text_place, value_of, prepended, IsPutIn}
 
 -- what follows the first byte of a kind is no longer than the whole
 after_short : (field v : List ℕ) → following colon field ≡ Some v → length v ≤ length field
@@ -69,7 +70,7 @@ white_front field None h =
     ap (λ k. list_all is_white (value_of (take k field))) n
     ∙ (ap (λ xs. list_all is_white (value_of xs)) (take_all (length field) field (omega arith)) ∙ ap (λ o. list_all is_white (unwrap_or o [])) h)
 
-pub put_in : PrependedFieldsKeepTheirBytes
+pub put_in : (eol : Ending) (text field : List ℕ) → IsPutIn field (prepended eol text field)
 put_in eol text field = record {
   front = take (text_place field) field;
   put = text_before eol text (drop (text_place field) field);

@@ -1,14 +1,14 @@
 -- Messages that are replaced by texts that fit their places, or left out, stay apart.
 use Rattle.std.proofs.Common.{◌≡◌, ℕ, Bool, true, false, Option, None, Some, List, [], ◌∷◌, refl, sym, subst, inl, inr, map}
 use Rattle.std.proofs.lemmas.Bool.{cases_Bool}
-use Rattle.std.specs.List.{AllZip}
+use Rattle.std.specs.List.{AllZip, flat_map}
 use Rattle.std.specs.Prelude.{IfSome}
 use Rattle.mk_line.specs.Lines.{TextLine, cut}
 use Rattle.mk_mailbox.specs.declared.from_lines.FromLines.{FromLines}
 use Rattle.mk_mailbox.specs.Pieces.{mailbox_pieces}
 use Rattle.mk_mailbox.specs.Places.{begins_from, ends_empty, takes_place}
 use Rattle.mk_mail.specs.Filtered.{is_left}
-use Rattle.mk_mail.specs.Replaced.{ReplacedStayApart, texts_left}
+use Rattle.mk_mail.specs.Replaced.{texts_left}
 use Rattle.mk_mail.proofs.MailChains.{AreBefore, IsMail, begins_left, mail_of, mail_parted, some_lines}
 use Rattle.mk_mail.proofs.SectionsApart.{placed}
 
@@ -52,5 +52,5 @@ mail_replaced way (m ∷ ms) (Some text ∷ os) h r =
       | inr n ↦ rw n rest
     ]
 
-pub replaced_apart : ReplacedStayApart
+pub replaced_apart : (way : FromLines) (mailbox : List ℕ) (os : List (Option (List ℕ))) → AllZip (λ message o. IfSome o (λ text. takes_place way message text ≡ true)) (mailbox_pieces way mailbox) os → mailbox_pieces way (flat_map (λ text. text) (texts_left os)) ≡ texts_left os
 replaced_apart way mailbox os r = mail_parted way (texts_left os) (mail_replaced way (mailbox_pieces way mailbox) os (mail_of way mailbox) r)

@@ -1,12 +1,14 @@
 -- Rounds of letters: what they make, one after another, and the messages of a mailbox that they leave.
+use Rattle.std.specs.List.{flat_map}
+use Rattle.std.specs.Prelude.{filter, map}
 use Rattle.std.proofs.Common.{◌≡◌, ◌++◌, if◌then◌else◌, ℕ, Bool, true, false, Ok, Err, List, [], ◌∷◌, refl, ap, ◌∙◌}
 use Rattle.mk_mailbox.specs.declared.from_lines.FromLines.{FromLines}
-use Rattle.mk_mailbox.specs.Pieces.{is_left_alone, needs_field}
+use Rattle.mk_mailbox.specs.Pieces.{is_left_alone, needs_field, mailbox_pieces}
 use Rattle.mk_line.specs.Lines.{TextLine, cut, eol_of, is_lf}
 use Rattle.mk_edit.specs.Groups.{Together}
-use Rattle.mk_mail.specs.Filtered.{outcome_at}
+use Rattle.mk_mail.specs.Filtered.{outcome_at, filtered, is_left}
 use Rattle.mk_mail.specs.Letters.{PlainLetters, root_path}
-use Rattle.mk_mail.specs.Rounds.{Made, OneRoundFilters, PlainRound, RoundsArePiped, RoundsStayApart, letters_for, made_text, rounds_left, rounds_left_in, rounds_made, rounds_made_at}
+use Rattle.mk_mail.specs.Rounds.{Made, PlainRound, letters_for, made_text, rounds_left, rounds_left_in, rounds_made, rounds_made_at, round_of_letters}
 use Rattle.mk_line.specs.Results.{made_of}
 use Rattle.std.specs.Result.{result_unwrap_or}
 use Rattle.mk_mail.proofs.FilteredMail.{filtered_kept, outcome, text_left}
@@ -20,7 +22,7 @@ same_letters : (l : PlainLetters) (t : Bool) → (if t then l else l) ≡ l
 same_letters l true = refl
 same_letters l false = refl
 
-pub one_round : OneRoundFilters
+pub one_round : (l : PlainLetters) (text : List ℕ) → rounds_left (round_of_letters l ∷ []) text ≡ filtered l text
 one_round l text =
     ap (λ k. result_unwrap_or (made_of (rounds_made_at root_path []) (made_text (outcome k text))) text) (same_letters l (is_lf (eol_of (cut text))))
     ∙ one_text text (outcome l text)
@@ -30,7 +32,7 @@ piped_on : (rs more : List PlainRound) (m : Made) → ((text : List ℕ) → rou
 piped_on rs more (Ok text) h = h text
 piped_on rs more (Err reason) h = refl
 
-pub piped : RoundsArePiped
+pub piped : (rs more : List PlainRound) (text : List ℕ) → rounds_made (rs ++ more) text ≡ made_of (rounds_made more) (rounds_made rs text)
 piped [] more text = refl
 piped (r ∷ rs) more text = piped_on rs more (made_text (outcome_at root_path (letters_for r text) text)) (λ next. piped rs more next)
 
@@ -72,5 +74,5 @@ message_kept : (way : FromLines) (rs : List PlainRound) (text : List ℕ) (alone
 message_kept way rs text true n m = unchanged way (cut text) m.1
 message_kept way rs text false n m = left_kept way text (rounds_made rs text) m.1 (rounds_kept way rs text n m.1)
 
-pub rounds_apart : RoundsStayApart
+pub rounds_apart : (way : FromLines) → needs_field way ≡ false → (rs : List PlainRound) (text : List ℕ) → mailbox_pieces way (flat_map (rounds_left_in way rs) (mailbox_pieces way text)) ≡ filter is_left (map (rounds_left_in way rs) (mailbox_pieces way text))
 rounds_apart way n rs text = kept_apart way (rounds_left_in way rs) (λ message m. message_kept way rs message (is_left_alone way message) n m) text

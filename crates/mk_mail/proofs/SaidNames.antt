@@ -1,12 +1,12 @@
 -- The disposition of a part says the name that it was made for.
 use Rattle.std.proofs.Common.{◌≡◌, ◌==◌, ◌&&◌, ◌||◌, ◌++◌, ◌+◌, ◌/◌, ◌%◌, ◌<◌, ◌≤◌, if◌then◌else◌, ℕ, Bool, true, false, not, Option, Some, List, [], ◌∷◌, refl, ap, sym, ◌∙◌, codes, nat_lt, arith, append-nil}
 use Rattle.std.proofs.lemmas.Bool.{ltb-false, ltb-true, ne_eqb}
-use Rattle.std.specs.List.{list_all}
+use Rattle.std.specs.List.{list_all, onto_first}
 use Rattle.std.specs.Option.{option_or}
 use Rattle.std.specs.Prelude.{option_and_then}
 use Rattle.std.specs.Str.{is_utf8}
 use Rattle.mk_line.specs.Ascii.{is_blank}
-use Rattle.mk_head.specs.Values.{Plain, Quoted, uncommented, push_first, pieces, stripped, param_of, parameter_value, type_of_pieces, is_token_byte}
+use Rattle.mk_head.specs.Values.{Plain, Quoted, uncommented, pieces, stripped, param_of, parameter_value, type_of_pieces, is_token_byte}
 use Rattle.mk_code.specs.QuotedPrintable.{hex_digit}
 use Rattle.mk_param.specs.Extended.{extended_text, segments_text}
 use Rattle.mk_param.specs.Percents.{byte_encoded, is_attribute_byte, percent_decoded, percent_encoded}
@@ -86,11 +86,11 @@ calm_pieces (c ∷ cs) rest x ps h e =
     let p = both (is_calm c) (list_all is_calm cs) h in
     let q = both (not (c == 34)) (not (c == 40) && not (c == 59)) p.0 in
     let r = both (not (c == 40)) (not (c == 59)) q.1 in
-    rw (not_true (c == 59) r.1, not_true (c == 34) q.0, not_true (c == 40) r.0) (ap (push_first c) (calm_pieces cs rest x ps p.1 e))
+    rw (not_true (c == 59) r.1, not_true (c == 34) q.0, not_true (c == 40) r.0) (ap (onto_first c) (calm_pieces cs rest x ps p.1 e))
 
 quoted_pieces : (cs rest x : List ℕ) (ps : List (List ℕ)) → InQuotes cs → pieces Plain rest ≡ x ∷ ps → pieces Quoted (cs ++ 34 ∷ rest) ≡ (cs ++ 34 ∷ x) ∷ ps
-quoted_pieces [] rest x ps h e = ap (push_first 34) e
-quoted_pieces (c ∷ cs) rest x ps h e = rw (h.1, h.0) (ap (push_first c) (quoted_pieces cs rest x ps h.2 e))
+quoted_pieces [] rest x ps h e = ap (onto_first 34) e
+quoted_pieces (c ∷ cs) rest x ps h e = rw (h.1, h.0) (ap (onto_first c) (quoted_pieces cs rest x ps h.2 e))
 
 abbrev name_piece : List ℕ → List ℕ
 name_piece name = codes " filename=" ++ 34 ∷ (name ++ 34 ∷ [])
@@ -106,7 +106,7 @@ said_pieces enc h =
 name_pieces : (name enc : List ℕ) → InQuotes name → Simple enc → pieces Plain (codes " filename=" ++ 34 ∷ (name ++ (34 ∷ 59 ∷ said_piece enc))) ≡ name_piece name ∷ said_piece enc ∷ []
 name_pieces name enc h k =
     calm_pieces (codes " filename=") (34 ∷ (name ++ (34 ∷ 59 ∷ said_piece enc))) (34 ∷ (name ++ 34 ∷ [])) (said_piece enc ∷ []) refl
-    (ap (push_first 34) (quoted_pieces name (59 ∷ said_piece enc) [] (said_piece enc ∷ []) h (ap (λ ps. [] ∷ ps) (said_pieces enc k))))
+    (ap (onto_first 34) (quoted_pieces name (59 ∷ said_piece enc) [] (said_piece enc ∷ []) h (ap (λ ps. [] ∷ ps) (said_pieces enc k))))
 
 value_pieces : (name enc : List ℕ) → InQuotes name → Simple enc → pieces Plain (value_of name enc) ≡ codes " attachment" ∷ name_piece name ∷ said_piece enc ∷ []
 value_pieces name enc h k =

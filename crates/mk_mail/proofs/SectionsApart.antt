@@ -1,12 +1,15 @@
 -- Rounds at any path: what they leave of the messages of a mailbox takes the places of these messages.
+use Rattle.std.specs.List.{flat_map}
+use Rattle.mk_mail.specs.Filtered.{is_left}
+use Rattle.std.specs.Prelude.{filter, map}
 use Rattle.std.proofs.Common.{◌≡◌, ◌&&◌, ◌||◌, if◌then◌else◌, ℕ, Bool, true, false, not, Ok, Err, List, [], ◌∷◌, refl, ap, sym, ◌∙◌, subst, inl, inr, eqb-true}
 use Rattle.std.proofs.lemmas.Bool.{cases_Bool}
 use Rattle.mk_mailbox.specs.declared.from_lines.FromLines.{FromLines}
-use Rattle.mk_mailbox.specs.Pieces.{is_first, is_left_alone, needs_field}
+use Rattle.mk_mailbox.specs.Pieces.{is_first, is_left_alone, needs_field, mailbox_pieces}
 use Rattle.mk_mailbox.specs.Places.{begins_from, ends_empty, is_uncut, takes_place}
 use Rattle.mk_mailbox.proofs.PlaceLemmas.{are_whole, uncut}
 use Rattle.mk_line.specs.Lines.{TextLine, cut, is_nil}
-use Rattle.mk_mail.specs.Apart.{SectionsStayApart, always_fits, mail_left, mail_made, section_made}
+use Rattle.mk_mail.specs.Apart.{always_fits, mail_left, mail_made, section_made}
 use Rattle.mk_mail.specs.Letters.{is_root, root_path}
 use Rattle.mk_mail.specs.Rounds.{Made, PlainRound}
 use Rattle.mk_decide.specs.Edits.{Recut}
@@ -76,5 +79,5 @@ message_kept : (way : FromLines) (path : List ℕ) (rs : List PlainRound) (text 
 message_kept way path rs text true m = unchanged way (cut text) m.1
 message_kept way path rs text false m = left_kept way text (mail_made way path rs text) m.1 (apart_kept way path rs text m.1)
 
-pub sections_apart : SectionsStayApart
+pub sections_apart : (way : FromLines) (path : List ℕ) (rs : List PlainRound) (text : List ℕ) → mailbox_pieces way (flat_map (mail_left way path rs) (mailbox_pieces way text)) ≡ filter is_left (map (mail_left way path rs) (mailbox_pieces way text))
 sections_apart way path rs text = kept_apart way (mail_left way path rs) (λ message m. message_kept way path rs message (is_left_alone way message) m) text

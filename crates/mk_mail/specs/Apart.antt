@@ -1,14 +1,12 @@
 -- Rounds of letters at any section of a message, alone and in a mailbox (own).
-use Rattle.std.specs.Prelude.{◌≡◌, ◌&&◌, if◌then◌else◌, ℕ, Bool, not, Ok, Err, List, filter, is_some, map}
-use Rattle.std.specs.List.{flat_map}
+use Rattle.std.specs.Prelude.{◌&&◌, if◌then◌else◌, ℕ, Bool, not, Ok, Err, List, is_some}
 use Rattle.mk_line.specs.Results.{made_of}
 use Rattle.mk_tree.specs.Documents.{tree}
 use Rattle.mk_tree.specs.Sections.{section_at}
 use Rattle.mk_decide.specs.Edits.{NoSuchSection, Recut}
 use Rattle.mk_mailbox.specs.declared.from_lines.FromLines.{FromLines}
-use Rattle.mk_mailbox.specs.Pieces.{is_left_alone, mailbox_pieces, needs_field}
+use Rattle.mk_mailbox.specs.Pieces.{is_left_alone, needs_field}
 use Rattle.mk_mailbox.specs.Places.{takes_place}
-use Rattle.mk_mail.specs.Filtered.{is_left}
 use Rattle.mk_mail.specs.Letters.{is_root}
 use Rattle.mk_mail.specs.Rounds.{Made, PlainRound, rounds_made_at}
 use Rattle.std.specs.Result.{result_unwrap_or}
@@ -35,9 +33,3 @@ mail_made way path rs text =
 -- what they leave of it
 abbrev pub mail_left : FromLines → List ℕ → List PlainRound → List ℕ → List ℕ
 mail_left way path rs text = if is_left_alone way text then text else result_unwrap_or (mail_made way path rs text) text
-
--- what rounds at any path leave of the messages of a mailbox is cut into just these messages again, but for one of which no byte
--- is left
-abbrev pub SectionsStayApart : Type 0
-SectionsStayApart = (way : FromLines) (path : List ℕ) (rs : List PlainRound) (text : List ℕ) →
-    mailbox_pieces way (flat_map (mail_left way path rs) (mailbox_pieces way text)) ≡ filter is_left (map (mail_left way path rs) (mailbox_pieces way text))

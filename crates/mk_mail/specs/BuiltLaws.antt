@@ -9,7 +9,7 @@ use Rattle.mk_tree.specs.Documents.{Document, tree}
 use Rattle.mk_tree.specs.Forms.{kind_in}
 use Rattle.mk_tree.specs.Sections.{Placed, children, content_text, section_at}
 use Rattle.mk_build.specs.Building.{Attached, is_said, named_in_utf8}
-use Rattle.mk_build.specs.Forwards.{Forwarded, build_refusal, built, built_with, refusal_with}
+use Rattle.mk_build.specs.Forwards.{Forwarded, built_with, refusal_with}
 use Rattle.mk_build.specs.Multiparts.{Multipart}
 use Rattle.mk_view.specs.Extracts.{IsExtract}
 use Rattle.mk_view.specs.TextNames.{text_name}
@@ -27,21 +27,6 @@ pub record GivesAllBack (parts : List Attached) (messages : List Forwarded) (t :
   pub count : length (children root) ≡ length parts + length messages
   pub texts : (k : ℕ) (a : Attached) → counted k parts ≡ Some a → IsExtract (section_at (1 ∷ k ∷ []) t) a.text
   pub forwarded : (k : ℕ) (f : Forwarded) → counted k messages ≡ Some f → IsSomeAnd (section_at (1 ∷ (length parts + k) ∷ []) t) (λ p. (kind_in p.entity ≡ Message) × (content_text p ≡ f.text))
-
--- so does each message that is built
-abbrev pub BuiltMessagesGiveBack : Type 0
-BuiltMessagesGiveBack = (eol : Ending) (fields : List (List ℕ)) (parts : List Attached) (boundary : List ℕ) → eol ≢ Missing → AllByRecursion (λ a. AreBytes a.text) parts
-    → build_refusal fields parts boundary ≡ None → GivesAllBack parts [] (tree (built eol fields parts boundary))
-
--- so does each message that is built as a multipart: of any subtype, a digest too, and with any charset of its texts, or none
-abbrev pub BuiltMultipartsGiveBack : Type 0
-BuiltMultipartsGiveBack = (eol : Ending) (fields : List (List ℕ)) (parts : List Attached) (m : Multipart) → eol ≢ Missing → AllByRecursion (λ a. AreBytes a.text) parts
-    → refusal_with fields parts [] m ≡ None → GivesAllBack parts [] (tree (built_with eol fields parts [] m))
-
--- so does each message that is built as a multipart with forwarded messages
-abbrev pub ForwardedMessagesGiveBack : Type 0
-ForwardedMessagesGiveBack = (eol : Ending) (fields : List (List ℕ)) (parts : List Attached) (messages : List Forwarded) (m : Multipart) → eol ≢ Missing → AllByRecursion (λ a. AreBytes a.text) parts
-    → refusal_with fields parts messages m ≡ None → GivesAllBack parts messages (tree (built_with eol fields parts messages m))
 
 -- a file whose name is written as people write it has just that name in each message that is built in UTF-8, as a multipart
 -- and with any forwarded messages

@@ -1,6 +1,5 @@
 -- What letters make of the messages of a mailbox (own).
-use Rattle.std.specs.Prelude.{◌≡◌, if◌then◌else◌, ℕ, Bool, false, not, List, filter, map}
-use Rattle.std.specs.List.{flat_map}
+use Rattle.std.specs.Prelude.{◌≡◌, if◌then◌else◌, ℕ, Bool, not, List}
 use Rattle.std.specs.Result.{result_map_both, result_unwrap_or}
 use Rattle.mk_line.specs.Lines.{TextLine, is_nil}
 use Rattle.mk_tree.specs.Documents.{Document, printed, tree}
@@ -8,7 +7,7 @@ use Rattle.mk_tree.specs.Tree.{with_fields}
 use Rattle.mk_edit.specs.Groups.{Together, together}
 use Rattle.mk_mail.specs.Letters.{PlainLetters, edits_at, root_path}
 use Rattle.mk_mailbox.specs.declared.from_lines.FromLines.{FromLines}
-use Rattle.mk_mailbox.specs.Pieces.{is_left_alone, mailbox_pieces, needs_field}
+use Rattle.mk_mailbox.specs.Pieces.{is_left_alone}
 
 -- what the edits of letters at a path give of a message, made one after another
 abbrev pub outcome_at : List ℕ → PlainLetters → List ℕ → Together
@@ -27,16 +26,6 @@ pub record IsFielded (t u : Document) : Type 0 where
   pub fields : List TextLine
   pub same : u ≡ record { envelope = t.envelope; root = with_fields fields t.root }
 
--- what letters leave of a message has other fields, and all else as it was
-abbrev pub LettersChangeFieldsAlone : Type 0
-LettersChangeFieldsAlone = (l : PlainLetters) (text : List ℕ) → IsFielded (tree text) (tree (filtered l text))
-
 -- a byte of it is left
 abbrev pub is_left : List ℕ → Bool
 is_left text = not (is_nil text)
-
--- the filtered messages of a mailbox, one after another, are cut into just these messages again, but for one of which no byte
--- is left; where a field must follow a From-line, letters may leave none, and the place of each message is looked at (Apart)
-abbrev pub FilteredStayApart : Type 0
-FilteredStayApart = (way : FromLines) → needs_field way ≡ false → (l : PlainLetters) (text : List ℕ) →
-    mailbox_pieces way (flat_map (filtered_in way l) (mailbox_pieces way text)) ≡ filter is_left (map (filtered_in way l) (mailbox_pieces way text))

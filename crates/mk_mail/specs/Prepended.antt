@@ -91,7 +91,3 @@ pub record IsPutIn (field made : List ℕ) : Type 0 where
   pub was : field ≡ front ++ back
   pub is : made ≡ front ++ (put ++ back)
   pub white : list_all is_white (value_of front) ≡ true
-
--- `--prepend` puts bytes into fields, and leaves all bytes that are there
-abbrev pub PrependedFieldsKeepTheirBytes : Type 0
-PrependedFieldsKeepTheirBytes = (eol : Ending) (text field : List ℕ) → IsPutIn field (prepended eol text field)

@@ -1,16 +1,15 @@
 -- Rounds of letters, each on what the one before it left (own).
 use Rattle.mk_line.specs.Results.{made_of}
 use Rattle.std.specs.Result.{result_unwrap_or}
-use Rattle.std.specs.Prelude.{◌≡◌, ◌++◌, if◌then◌else◌, ℕ, Result, Ok, Err, false, List, [], ◌∷◌, filter, map}
-use Rattle.std.specs.List.{flat_map}
+use Rattle.std.specs.Prelude.{if◌then◌else◌, ℕ, Result, Ok, Err, List, [], ◌∷◌}
 use Rattle.mk_line.specs.Lines.{cut, eol_of, is_lf}
 use Rattle.mk_tree.specs.Documents.{printed}
 use Rattle.mk_decide.specs.Edits.{Refusal}
 use Rattle.mk_edit.specs.Groups.{Together}
-use Rattle.mk_mail.specs.Filtered.{filtered, is_left, outcome_at}
+use Rattle.mk_mail.specs.Filtered.{outcome_at}
 use Rattle.mk_mail.specs.Letters.{PlainLetters, root_path}
 use Rattle.mk_mailbox.specs.declared.from_lines.FromLines.{FromLines}
-use Rattle.mk_mailbox.specs.Pieces.{is_left_alone, mailbox_pieces, needs_field}
+use Rattle.mk_mailbox.specs.Pieces.{is_left_alone}
 
 -- one round: the letters for a text whose lines end with LF, and those for one whose lines end with CR LF
 pub record PlainRound : Type 0 where
@@ -50,17 +49,3 @@ rounds_left rs text = result_unwrap_or (rounds_made rs text) text
 -- what rounds leave of a message of a mailbox that is cut at these From-lines
 abbrev pub rounds_left_in : FromLines → List PlainRound → List ℕ → List ℕ
 rounds_left_in way rs text = if is_left_alone way text then text else rounds_left rs text
-
--- one round of the same letters leaves what these letters leave
-abbrev pub OneRoundFilters : Type 0
-OneRoundFilters = (l : PlainLetters) (text : List ℕ) → rounds_left (round_of_letters l ∷ []) text ≡ filtered l text
-
--- more rounds make of a text what they make of the text that the earlier ones made, as in a pipe
-abbrev pub RoundsArePiped : Type 0
-RoundsArePiped = (rs more : List PlainRound) (text : List ℕ) → rounds_made (rs ++ more) text ≡ made_of (rounds_made more) (rounds_made rs text)
-
--- what rounds leave of the messages of a mailbox is cut into just these messages again, but for one of which no byte is left;
--- where a field must follow a From-line, the place of each message is looked at (Apart)
-abbrev pub RoundsStayApart : Type 0
-RoundsStayApart = (way : FromLines) → needs_field way ≡ false → (rs : List PlainRound) (text : List ℕ) →
-    mailbox_pieces way (flat_map (rounds_left_in way rs) (mailbox_pieces way text)) ≡ filter is_left (map (rounds_left_in way rs) (mailbox_pieces way text))

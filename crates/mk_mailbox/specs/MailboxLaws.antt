@@ -1,16 +1,15 @@
 -- Laws of mailboxes, over the definitions alone.
-use Rattle.std.specs.Prelude.{◌≡◌, ◌≢◌, ◌<◌, ◌≤◌, ◌&&◌, ◌++◌, ◌⊎◌, ℕ, Bool, true, false, List, [], ◌∷◌, Option, None, Some, Result, Ok, Err, IfErr, OnOk, length}
+use Rattle.std.specs.Prelude.{◌≡◌, ◌≤◌, ◌&&◌, ◌++◌, ◌⊎◌, ℕ, Bool, true, false, List, [], ◌∷◌, Option, None, Some, Result, Ok, Err, IfErr, OnOk, length}
 use Rattle.std.specs.Global.{Vec}
 use Rattle.std.specs.Io.KnownBytes.{Consumes, IsAtEnd}
-use Rattle.std.specs.List.{AllByRecursion, flat_map}
+use Rattle.std.specs.List.{flat_map}
 use Rattle.mk_mailbox.specs.declared.from_lines.FromLines.{FromLines}
 use Rattle.mk_mailbox.specs.declared.mailbox.MailFault.{MailFault}
 use Rattle.mk_mailbox.specs.declared.mailbox.MailFault.TheVariants.{Memory, ReadFault}
 use Rattle.mk_mailbox.specs.Devices.{IsLong, Rose}
 use Rattle.mk_mailbox.specs.Held.{Held}
 use Rattle.mk_mailbox.specs.Mailboxes.{FitsReads, IsKnownWhole, IsNextPiece, IsOver}
-use Rattle.mk_line.specs.Lines.{TextLine, cut, text_of}
-use Rattle.mk_mailbox.specs.Pieces.{mailbox_pieces}
+use Rattle.mk_line.specs.Lines.{TextLine}
 use Rattle.mk_mailbox.specs.Places.{begins_from, ends_empty}
 
 -- what a call answers: a message, that there is none, or an error
@@ -86,41 +85,6 @@ message_of error = []
 abbrev pub given_by : List Call → List (List ℕ)
 given_by calls = flat_map (λ c. message_of c.reply) calls
 
--- the messages given and those of what is kept are those of all that was read, whatever is read later
-abbrev pub CallsGiveMessages : Type 0
-CallsGiveMessages = (way : FromLines) (calls : List Call) (now : Held) → AreCalls (unread_mailbox way) calls now → (more : List ℕ) → (now.ended ≡ true → more ≡ [])
-    → mailbox_pieces way (read_by calls ++ more) ≡ given_by calls ++ mailbox_pieces way (now.kept ++ more)
-
--- up to a call that says that there is none, the messages given are those of all that was read
-abbrev pub EndsAreWhole : Type 0
-EndsAreWhole = (way : FromLines) (calls : List Call) (last now : Held) (read : List ℕ) → AreCalls (unread_mailbox way) calls last → IsOver last read now → mailbox_pieces way (read_by calls ++ read) ≡ given_by calls
-
--- nothing is read or given after such a call
-abbrev pub EndsStay : Type 0
-EndsStay = (calls : List Call) (last : Held) (read : List ℕ) (over now : Held) → IsOver last read over → AreCalls over calls now → (read_by calls ≡ []) × (given_by calls ≡ [])
-
--- the messages of a mailbox, joined, are the mailbox
-abbrev pub PiecesAreAll : Type 0
-PiecesAreAll = (way : FromLines) (text : List ℕ) → flat_map (λ p. p) (mailbox_pieces way text) ≡ text
-
--- no message is empty
-abbrev pub PiecesAreSome : Type 0
-PiecesAreSome = (way : FromLines) (text : List ℕ) → AllByRecursion (λ p. 0 < length p) (mailbox_pieces way text)
-
--- no message is cut again: each is read as one
-abbrev pub PiecesAreUncut : Type 0
-PiecesAreUncut = (way : FromLines) (text : List ℕ) → AllByRecursion (λ p. mailbox_pieces way p ≡ p ∷ []) (mailbox_pieces way text)
-
 -- some lines and those after them are parted: a message ends with an empty line, and the next begins with a From-line that counts
 abbrev pub are_parted : FromLines → List TextLine → List TextLine → Bool
 are_parted way before after = ends_empty false before && begins_from way after
-
--- a mailbox is cut at each such place
-abbrev pub CutsAreMade : Type 0
-CutsAreMade = (way : FromLines) (text : List ℕ) (before after : List TextLine) → cut text ≡ before ++ after → are_parted way before after ≡ true
-    → mailbox_pieces way text ≡ mailbox_pieces way (text_of before) ++ mailbox_pieces way (text_of after)
-
--- and nowhere else: a text that has no such place is one message
-abbrev pub OthersStayWhole : Type 0
-OthersStayWhole = (way : FromLines) (text : List ℕ) → text ≢ [] → ((before after : List TextLine) → cut text ≡ before ++ after → are_parted way before after ≡ false)
-    → mailbox_pieces way text ≡ text ∷ []

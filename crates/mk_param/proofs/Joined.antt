@@ -2,26 +2,26 @@
 use Rattle.std.proofs.Common.{◌≡◌, ◌<◌, ◌+◌, ◌-◌, ℕ, suc, List, [], ◌∷◌, ◌++◌, refl, ap, sym, ◌∙◌, arith, zero, map, length, drop, get_or, drop-cons, None, Some, append_assoc, add-one}
 use Rattle.std.proofs.lemmas.List.{append-nil, map-append}
 use Rattle.std.specs.Prelude.{Option, option_and_then}
-use Rattle.std.specs.Option.{option_map}
+use Rattle.std.specs.Option.{option_map, option_map_or}
 use Rattle.mk_param.specs.declared.segments.Segment.{Segment as SegmentIn}
 use Rattle.mk_param.specs.Extended.{joined, segment_bytes}
 use Rattle.mk_param.specs.Said.{text_by_lookup}
-use Rattle.mk_param.specs.Segments.{Segment, encoded_name, segment_at, segment_before, segment_name, segments_from}
+use Rattle.mk_param.specs.Segments.{Segment, encoded_name, segment_at, segment_name, segments_from}
 use Rattle.mk_param.specs.SegmentViews.{segment_of}
 
 -- a step up to the first number that is missing
 step_at : (look : List ℕ → Option (List ℕ)) (name : List ℕ) (number most : ℕ) → number < most
-    → segments_from look name number (most - number) ≡ segment_before (segment_at look name number) (segments_from look name (number + 1) (most - (number + 1)))
+    → segments_from look name number (most - number) ≡ option_map_or (λ segment. segment ∷ segments_from look name (number + 1) (most - (number + 1))) (segment_at look name number) []
 step_at look name number most l =
     let count : most - number ≡ suc (most - (number + 1)) = omega arith in
     ap (segments_from look name number) count
-    ∙ ap (λ next. segment_before (segment_at look name number) (segments_from look name next (most - (number + 1)))) (sym (add-one number))
+    ∙ ap (λ next. option_map_or (λ segment. segment ∷ segments_from look name next (most - (number + 1))) (segment_at look name number) []) (sym (add-one number))
 
 pub segments_end : (look : List ℕ → Option (List ℕ)) (name : List ℕ) (number most : ℕ) (found all : List Segment) → number < most → None ≡ segment_at look name number
     → found ++ segments_from look name number (most - number) ≡ all → found ≡ all
 segments_end look name number most found all l none h =
     let nothing : segments_from look name number (most - number) ≡ [] =
-    step_at look name number most l ∙ ap (λ s. segment_before s (segments_from look name (number + 1) (most - (number + 1)))) (sym none) in
+    step_at look name number most l ∙ ap (λ s. option_map_or (λ segment. segment ∷ segments_from look name (number + 1) (most - (number + 1))) s []) (sym none) in
     sym (append-nil found) ∙ ap (λ rest. found ++ rest) (sym nothing) ∙ h
 
 pub segments_more : (look : List ℕ → Option (List ℕ)) (name : List ℕ) (number most : ℕ) (found new all : List Segment) (segment : Segment) → number < most → Some segment ≡ segment_at look name number
@@ -29,7 +29,7 @@ pub segments_more : (look : List ℕ → Option (List ℕ)) (name : List ℕ) (n
 segments_more look name number most found new all segment l some pushed h =
     let rest = segments_from look name (number + 1) (most - (number + 1)) in
     let more : segments_from look name number (most - number) ≡ segment ∷ rest =
-    step_at look name number most l ∙ ap (λ s. segment_before s rest) (sym some) in
+    step_at look name number most l ∙ ap (λ s. option_map_or (λ segment. segment ∷ rest) s []) (sym some) in
     ap (λ front. front ++ rest) pushed ∙ append_assoc found (segment ∷ []) rest ∙ ap (λ back. found ++ back) (sym more) ∙ h
 
 -- the bytes of one more segment

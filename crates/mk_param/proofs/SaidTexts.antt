@@ -1,22 +1,22 @@
 -- What parameters say is a text in UTF-8.
-use Rattle.std.proofs.Common.{◌≡◌, ◌∷◌, ℕ, Bool, true, false, List, [], None, Some, refl, subst, length}
+use Rattle.std.proofs.Common.{◌≡◌, ◌∷◌, ℕ, Bool, true, false, List, [], None, Some, refl, subst, length, if◌then◌else◌}
 use Rattle.std.specs.Prelude.{Option, option_and_then}
 use Rattle.std.specs.Option.{option_or}
 use Rattle.std.specs.Str.{IsUtf8, is_utf8, str_to_ascii_lowercase}
 use Rattle.std.proofs.lemmas.Str.{IsUtf8-from_is_utf8}
 use Rattle.mk_line.specs.Parting.{before}
 use Rattle.mk_head.specs.Values.{param_of}
-use Rattle.mk_code.specs.EncodedWords.{in_utf8, words_decoded}
+use Rattle.mk_code.specs.EncodedWords.{in_utf8, words_decoded, as_text}
 use Rattle.mk_param.specs.Percents.{apostrophe}
 use Rattle.mk_param.specs.Segments.{Segment, Plain, Encoded, encoded_name, segments_from}
-use Rattle.mk_param.specs.Extended.{as_text, after_language, extended_text, joined, segments_text, text_in, when}
+use Rattle.mk_param.specs.Extended.{after_language, extended_text, joined, segments_text, text_in}
 use Rattle.mk_param.specs.Said.{plain_text, said_text}
 
 -- each text that may come out is UTF-8
 abbrev Says : Option (List ℕ) → Type 0
 Says found = (t : List ℕ) → found ≡ Some t → IsUtf8 t
 
-when_utf8 : (b : Bool) (bytes : List ℕ) → is_utf8 bytes ≡ b → Says (when b bytes)
+when_utf8 : (b : Bool) (bytes : List ℕ) → is_utf8 bytes ≡ b → Says (if b then Some bytes else None)
 when_utf8 true bytes e t h = let same : bytes ≡ t = cc in subst IsUtf8 same (IsUtf8-from_is_utf8 bytes e)
 when_utf8 false bytes e t h = absurd cc
 

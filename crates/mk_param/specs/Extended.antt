@@ -1,22 +1,13 @@
 -- Values with a charset and a language (RFC 2231, 4), whole or in segments (4.1).
-use Rattle.std.specs.Prelude.{◌++◌, ℕ, Bool, true, false, List, [], ◌∷◌, Option, Some, None, option_and_then}
+use Rattle.std.specs.Prelude.{◌++◌, ℕ, List, [], ◌∷◌, Option, Some, None, option_and_then}
 use Rattle.std.specs.Option.{option_map}
-use Rattle.std.specs.Str.{is_utf8, str_to_ascii_lowercase}
+use Rattle.std.specs.Str.{str_to_ascii_lowercase}
 use Rattle.mk_line.specs.Parting.{before, following}
-use Rattle.mk_code.specs.EncodedWords.{in_utf8}
+use Rattle.mk_code.specs.EncodedWords.{as_text, in_utf8}
 use Rattle.mk_param.specs.Percents.{apostrophe, percent_decoded}
 use Rattle.mk_param.specs.Segments.{Segment, Plain, Encoded}
 
--- a value where a test holds
-abbrev pub when : Bool → List ℕ → Option (List ℕ)
-when true bytes = Some bytes
-when false bytes = None
-
--- the bytes, if they are a text in UTF-8
-abbrev pub as_text : List ℕ → Option (List ℕ)
-as_text bytes = when (is_utf8 bytes) bytes
-
--- the text that bytes of a charset are: utf-8, us-ascii and iso-8859-1 are known, in any case (own)
+-- the text that bytes are in a charset, named in any case
 abbrev pub text_in : List ℕ → List ℕ → Option (List ℕ)
 text_in charset bytes = option_and_then as_text (in_utf8 (str_to_ascii_lowercase charset) bytes)
 

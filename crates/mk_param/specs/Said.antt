@@ -2,9 +2,9 @@
 use Rattle.std.specs.Prelude.{ℕ, List, length, Option, option_and_then}
 use Rattle.std.specs.Option.{option_or}
 use Rattle.mk_head.specs.Values.{param_of}
-use Rattle.mk_code.specs.EncodedWords.{words_decoded}
+use Rattle.mk_code.specs.EncodedWords.{as_text, words_decoded}
 use Rattle.mk_param.specs.Segments.{encoded_name, segments_from}
-use Rattle.mk_param.specs.Extended.{as_text, extended_text, segments_text}
+use Rattle.mk_param.specs.Extended.{extended_text, segments_text}
 
 -- the text of a plain value, with its encoded words decoded
 abbrev pub plain_text : List ℕ → Option (List ℕ)

@@ -1,6 +1,6 @@
 -- The segments of a value that several parameters hold together (RFC 2231, 3 and 4.1).
 use Rattle.std.specs.Prelude.{◌++◌, ℕ, zero, suc, List, [], ◌∷◌, Option, Some, None, decimal}
-use Rattle.std.specs.Option.{option_map, option_or}
+use Rattle.std.specs.Option.{option_map, option_map_or, option_or}
 use Rattle.mk_line.specs.Ascii.{asterisk}
 
 -- a segment: its value stands as it is, or with percent signs
@@ -21,12 +21,8 @@ abbrev pub segment_at : (List ℕ → Option (List ℕ)) → List ℕ → ℕ �
 segment_at look name number =
     option_or (option_map Encoded (look (encoded_name (segment_name name number)))) (option_map Plain (look (segment_name name number)))
 
--- a segment, if it is there, before those that follow it; none where it is missing
-abbrev pub segment_before : Option Segment → List Segment → List Segment
-segment_before None others = []
-segment_before (Some segment) others = segment ∷ others
-
 -- the segments from a number on in the order of their numbers, up to the first that is missing, and at most so many
 abbrev pub segments_from : (List ℕ → Option (List ℕ)) → List ℕ → ℕ → ℕ → List Segment
 segments_from look name number zero = []
-segments_from look name number (suc most) = segment_before (segment_at look name number) (segments_from look name (suc number) most)
+segments_from look name number (suc most) =
+    option_map_or (λ segment. segment ∷ segments_from look name (suc number) most) (segment_at look name number) []

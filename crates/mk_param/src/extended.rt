@@ -1,9 +1,10 @@
 //! The text of values with a charset and a language (RFC 2231, 4), whole or in segments (4.1).
-ghost use Rattle.std.specs.Prelude.{◌≡◌, ◌++◌, [], ◌∷◌, nat_lt, map, IfOk, option_and_then, option_map};
+ghost use Rattle.mk_code.specs.EncodedWords.{as_text as text_of_bytes};
+ghost use Rattle.std.specs.Prelude.{◌≡◌, ◌++◌, [], ◌∷◌, nat_lt, map, IfOk, option_and_then, option_map, if◌then◌else◌, Some, None};
 ghost use Rattle.std.specs.List.{flat_map};
 ghost use Rattle.std.specs.String.{string_bytes};
 ghost use Rattle.mk_param.specs.Segments.{Encoded};
-ghost use Rattle.mk_param.specs.Extended.{as_text as text_of_bytes, joined, segment_bytes as bytes_of_segment, segments_text as text_of_segments, text_in as text_of_charset, when};
+ghost use Rattle.mk_param.specs.Extended.{joined, segment_bytes as bytes_of_segment, segments_text as text_of_segments, text_in as text_of_charset};
 ghost use Rattle.mk_param.specs.SegmentViews.{segment_of};
 
 use crate::percent::push_decoded;
@@ -69,7 +70,7 @@ pub(crate) fn encoded_text(
 
 // Appends the bytes of segments, and says whether all could be read. Where they couldn't, some of them may be there.
 fn push_joined(out: &mut Vec<u8>, segments: &[Segment<'_>]) -> Result<bool, AllocError>
-    ensures { IfOk result (λ read. when read out.new.items ≡ option_map (λ bytes. out.old.items ++ bytes) (joined (map segment_of segments.now))) }
+    ensures { IfOk result (λ read. (if read then Some out.new.items else None) ≡ option_map (λ bytes. out.old.items ++ bytes) (joined (map segment_of segments.now))) }
 {
     for segment in segments {
         if !push_segment(out, segment)? {
@@ -81,7 +82,7 @@ fn push_joined(out: &mut Vec<u8>, segments: &[Segment<'_>]) -> Result<bool, Allo
 
 // Appends the bytes of a segment, and says whether they could be read.
 fn push_segment(out: &mut Vec<u8>, segment: &Segment<'_>) -> Result<bool, AllocError>
-    ensures { IfOk result (λ read. when read out.new.items ≡ option_map (λ bytes. out.old.items ++ bytes) (bytes_of_segment (segment_of segment.now))) }
+    ensures { IfOk result (λ read. (if read then Some out.new.items else None) ≡ option_map (λ bytes. out.old.items ++ bytes) (bytes_of_segment (segment_of segment.now))) }
 {
     match segment {
         Segment::Encoded(value) => push_decoded(out, value),

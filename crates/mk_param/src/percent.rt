@@ -1,9 +1,8 @@
 //! Bytes with percent signs, read and written (RFC 2231, 7).
-ghost use Rattle.std.specs.Prelude.{◌≡◌, ◌<◌, ◌≤◌, ◌++◌, true, length, IfOk, IfSome, IsSome, MatchOption, OnErr, OnOk, option_map};
+ghost use Rattle.std.specs.Prelude.{◌≡◌, ◌<◌, ◌≤◌, ◌++◌, true, length, IfOk, IfSome, IsSome, MatchOption, OnErr, OnOk, option_map, if◌then◌else◌, Some, None};
 ghost use Rattle.mk_code.specs.EncodedWords.{put_before};
 ghost use Rattle.mk_code.specs.QuotedPrintable.{digit_value as value_of, hex_digit as digit_of, is_hex_digit as hex, pair_at};
 ghost use Rattle.mk_param.specs.Percents.{byte_encoded, is_attribute_byte as attribute_byte, percent_decoded, percent_encoded};
-ghost use Rattle.mk_param.specs.Extended.{when};
 
 use mk_head::is_token;
 use std::alloc::{AllocError, Global};
@@ -28,7 +27,7 @@ pub fn percent_decode(alloc: Global, text: &[u8]) -> Result<Option<Vec<u8>>, All
 /// Appends the bytes that a text with percent signs stands for, and says whether it could be read. Where it couldn't, some of
 /// them may be there.
 pub(crate) fn push_decoded(out: &mut Vec<u8>, text: &[u8]) -> Result<bool, AllocError>
-    ensures { IfOk result (λ read. when read out.new.items ≡ option_map (λ bytes. out.old.items ++ bytes) (percent_decoded text.now)) }
+    ensures { IfOk result (λ read. (if read then Some out.new.items else None) ≡ option_map (λ bytes. out.old.items ++ bytes) (percent_decoded text.now)) }
 {
     let mut rest = text;
     while !rest.is_empty() {

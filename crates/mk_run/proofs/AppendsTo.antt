@@ -10,7 +10,8 @@ use Rattle.mk_tree.specs.Sections.{Placed, section_at}
 use Rattle.mk_tree.specs.Tree.{Entity, leaf, message, multi, print, read}
 use Rattle.mk_decide.specs.Edits.{Refusal, NotMultipart, InsertPart, SetSection}
 use Rattle.mk_decide.specs.Outcomes.{edited}
-use Rattle.mk_decide.specs.Plans.{Plan, place_of, plan_of, read_plan}
+use Rattle.mk_decide.specs.Plans.{Plan, place_of, plan_of}
+use Rattle.mk_decide.proofs.PlanNames.{read_plan}
 use Rattle.mk_decide.proofs.Accepted.{none_some, ok_same, plan_by, some_same, there_again}
 use Rattle.mk_decide.proofs.EveryEdit.{plan_there}
 use Rattle.mk_decide.proofs.Late.{fair}

@@ -1,8 +1,8 @@
 -- The disposition of an attached part says the name that it was made for.
-use Rattle.std.proofs.Common.{◌≡◌, ◌==◌, ◌≤◌, ◌&&◌, ◌++◌, ℕ, zero, suc, Bool, true, false, not, None, Option, Some, List, [], ◌∷◌, refl, ap, ◌∙◌, codes, length, nat_le, arith}
+use Rattle.std.proofs.Common.{◌≡◌, ◌==◌, ◌≤◌, ◌&&◌, ◌++◌, ℕ, zero, suc, Bool, true, false, not, None, Option, Some, List, [], ◌∷◌, refl, ap, ◌∙◌, codes, length, nat_le, arith, if◌then◌else◌}
 use Rattle.std.proofs.lemmas.Bool.{leb-true}
 use Rattle.std.proofs.lemmas.Str.{IsUtf8-from_ascii, is_utf8-from_IsUtf8}
-use Rattle.std.specs.List.{list_all}
+use Rattle.std.specs.List.{list_all, onto_first}
 use Rattle.std.specs.Option.{option_or}
 use Rattle.std.specs.Prelude.{unwrap_or}
 use Rattle.std.specs.Str.{IsAscii}
@@ -12,9 +12,8 @@ use Rattle.mk_line.specs.Marks.{trimmed, trimmed_before}
 use Rattle.mk_line.specs.Parting.{following}
 use Rattle.mk_line.proofs.Cuts.{append_nil}
 use Rattle.mk_head.specs.Types.{field_value}
-use Rattle.mk_head.specs.Values.{Plain, Quoted, content_type_of, param_of, parameter_value, pieces, push_first, stripped, type_of_pieces, uncommented, unquoted}
-use Rattle.mk_code.specs.EncodedWords.{words_decoded}
-use Rattle.mk_param.specs.Extended.{as_text, when}
+use Rattle.mk_head.specs.Values.{Plain, Quoted, content_type_of, param_of, parameter_value, pieces, stripped, type_of_pieces, uncommented, unquoted}
+use Rattle.mk_code.specs.EncodedWords.{as_text, words_decoded}
 use Rattle.mk_param.specs.Said.{plain_text, said_text}
 use Rattle.mk_tree.specs.Sections.{Placed}
 use Rattle.mk_tree.specs.Tree.{field_lines}
@@ -22,8 +21,7 @@ use Rattle.mk_view.specs.FileNames.{disposed_name}
 use Rattle.mk_view.specs.Listing.{type_of}
 use Rattle.mk_view.specs.TextNames.{disposed_text}
 use Rattle.mk_build.specs.Building.{Attached, is_name, is_name_byte, longest}
-use Rattle.mk_mail.proofs.BuiltParts.{charset_for}
-use Rattle.mk_mail.proofs.BuiltParts.{part_fields}
+use Rattle.mk_mail.proofs.BuiltParts.{charset_for, part_entity, part_fields}
 use Rattle.mk_mail.proofs.PartTypes.{InQuotes, both, name_quotes}
 use Rattle.mk_run.specs.AttachLaws.{SaysName}
 use Rattle.mk_run.proofs.AttachedParts.{entity_by}
@@ -42,7 +40,7 @@ value_uncommented name h = ap (λ xs. codes " attachment; filename=\"" ++ xs) (q
 
 quoted_pieces : (cs : List ℕ) → InQuotes cs → pieces Quoted (cs ++ 34 ∷ []) ≡ (cs ++ 34 ∷ []) ∷ []
 quoted_pieces [] h = refl
-quoted_pieces (c ∷ cs) h = rw (h.1, h.0) (ap (push_first c) (quoted_pieces cs h.2))
+quoted_pieces (c ∷ cs) h = rw (h.1, h.0) (ap (onto_first c) (quoted_pieces cs h.2))
 
 -- bytes that neither open nor end anything outside quotes
 abbrev is_calm : ℕ → Bool
@@ -58,13 +56,13 @@ calm_pieces (c ∷ cs) rest x ps h e =
     let p = both (is_calm c) (list_all is_calm cs) h in
     let q = both (not (c == 34)) (not (c == 40) && not (c == 59)) p.0 in
     let r = both (not (c == 40)) (not (c == 59)) q.1 in
-    rw (not_true (c == 59) r.1, not_true (c == 34) q.0, not_true (c == 40) r.0) (ap (push_first c) (calm_pieces cs rest x ps p.1 e))
+    rw (not_true (c == 59) r.1, not_true (c == 34) q.0, not_true (c == 40) r.0) (ap (onto_first c) (calm_pieces cs rest x ps p.1 e))
 
 abbrev name_piece : List ℕ → List ℕ
 name_piece name = codes " filename=" ++ 34 ∷ (name ++ 34 ∷ [])
 
 name_pieces : (name : List ℕ) → InQuotes name → pieces Plain (name_piece name) ≡ name_piece name ∷ []
-name_pieces name h = calm_pieces (codes " filename=") (34 ∷ (name ++ 34 ∷ [])) (34 ∷ (name ++ 34 ∷ [])) [] refl (ap (push_first 34) (quoted_pieces name h))
+name_pieces name h = calm_pieces (codes " filename=") (34 ∷ (name ++ 34 ∷ [])) (34 ∷ (name ++ 34 ∷ [])) [] refl (ap (onto_first 34) (quoted_pieces name h))
 
 value_pieces : (name : List ℕ) → InQuotes name → pieces Plain (value_of name) ≡ codes " attachment" ∷ name_piece name ∷ []
 value_pieces name h = calm_pieces (codes " attachment") (59 ∷ name_piece name) [] (name_piece name ∷ []) refl (ap (λ ps. [] ∷ ps) (name_pieces name h))
@@ -125,14 +123,16 @@ name_bytes name h =
 plain_is : (name : List ℕ) → list_all is_name_byte name ≡ true → words_decoded name ≡ name → plain_text name ≡ Some name
 plain_is name h w =
     ap as_text w
-    ∙ ap (λ t. when t name) (is_utf8-from_IsUtf8 name (IsUtf8-from_ascii name (name_ascii name h)))
+    ∙ ap (λ t. if t then Some name else None) (is_utf8-from_IsUtf8 name (IsUtf8-from_ascii name (name_ascii name h)))
 
--- what a part of a name says
-pub says_name : (eol : Ending) (charset : Option (List ℕ)) (a : Attached) (name : List ℕ) (followed : Bool) (q : Placed) → q.entity ≡ entity_by eol charset a followed → a.name ≡ Some name → a.said ≡ None → is_name name ≡ true → SaysName name q
-says_name eol charset a name followed q e n s h =
+-- what a part with the fields of a file says
+said_by : (eol : Ending) (charset : Option (List ℕ)) (a : Attached) (name : List ℕ) (q : Placed)
+    → field_value (codes "Content-Disposition") (field_lines q.entity) ≡ field_value (codes "Content-Disposition") (part_fields eol a.media (charset_for charset a.media) a.name a.said a.base64)
+    → a.name ≡ Some name → a.said ≡ None → is_name name ≡ true → SaysName name q
+said_by eol charset a name q e n s h =
     let quotes = name_quotes name (name_bytes name h) in
     let value : field_value (codes "Content-Disposition") (field_lines q.entity) ≡ Some (value_of name) =
-    ap (λ x. field_value (codes "Content-Disposition") (field_lines x)) e
+    e
     ∙ ((λ i. field_value (codes "Content-Disposition") (part_fields eol a.media (charset_for charset a.media) (n i) (s i) a.base64)) ∙ disposition_value eol a.media (charset_for charset a.media) name a.base64) in
     record {
       raw =
@@ -143,3 +143,11 @@ says_name eol charset a name followed q e n s h =
           ∙ (ap (λ ps. option_or (said_text (codes "filename") ps) (said_text (codes "name") (type_of q).params)) (params_are name quotes)
           ∙ ap (λ o. option_or o (said_text (codes "name") (type_of q).params)) (text_by_params name ∙ plain_is name (name_bytes name h) w));
     }
+
+-- what a part that was attached says
+pub says_name : (eol : Ending) (charset : Option (List ℕ)) (a : Attached) (name : List ℕ) (followed : Bool) (q : Placed) → q.entity ≡ entity_by eol charset a followed → a.name ≡ Some name → a.said ≡ None → is_name name ≡ true → SaysName name q
+says_name eol charset a name followed q e = said_by eol charset a name q (ap (λ x. field_value (codes "Content-Disposition") (field_lines x)) e)
+
+-- what a part of a built message says
+pub built_says : (eol : Ending) (charset : Option (List ℕ)) (a : Attached) (name : List ℕ) (q : Placed) → q.entity ≡ part_entity eol charset a → a.name ≡ Some name → a.said ≡ None → is_name name ≡ true → SaysName name q
+built_says eol charset a name q e = said_by eol charset a name q (ap (λ x. field_value (codes "Content-Disposition") (field_lines x)) e)

@@ -1,4 +1,5 @@
 -- What was attached is given back, a file under its name.
+use Rattle.mk_mail.specs.BuiltLaws.{AreBytes}
 use Rattle.std.proofs.Common.{◌≡◌, ◌≢◌, if◌then◌else◌, ℕ, Bool, true, false, Option, None, Some, Result, Ok, Err, List, refl, ap, sym, ◌∙◌, subst, codes}
 use Rattle.std.specs.Option.{option_map_or}
 use Rattle.std.specs.Str.{is_utf8}
@@ -12,16 +13,16 @@ use Rattle.mk_build.specs.declared.attaching.AttachError.{AttachError}
 use Rattle.mk_build.specs.declared.attaching.AttachError.TheVariants as attach
 use Rattle.mk_build.specs.Multiparts.{attached, attached_as}
 use Rattle.mk_build.specs.Building.{Attached, attach_refusal, is_media, is_name}
-use Rattle.mk_script.specs.Script.{Attaches}
+use Rattle.mk_script.specs.Script.{Attaches, AttachesText}
 use Rattle.mk_show.specs.Parts.{attached_file, file_name, is_text}
 use Rattle.mk_expand.specs.Appends.{appended, follows_last, made_part}
 use Rattle.mk_expand.specs.Charsets.{are_ascii}
 use Rattle.mk_expand.specs.ExpandLaws.{all_edited}
 use Rattle.mk_expand.specs.Meanings.{Meaning, WordFault, BadCharset, BadType}
-use Rattle.mk_expand.specs.Pieces.{Pieces, piece_lines}
+use Rattle.mk_expand.specs.Pieces.{Pieces, piece_lines, piece_text}
 use Rattle.mk_expand.specs.Words.{append, attach_by, attach_fault, attach_file, attach_text, attach_text_by, attached_bytes, said_charset, text_of_type}
 use Rattle.mk_expand.proofs.NewParts.{appended_new}
-use Rattle.mk_run.specs.AttachLaws.{AttachedFilesAreGivenBack, AttachedNamesAreSaid, AttachedTextsAreGivenBack, IsLeafOf, IsWordMade, new_path}
+use Rattle.mk_run.specs.AttachLaws.{IsLeafOf, IsWordMade, new_path, SaysName}
 use Rattle.mk_run.proofs.AppendsTo.{appends_to_multipart}
 use Rattle.mk_run.proofs.AttachedNames.{says_name}
 use Rattle.mk_run.proofs.AttachedParts.{entity_by, given_text, holds_given, not_open, read_given}
@@ -81,7 +82,7 @@ file_there pieces eol mail path media name piece u p n found m =
     let is = attached_by eol path a (Some p) (attach_refusal a) m.edits (ap (attach_file eol path a) (sym found) ∙ m.means) in
     attached_there eol path mail None a m.edits u p n refl found is.0 is.1 m.made
 
-pub files_given_back : AttachedFilesAreGivenBack
+pub files_given_back : (pieces : Pieces) (eol : Ending) (mail path media name : List ℕ) (piece : ℕ) (u : Document) (p : Placed) → eol ≢ Missing → AreBytes (piece_text pieces piece) → section_at path (tree mail) ≡ Some p → IsWordMade pieces eol mail (Attaches path media name piece) u → IsLeafOf (section_at (new_path path p) u) (attached_bytes pieces eol media piece)
 unfolding file_of
 files_given_back pieces eol mail path media name piece u p n small found m =
     let new = file_there pieces eol mail path media name piece u p n found m in
@@ -91,7 +92,7 @@ files_given_back pieces eol mail path media name piece u p n small found m =
 some_same : (p q : Placed) → ◌≡◌ {A = Option Placed} (Some p) (Some q) → p ≡ q
 some_same p q e = cc
 
-pub names_said : AttachedNamesAreSaid
+pub names_said : (pieces : Pieces) (eol : Ending) (mail path media name : List ℕ) (piece : ℕ) (u : Document) (p q : Placed) → eol ≢ Missing → section_at path (tree mail) ≡ Some p → IsWordMade pieces eol mail (Attaches path media name piece) u → section_at (new_path path p) u ≡ Some q → SaysName (file_name name) q
 unfolding file_of
 names_said pieces eol mail path media name piece u p q n found m there =
     let new = file_there pieces eol mail path media name piece u p n found m in
@@ -127,7 +128,7 @@ token_by true utf8 charset h = ap (λ o. option_map_or is_token o true) (sym (sa
 token_by false true charset h = ap (λ o. option_map_or is_token o true) (sym (same_charset (Some (codes "utf-8")) charset h))
 token_by false false charset h = err_charset BadCharset charset h
 
-pub texts_given_back : AttachedTextsAreGivenBack
+pub texts_given_back : (pieces : Pieces) (eol : Ending) (mail path media : List ℕ) (piece : ℕ) (u : Document) (p : Placed) → eol ≢ Missing → AreBytes (piece_text pieces piece) → section_at path (tree mail) ≡ Some p → IsWordMade pieces eol mail (AttachesText path media piece) u → IsLeafOf (section_at (new_path path p) u) (piece_lines pieces eol piece)
 texts_given_back pieces eol mail path media piece u p n small found m =
     let text = piece_lines pieces eol piece in
     let a = text_of_type media text in

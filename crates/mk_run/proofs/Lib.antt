@@ -3,6 +3,7 @@ pub mod AttachedNames
 pub mod AttachedParts
 pub mod Attachments
 pub mod InTurn
+pub mod PackedNames
 pub mod PlainWords
 pub mod RunLemmas
 pub mod TurnedBytes

@@ -1,22 +1,19 @@
 -- The laws of `attach` and `attach-text`: what was given is extracted of the new part, and a file has the name that was given (own).
-use Rattle.std.specs.Prelude.{◌≡◌, ◌≢◌, ◌++◌, ℕ, Option, None, Some, Ok, List, [], ◌∷◌}
+use Rattle.std.specs.Prelude.{◌≡◌, ◌++◌, ℕ, Option, None, Some, Ok, List, [], ◌∷◌}
 use Rattle.mk_line.specs.declared.cutting.Ending.{Ending}
-use Rattle.mk_line.specs.declared.cutting.Ending.TheVariants.{Missing}
 use Rattle.mk_code.specs.EncodedWords.{words_decoded}
 use Rattle.mk_tree.specs.Documents.{Document, tree}
-use Rattle.mk_tree.specs.Sections.{Placed, section_at}
+use Rattle.mk_tree.specs.Sections.{Placed}
 use Rattle.mk_decide.specs.Edits.{PlainEdit}
 use Rattle.mk_decide.specs.EditLaws.{IsLeaf}
 use Rattle.mk_view.specs.Extracts.{IsContentOf}
 use Rattle.mk_view.specs.FileNames.{raw_name}
 use Rattle.mk_view.specs.TextNames.{text_name}
-use Rattle.mk_mail.specs.BuiltLaws.{AreBytes}
-use Rattle.mk_script.specs.Script.{ScriptWord, Attaches, AttachesText}
-use Rattle.mk_show.specs.Parts.{file_name}
+use Rattle.mk_script.specs.Script.{ScriptWord}
 use Rattle.mk_expand.specs.Appends.{new_number}
 use Rattle.mk_expand.specs.ExpandLaws.{all_edited}
-use Rattle.mk_expand.specs.Pieces.{Pieces, piece_lines, piece_text}
-use Rattle.mk_expand.specs.Words.{attached_bytes, meaning_of}
+use Rattle.mk_expand.specs.Pieces.{Pieces}
+use Rattle.mk_expand.specs.Words.{meaning_of}
 
 -- what a word stands for in a message was made, one edit after another, and gave a document
 pub record IsWordMade (pieces : Pieces) (eol : Ending) (mail : List ℕ) (word : ScriptWord) (u : Document) : Type 0 where
@@ -33,22 +30,7 @@ IsLeafOf (Some p) bytes = IsLeaf p.entity × IsContentOf p bytes
 abbrev pub new_path : List ℕ → Placed → List ℕ
 new_path path p = path ++ new_number p ∷ []
 
--- wherever `attach` is accepted, the new part is a leaf of which the file is extracted
-abbrev pub AttachedFilesAreGivenBack : Type 0
-AttachedFilesAreGivenBack = (pieces : Pieces) (eol : Ending) (mail path media name : List ℕ) (piece : ℕ) (u : Document) (p : Placed) → eol ≢ Missing → AreBytes (piece_text pieces piece) → section_at path (tree mail) ≡ Some p
-    → IsWordMade pieces eol mail (Attaches path media name piece) u → IsLeafOf (section_at (new_path path p) u) (attached_bytes pieces eol media piece)
-
--- wherever `attach-text` is accepted, the new part is a leaf of which the text is extracted
-abbrev pub AttachedTextsAreGivenBack : Type 0
-AttachedTextsAreGivenBack = (pieces : Pieces) (eol : Ending) (mail path media : List ℕ) (piece : ℕ) (u : Document) (p : Placed) → eol ≢ Missing → AreBytes (piece_text pieces piece) → section_at path (tree mail) ≡ Some p
-    → IsWordMade pieces eol mail (AttachesText path media piece) u → IsLeafOf (section_at (new_path path p) u) (piece_lines pieces eol piece)
-
 -- a section says a name: in its bytes, and as a text where no encoded word stands in the name
 pub record SaysName (name : List ℕ) (p : Placed) : Type 0 where
   pub raw : raw_name p ≡ Some name
   pub text : words_decoded name ≡ name → text_name p ≡ Some name
-
--- the name that an attached file says is what follows the last slash of the name that was given
-abbrev pub AttachedNamesAreSaid : Type 0
-AttachedNamesAreSaid = (pieces : Pieces) (eol : Ending) (mail path media name : List ℕ) (piece : ℕ) (u : Document) (p q : Placed) → eol ≢ Missing → section_at path (tree mail) ≡ Some p
-    → IsWordMade pieces eol mail (Attaches path media name piece) u → section_at (new_path path p) u ≡ Some q → SaysName (file_name name) q

@@ -9,7 +9,7 @@ use Rattle.mk_line.proofs.Cuts.{cut_text}
 use Rattle.mk_script.specs.Script.{ScriptWord, Adds, Deletes, Renames, Sets, Bodies, Replaces, Inserts, Removes, Wraps, SetsContent, SetsText, Encodes, Puts, PutsPiece, DropsAll, Appends, AppendsText, Attaches, AttachesText, ScriptLine, Edits, Undoes, Redoes, Begins, Ends, NumberedLine, is_skipped, line_of, lines_from, lines_of}
 use Rattle.mk_script.specs.ScriptSteps.{ScriptStep, Makes, Groups, TakesBack, MakesAgain, first_fault, has_end, script_of, steps_from}
 use Rattle.mk_script.specs.Written.{IsLine, IsWord, written, written_line}
-use Rattle.mk_script.specs.WrittenScripts.{AreSteps, AreWords, IsWrittenStep, ScriptsAreWritten, step_lines, written_steps}
+use Rattle.mk_script.specs.WrittenScripts.{AreSteps, AreWords, IsWrittenStep, step_lines, written_steps}
 use Rattle.mk_script.proofs.LineLemmas.{line_of-written}
 
 -- ---- lines
@@ -135,7 +135,7 @@ steps_stand count number (step ∷ steps) are =
 
 -- ---- the law
 
-pub scripts_written : ScriptsAreWritten
+pub scripts_written : (count : ℕ) (steps : List ScriptStep) → AreSteps count 1 steps → AreLines (written_steps steps) → script_of count (text_of (written_steps steps)) ≡ Ok steps
 scripts_written count steps are lines =
     let said = flat_map step_lines steps in
     let read : lines_of count (text_of (written_steps steps)) ≡ numbered 1 said = ap (lines_from count 1) (cut_text (written_steps steps) lines) ∙ lines_read count 1 said (steps_stand count 1 steps are) in

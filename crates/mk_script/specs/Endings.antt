@@ -1,5 +1,5 @@
 -- Texts with other endings at their lines (own).
-use Rattle.std.specs.Prelude.{◌≡◌, ◌≢◌, ◌⊎◌, ◌==◌, if◌then◌else◌, ℕ, List, [], ◌∷◌, map}
+use Rattle.std.specs.Prelude.{◌≡◌, ◌⊎◌, ◌==◌, if◌then◌else◌, ℕ, List, [], ◌∷◌, map}
 use Rattle.std.specs.List.{list_all}
 use Rattle.mk_line.specs.Ascii.{carriage_return}
 use Rattle.mk_line.specs.declared.cutting.Ending.{Ending}
@@ -35,15 +35,3 @@ turned_to eol text = text_of (map (turned_line eol) (cut text))
 abbrev pub HaveEnding : Ending → List TextLine → Type 0
 HaveEnding eol [] = Unit {0}
 HaveEnding eol (l ∷ ls) = ((l.ending ≡ eol) ⊎ ((l.ending ≡ Missing) × (ls ≡ []))) × HaveEnding eol ls
-
--- the lines of a text that is turned are those of the text, each with the content and the ending that it is turned to
-abbrev pub LinesAreTurned : Type 0
-LinesAreTurned = (eol : Ending) (text : List ℕ) → eol ≢ Missing → cut (turned_to eol text) ≡ map (turned_line eol) (cut text)
-
--- so all of them end so
-abbrev pub TurnedLinesHaveTheEnding : Type 0
-TurnedLinesHaveTheEnding = (eol : Ending) (text : List ℕ) → eol ≢ Missing → HaveEnding eol (cut (turned_to eol text))
-
--- turning again changes nothing
-abbrev pub TurnedTextsStay : Type 0
-TurnedTextsStay = (eol : Ending) (text : List ℕ) → eol ≢ Missing → turned_to eol (turned_to eol text) ≡ turned_to eol text

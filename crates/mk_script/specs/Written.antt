@@ -1,12 +1,12 @@
 -- How the lines of a script are written. A line says something exactly where it is that as it is written (`laws`).
-use Rattle.std.specs.Prelude.{◌≡◌, ◌<◌, ◌≤◌, ◌^◌, ◌↔◌, if◌then◌else◌, true, ℕ, List, [], ◌∷◌, ◌++◌, Some, length, map, codes, decimal}
+use Rattle.std.specs.Prelude.{◌≡◌, ◌<◌, ◌≤◌, ◌^◌, if◌then◌else◌, true, ℕ, List, ◌∷◌, ◌++◌, length, map, codes, decimal}
 use Rattle.std.specs.List.{AllByRecursion, join_with_byte}
 use Rattle.mk_line.specs.Ascii.{space, full_stop}
 use Rattle.mk_script.specs.declared.script.ChosenEncoding.{ChosenEncoding}
 use Rattle.mk_script.specs.declared.script.ChosenEncoding.TheVariants.{Qp, QuotedPrintable, Base64, EightBit, Identity}
 use Rattle.mk_script.specs.Paths.{max_components}
 use Rattle.mk_script.specs.Targets.{Target, is_field_name, is_name}
-use Rattle.mk_script.specs.Script.{ScriptWord, Adds, Deletes, Renames, Sets, Bodies, Replaces, Inserts, Removes, Wraps, SetsContent, SetsText, Encodes, Puts, PutsPiece, DropsAll, Appends, AppendsText, Attaches, AttachesText, ScriptLine, Edits, Undoes, Redoes, Begins, Ends, line_of}
+use Rattle.mk_script.specs.Script.{ScriptWord, Adds, Deletes, Renames, Sets, Bodies, Replaces, Inserts, Removes, Wraps, SetsContent, SetsText, Encodes, Puts, PutsPiece, DropsAll, Appends, AppendsText, Attaches, AttachesText, ScriptLine, Edits, Undoes, Redoes, Begins, Ends}
 
 -- numbers that may lead to a section: from 1 on, and each fits 32 bits
 pub record IsPath (path : List ℕ) : Type 0 where
@@ -105,7 +105,3 @@ written_line Undoes = codes "undo"
 written_line Redoes = codes "redo"
 written_line Begins = codes "begin"
 written_line Ends = codes "end"
-
--- the lines that say something are those that write it
-abbrev pub LinesAreWritten : Type 0
-LinesAreWritten = (count : ℕ) (bytes : List ℕ) (line : ScriptLine) → (line_of count bytes ≡ Some line) ↔ (IsLine count line × (bytes ≡ written_line line))

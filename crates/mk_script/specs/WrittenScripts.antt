@@ -1,11 +1,10 @@
 -- How the steps of a script are written (own).
-use Rattle.std.specs.Prelude.{◌≡◌, ◌+◌, ℕ, List, [], ◌∷◌, ◌++◌, Result, Ok, length, map}
+use Rattle.std.specs.Prelude.{◌≡◌, ◌+◌, ℕ, List, [], ◌∷◌, ◌++◌, length, map}
 use Rattle.std.specs.List.{flat_map}
-use Rattle.mk_line.specs.declared.cutting.Ending.{Ending}
 use Rattle.mk_line.specs.declared.cutting.Ending.TheVariants.{Lf}
-use Rattle.mk_line.specs.Lines.{AreLines, TextLine, text_line, text_of}
+use Rattle.mk_line.specs.Lines.{TextLine, text_line}
 use Rattle.mk_script.specs.Script.{ScriptWord, ScriptLine, Edits, Undoes, Redoes, Begins, Ends}
-use Rattle.mk_script.specs.ScriptSteps.{ScriptStep, Makes, Groups, TakesBack, MakesAgain, script_of}
+use Rattle.mk_script.specs.ScriptSteps.{ScriptStep, Makes, Groups, TakesBack, MakesAgain}
 use Rattle.mk_script.specs.Written.{IsWord, written_line}
 
 -- what the lines of a step say: an edit is one line, and edits of a group stand between `begin` and `end`
@@ -35,8 +34,3 @@ AreSteps count number (step ∷ steps) = IsWrittenStep count number step × AreS
 -- steps are written as their lines, each with a line feed
 abbrev pub written_steps : List ScriptStep → List TextLine
 written_steps steps = map (λ line. text_line (written_line line) Lf) (flat_map step_lines steps)
-
--- what steps are written as is read as these steps: their fields and names must have no line feed, and no line a carriage return
--- at its end
-abbrev pub ScriptsAreWritten : Type 0
-ScriptsAreWritten = (count : ℕ) (steps : List ScriptStep) → AreSteps count 1 steps → AreLines (written_steps steps) → script_of count (text_of (written_steps steps)) ≡ Ok steps

@@ -7,3 +7,4 @@ pub mod UnpackLemmas
 pub mod ChoosingLemmas
 pub mod TurnedParts
 pub mod MeasuredTexts
+pub mod SentPieces

@@ -1,10 +1,10 @@
 -- Texts that stand after their lengths are told apart.
 use Rattle.std.proofs.Common.{◌≡◌, ◌<◌, ◌^◌, ◌++◌, ◌∙◌, ℕ, zero, suc, true, false, List, [], ◌∷◌, append_assoc, arith, ap, decimal, length, length-append, refl, subst, sym}
 use Rattle.std.specs.Char.{is_ascii_digit}
-use Rattle.std.specs.List.{flat_map}
+use Rattle.std.specs.List.{AllByRecursion, flat_map}
 use Rattle.mk_splice.specs.Grammar.{AreDigits, number_of}
 use Rattle.mk_splice.proofs.Decimals.{decimal_value, is_decimal}
-use Rattle.mk_show.specs.OwnBoundary.{FitMemory, measured}
+use Rattle.mk_show.specs.OwnBoundary.{measured}
 
 abbrev head : List ℕ → ℕ
 head [] = 0
@@ -61,7 +61,7 @@ some_written x more h e =
     let p = is_decimal (length x) h in
     omega (arith, ap length e, length-append (measured x) more, length-append (decimal (length x)) (58 ∷ x), ap length p.same)
 
-pub lists_apart : (xs ys : List (List ℕ)) → FitMemory xs → FitMemory ys → flat_map measured xs ≡ flat_map measured ys → xs ≡ ys
+pub lists_apart : (xs ys : List (List ℕ)) → AllByRecursion (λ x. length x < 2 ^ 64) xs → AllByRecursion (λ y. length y < 2 ^ 64) ys → flat_map measured xs ≡ flat_map measured ys → xs ≡ ys
 lists_apart [] [] h k e = refl
 lists_apart [] (y ∷ ys) h k e = absurd (some_written y (flat_map measured ys) k.0 e)
 lists_apart (x ∷ xs) [] h k e = absurd (some_written x (flat_map measured xs) h.0 (sym e))

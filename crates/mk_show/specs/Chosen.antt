@@ -21,13 +21,9 @@ pub record Asked : Type 0 where
   pub texts : Bool
   pub sections : Option (List (List ℕ))
 
--- a path is that of a section, or leads to one below it
-abbrev pub is_below : List ℕ → List ℕ → Bool
-is_below path section = starts_with nat_eq path section
-
 -- one of the sections is at a path, or above it
 abbrev pub is_within : List (List ℕ) → List ℕ → Bool
-is_within sections path = list_any (is_below path) sections
+is_within sections path = list_any (λ section. starts_with nat_eq path section) sections
 
 -- the leaves at and below the sections at some paths, in their order and under their names
 abbrev pub within : List (List ℕ) → List Named → List Named

@@ -1,13 +1,12 @@
 -- The boundary that is made of what is packed where messages are forwarded: it begins no line of theirs (own).
-use Rattle.std.specs.Prelude.{◌≡◌, ◌++◌, ◌==◌, ◌+◌, ◌<◌, if◌then◌else◌, ℕ, Bool, true, List, [], ◌∷◌, codes, decimal, length, take}
+use Rattle.std.specs.Prelude.{◌++◌, ◌==◌, ◌+◌, if◌then◌else◌, ℕ, Bool, List, [], ◌∷◌, codes, decimal, length, take}
 use Rattle.std.specs.List.{flat_map, list_all, position_or_len, range_with_len}
 use Rattle.mk_line.specs.Ascii.{underscore}
 use Rattle.mk_line.specs.Lines.{cut}
-use Rattle.mk_head.specs.Boundaries.{is_boundary}
 use Rattle.mk_splice.specs.Journals.{digest_of}
 use Rattle.mk_build.specs.Building.{Attached}
 use Rattle.mk_build.specs.Forwards.{Forwarded, is_clear}
-use Rattle.mk_show.specs.OwnBoundary.{digits_kept, measured, measured_part, own_boundary}
+use Rattle.mk_show.specs.OwnBoundary.{digits_kept, measured, measured_part}
 
 -- a forwarded message: its media type, which no part can have, and its bytes
 abbrev pub measured_message : Forwarded → List ℕ
@@ -43,15 +42,3 @@ free_boundary fields parts messages =
 abbrev pub line_count : List Forwarded → ℕ
 line_count [] = 0
 line_count (f ∷ messages) = length (cut f.text) + line_count messages
-
--- where no message is forwarded, it is the boundary of the fields and the parts
-abbrev pub FreeBoundariesAreOwn : Type 0
-FreeBoundariesAreOwn = (fields : List (List ℕ)) (parts : List Attached) → free_boundary fields parts [] ≡ own_boundary fields parts
-
--- it is always one that may be made
-abbrev pub FreeBoundariesAreBoundaries : Type 0
-FreeBoundariesAreBoundaries = (fields : List (List ℕ)) (parts : List Attached) (messages : List Forwarded) → is_boundary (free_boundary fields parts messages) ≡ true
-
--- it begins no line of any message that fits into memory
-abbrev pub FreeBoundariesAreFree : Type 0
-FreeBoundariesAreFree = (fields : List (List ℕ)) (parts : List Attached) (messages : List Forwarded) → line_count messages < last_number → are_clear (free_boundary fields parts messages) messages ≡ true

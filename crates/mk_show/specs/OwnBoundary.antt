@@ -1,8 +1,7 @@
 -- The boundary that is made of what is packed, where none is given (own).
-use Rattle.std.specs.Prelude.{◌≡◌, ◌<◌, ◌^◌, ◌++◌, ℕ, true, unwrap_or, List, [], ◌∷◌, codes, decimal, length, take}
+use Rattle.std.specs.Prelude.{◌++◌, ℕ, unwrap_or, List, [], ◌∷◌, codes, decimal, length, take}
 use Rattle.std.specs.List.{flat_map}
 use Rattle.mk_line.specs.Ascii.{colon}
-use Rattle.mk_head.specs.Boundaries.{is_boundary}
 use Rattle.mk_splice.specs.Journals.{digest_of}
 use Rattle.mk_build.specs.Building.{Attached}
 
@@ -25,16 +24,3 @@ digits_kept = 24
 -- `=_`, which stands in no line of quoted-printable or base64 (RFC 2045, 6.7), and the first digits of the SHA-256
 abbrev pub own_boundary : List (List ℕ) → List Attached → List ℕ
 own_boundary fields parts = codes "=_" ++ take digits_kept (digest_of (all_packed fields parts))
-
--- it is always one that may be made
-abbrev pub OwnBoundariesAreBoundaries : Type 0
-OwnBoundariesAreBoundaries = (fields : List (List ℕ)) (parts : List Attached) → is_boundary (own_boundary fields parts) ≡ true
-
--- texts that a memory can hold
-abbrev pub FitMemory : List (List ℕ) → Type 0
-FitMemory [] = Unit {0}
-FitMemory (x ∷ xs) = (length x < 2 ^ 64) × FitMemory xs
-
--- no two lists of texts are written alike
-abbrev pub MeasuredListsDiffer : Type 0
-MeasuredListsDiffer = (xs ys : List (List ℕ)) → FitMemory xs → FitMemory ys → flat_map measured xs ≡ flat_map measured ys → xs ≡ ys

@@ -103,28 +103,20 @@ turned_part eol a = record { media = a.media; name = a.name; said = a.said; text
 abbrev pub turned_parts : Bool → Ending → List Attached → List Attached
 turned_parts turned eol parts = if turned then map (turned_part eol) parts else parts
 
--- the parts that are packed in a manner, after the fields that a text gives: under their names, and under the names that are written
-abbrev pub files_in : Manner → List ℕ → List Attach → List Attached
-files_in m text parts = turned_parts m.turned (eol_of (cut text)) (map attached_of parts)
-
-abbrev pub parts_in : Manner → List ℕ → List Attach → List Attached
-parts_in m text parts = turned_parts m.turned (eol_of (cut text)) (map (written_in m.utf8_names) parts)
-
 -- the multipart of a manner, with a boundary
 abbrev pub multipart_with : Manner → List ℕ → Multipart
 multipart_with m boundary = record { subtype = m.subtype; charset = m.charset; boundary = boundary }
 
--- the message of the fields that a text gives, of these parts and of messages, with the line ending of the text
-abbrev pub packed_with : Multipart → List Attached → List Forwarded → List ℕ → Run
-packed_with m parts messages text =
-    let fields = fields_given (cut text) in
-    told (built_with (eol_of (cut text)) fields parts messages m) (refusal_with fields parts messages m)
-
--- the message of the fields that a text gives, of these parts and of messages, packed in a manner: between the boundary that is
--- given, or else one that is made of the fields, the parts and the messages
+-- the message of the fields that a text gives, of these parts and of messages, packed in a manner with the line ending of the text:
+-- between the boundary that is given, or else one that is made of the fields, the files under their names, and the messages
 abbrev pub packed_in : Manner → List Attach → List Forwarded → List ℕ → Run
 packed_in m parts messages text =
-    packed_with (multipart_with m (unwrap_or m.boundary (free_boundary (fields_given (cut text)) (files_in m text parts) messages))) (parts_in m text parts) messages text
+    let eol = eol_of (cut text) in
+    let fields = fields_given (cut text) in
+    let files = turned_parts m.turned eol (map attached_of parts) in
+    let written = turned_parts m.turned eol (map (written_in m.utf8_names) parts) in
+    let multipart = multipart_with m (unwrap_or m.boundary (free_boundary fields files messages)) in
+    told (built_with eol fields written messages multipart) (refusal_with fields written messages multipart)
 
 -- the same as a fact
 abbrev pub IsPackedWith : Manner → List Attach → List Forwarded → List ℕ → Run → Type 0

@@ -29,6 +29,7 @@ mod packing;
 mod parts;
 mod portions;
 mod saying;
+mod sending;
 mod showing;
 mod unpacking;
 

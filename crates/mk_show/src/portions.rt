@@ -171,8 +171,8 @@ fn shown_as(byte: u8) -> u8
     if is_token(&[byte]) { byte } else { UNDERSCORE }
 }
 
-// The reason alone.
-fn refused(alloc: Global, path: &[u32], reason: ExtractError) -> Result<Answer, AllocError>
+/// The reason alone.
+pub fn refused(alloc: Global, path: &[u32], reason: ExtractError) -> Result<Answer, AllocError>
     ensures { IfOk result (λ a. run_of_answer a ≡ shown [] (extract_line path.now reason)) }
 {
     Ok(Answer {

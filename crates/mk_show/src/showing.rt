@@ -1,15 +1,16 @@
 //! Runs that show what a message is, over any devices.
 
-ghost use Rattle.std.specs.Prelude.{◌≡◌, ◌≤◌, ◌⊎◌, true, false, List, ℕ, IfOk, IfErr, OnOk, OnErr};
+ghost use Rattle.std.specs.Prelude.{◌≡◌, ◌≤◌, ◌⊎◌, true, false, List, Option, ℕ, IfOk, IfErr, OnOk, OnErr};
 ghost use Rattle.std.specs.Io.KnownBytes.{Appends, Consumes, IsAtEnd};
 ghost use Rattle.mk_line.specs.Meters.{ticked};
 ghost use Rattle.mk_mailbox.specs.Devices.{AppendsFront, Rose, IsLong};
 ghost use Rattle.mk_transfer.specs.RunClauses.{held, counts, reason, IsBlamed, SameFailures, ReadFailed, WriteFailed, ends_itself};
 ghost use Rattle.mk_show.specs.Portions.{IsTakenAs};
-ghost use Rattle.mk_show.specs.Shown.{IsListed, IsTaken, LeavesShown, LeavesShownSoFar, Writes, run_of_answer};
+ghost use Rattle.mk_show.specs.Shown.{IsListed, IsTaken, LeavesShown, LeavesShownSoFar, ShowsSoFar, Writes, run_of_answer};
 
 use crate::answers::{Answer, sections};
 use crate::portions::{Portion, given};
+use crate::sending::{give_content, judge};
 use mk_mailbox::{Sink, Source};
 use mk_transfer::{Cause, Status, Stop, finish, give_up, read_all, reading, send};
 use mk_tree::Doc;
@@ -129,8 +130,36 @@ pub fn try_extract<S: Source, O: Sink, E: Sink>(
         Ok(doc) => doc,
         Err(stop) => return Err(reading(stop)),
     };
+    if let Portion::Content = wanted {
+        return show_content(alloc, out, err, &doc, path);
+    }
     match given(alloc, &doc, path, wanted) {
         Ok(answer) => print(out, err, &answer),
+        Err(_) => Err(Cause::Memory),
+    }
+}
+
+// Gives the content of the section at a path of a document.
+fn show_content<O: Sink, E: Sink>(
+    alloc: Global,
+    out: &mut O,
+    err: &mut E,
+    doc: &Doc,
+    path: &[u32],
+) -> Result<Status, Cause>
+    ensures shows { (input left : Option (List ℕ)) → IsAtEnd left → ShowsSoFar (IsTaken path.now doc.now) result
+        (held input (O.contents out.old) (E.contents err.old)) (held left (O.contents out.new) (E.contents err.new)) }
+    ensures ended { IfOk result (λ status. ends_itself status ≡ true) }
+    ensures blamed { IfErr result (λ cause. (failed reads more : ℕ) → IsBlamed cause
+        (counts failed reads (O.failures out.old) (E.failures err.old)) (counts failed more (O.failures out.new) (E.failures err.new))) }
+    ensures output_well { OnOk result (O.failures out.new ≡ O.failures out.old) }
+    ensures errors_well { OnOk result (E.failures err.new ≡ E.failures err.old) }
+    ensures finished { OnOk result (O.finishes out.new ≡ ticked (O.finishes out.old)) }
+    ensures unfinished { OnErr result (O.finishes out.new ≡ O.finishes out.old) }
+{
+    match judge(alloc, doc, path) {
+        Ok(Ok(section)) => give_content(alloc, out, &section),
+        Ok(Err(answer)) => print(out, err, &answer),
         Err(_) => Err(Cause::Memory),
     }
 }

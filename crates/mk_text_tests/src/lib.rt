@@ -18,6 +18,8 @@ mod memory;
 #[cfg(test)]
 mod params;
 #[cfg(test)]
+mod piecewise;
+#[cfg(test)]
 mod rooms;
 #[cfg(test)]
 mod sizes;

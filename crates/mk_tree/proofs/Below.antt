@@ -5,7 +5,7 @@ use Rattle.std.proofs.lemmas.List.{length-map}
 use Rattle.mk_line.specs.Lines.{TextLine, cut}
 use Rattle.mk_line.proofs.Cuts.{cut_rest}
 use Rattle.mk_head.specs.Split.{Head, head_of, head_lines, after_head}
-use Rattle.mk_tree.specs.Cutting.{cut_by, parts_lines, tail_lines}
+use Rattle.mk_tree.specs.Cutting.{cut_by, tail_lines}
 use Rattle.mk_tree.specs.Kinds.{Kind, Leaf, Message, Multi, kind, is_digest}
 use Rattle.mk_tree.specs.Tree.{Entity, leaf, message, multi, Parts, no_parts, part, parts_by, entity_by, read, print, entity_head}
 use Rattle.mk_tree.specs.Spans.{Span, size, tail_sizes, digest_below, span_of, spans_of}
@@ -13,9 +13,11 @@ use Rattle.mk_tree.specs.Nodes.{form_of, node_span}
 use Rattle.mk_tree.specs.declared.node.Node.{Node}
 use Rattle.mk_tree.specs.declared.node.Node.TheViews.{out-Node}
 use Rattle.mk_tree.specs.Forms.{form_preamble, has_sizes, form_digest, form_closed, form_in, spans_in}
-use Rattle.mk_tree.specs.Sections.{Placed, has_part, has_tail, parts_placed, children_of, children, preamble_lines}
+use Rattle.mk_tree.specs.Sections.{Placed, has_part, parts_placed, children_of, children, preamble_lines}
+use Rattle.mk_tree.proofs.TreeNames.{has_tail}
 use Rattle.mk_tree.specs.Layouts.{delimiter_of, whole_of, has_span, placed_over, IsSpanOver, first_text, text_after, placed_along, AreSpansOver}
 use Rattle.mk_tree.proofs.Kept.{print_read, print_parts_by}
+use Rattle.mk_tree.proofs.OneCut.{parts_lines}
 use Rattle.mk_tree.proofs.Descent.{size_append}
 use Rattle.mk_tree.proofs.Slices.{front_within, middle_cut, end_cut, middle_within}
 use Rattle.mk_tree.proofs.SectionViews.{opens, span_list, Keeps, after_preamble, body_front, raw_head, head_size, preamble_size}

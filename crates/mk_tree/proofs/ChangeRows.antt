@@ -14,7 +14,7 @@ use Rattle.mk_tree.specs.Places.{append_parts, placed, put}
 use Rattle.mk_tree.specs.Sections.{preamble_lines}
 use Rattle.mk_tree.specs.Equal.{entity_eq}
 use Rattle.mk_splice.specs.Splices.{spliced}
-use Rattle.mk_tree.specs.Splicing.{part_count, ChangesFields, SectionBecomes, HasBody, HasText, HasPart, LacksPart, PartGoes}
+use Rattle.mk_tree.specs.Splicing.{part_count, ChangesFields, SectionBecomes, HasBody, HasText, HasPart, PartGoes}
 use Rattle.mk_tree.proofs.Equals.{entity_same}
 use Rattle.mk_tree.proofs.Kept.{text_kept}
 use Rattle.mk_tree.proofs.Stability.{read_stable}
@@ -155,23 +155,27 @@ rest_made : entity_eq (tree last).root (made (tree two).root (parts_after 1 (par
 unfolding kind
 rest_made = refl
 
-less_text : LacksPart 1 (tree two).root (tree last).root
+abbrev less_bytes : List ℕ
+less_bytes = text_of (first_delimiter (parts_of (tree two).root) ∷ print (first_entity (tree two).root (parts_of (tree two).root)))
+
+less_text : HasPart 0 less_bytes (tree last).root (tree two).root
 less_text = record {
   head = entity_head (tree two).root;
   boundary = boundary_of (tree two).root;
   preamble = preamble_lines (tree two).root;
   before = no_parts;
   delimiter = first_delimiter (parts_of (tree two).root);
-  old = first_entity (tree two).root (parts_of (tree two).root);
+  new = first_entity (tree two).root (parts_of (tree two).root);
   after = parts_after 1 (parts_of (tree two).root);
   tail = tail_of (tree two).root;
-  section_is = entity_same _ _ first_made;
-  result_is = entity_same _ _ rest_made;
-  number_is = refl;
+  section_is = entity_same _ _ rest_made;
+  result_is = entity_same _ _ first_made;
+  place_is = refl;
+  text_is = refl;
 }
 
 pub one_part_less : PartGoes (1 ∷ 1 ∷ []) (tree two) (tree last)
-one_part_less = record { around = 1 ∷ []; number = 1; path_is = refl; becomes = root_becomes two last (LacksPart 1) refl less_text }
+one_part_less = record { around = 1 ∷ []; before = 0; text = less_bytes; path_is = refl; becomes = root_becomes two last (λ s e. HasPart 0 less_bytes e s) refl less_text }
 
 field_root : (tree (codes "Subject: s\nA: b\n\nbody\n")).root ≡ with_fields (cut (codes "Subject: s\nA: b\n")) (tree (codes "Subject: s\n\nbody\n")).root
 unfolding kind

@@ -2,13 +2,16 @@
 use Rattle.std.proofs.Common.{◌≡◌, ◌↔◌, ◌&&◌, Bool, true, false, Option, None, Some, List, [], ◌∷◌, refl, ap, ◌∙◌}
 use Rattle.std.proofs.lemmas.Slice.Eq.{bytes_eq-Decides}
 use Rattle.std.specs.Str.{bytes_eq}
+use Rattle.std.specs.Option.{option_to_list}
+use Rattle.std.specs.Cmp.Lexicographic.{pointwise}
+use Rattle.mk_tree.specs.Cutting.{tail_lines}
 use Rattle.mk_line.specs.declared.cutting.Ending.{Ending}
 use Rattle.mk_line.specs.declared.cutting.Ending.TheVariants.{Crlf, Lf, Missing}
-use Rattle.mk_line.specs.Lines.{TextLine}
+use Rattle.mk_line.specs.Lines.{TextLine, ending_bytes}
 use Rattle.mk_head.specs.Split.{Head}
 use Rattle.mk_tree.specs.Tree.{Entity, leaf, message, multi, Parts, no_parts, part}
 use Rattle.mk_tree.specs.Documents.{Document, IsStable, tree, printed}
-use Rattle.mk_tree.specs.Equal.{ending_eq, line_eq, lines_eq, option_eq, head_eq, tail_eq, entity_eq, parts_eq, document_eq, is_stable}
+use Rattle.mk_tree.specs.Equal.{line_eq, head_eq, entity_eq, parts_eq, is_stable}
 
 both : (a b : Bool) → (a && b) ≡ true → (a ≡ true) × (b ≡ true)
 both true b h = (refl, h)
@@ -17,7 +20,7 @@ both false b h = cc
 and_true : (a b : Bool) → a ≡ true → b ≡ true → (a && b) ≡ true
 and_true a b h k = rw (h, k) refl
 
-ending_same : (e f : Ending) → ending_eq e f ≡ true → e ≡ f
+ending_same : (e f : Ending) → bytes_eq (ending_bytes e) (ending_bytes f) ≡ true → e ≡ f
 ending_same Crlf Crlf h = refl
 ending_same Crlf Lf h = cc
 ending_same Crlf Missing h = cc
@@ -28,18 +31,16 @@ ending_same Missing Crlf h = cc
 ending_same Missing Lf h = cc
 ending_same Missing Missing h = refl
 
-ending_self : (e : Ending) → ending_eq e e ≡ true
-ending_self Crlf = refl
-ending_self Lf = refl
-ending_self Missing = refl
-
 line_same : (l m : TextLine) → line_eq l m ≡ true → l ≡ m
 line_same l m h =
-    let p = both (bytes_eq l.content m.content) (ending_eq l.ending m.ending) h in
+    let p = both (bytes_eq l.content m.content) (bytes_eq (ending_bytes l.ending) (ending_bytes m.ending)) h in
     λ i. record { content = (bytes_eq-Decides l.content m.content).0 p.0 i; ending = ending_same l.ending m.ending p.1 i }
 
 line_self : (l : TextLine) → line_eq l l ≡ true
-line_self l = and_true (bytes_eq l.content l.content) (ending_eq l.ending l.ending) ((bytes_eq-Decides l.content l.content).1 refl) (ending_self l.ending)
+line_self l = and_true (bytes_eq l.content l.content) (bytes_eq (ending_bytes l.ending) (ending_bytes l.ending)) ((bytes_eq-Decides l.content l.content).1 refl) ((bytes_eq-Decides (ending_bytes l.ending) (ending_bytes l.ending)).1 refl)
+
+abbrev lines_eq : List TextLine → List TextLine → Bool
+lines_eq ls ms = pointwise line_eq ls ms
 
 lines_same : (ls ms : List TextLine) → lines_eq ls ms ≡ true → ls ≡ ms
 lines_same [] [] h = refl
@@ -53,15 +54,17 @@ lines_self : (ls : List TextLine) → lines_eq ls ls ≡ true
 lines_self [] = refl
 lines_self (l ∷ ls) = and_true (line_eq l l) (lines_eq ls ls) (line_self l) (lines_self ls)
 
+abbrev option_eq : Option TextLine → Option TextLine → Bool
+option_eq o p = lines_eq (option_to_list o) (option_to_list p)
+
 option_same : (o p : Option TextLine) → option_eq o p ≡ true → o ≡ p
 option_same None None h = refl
 option_same None (Some m) h = cc
 option_same (Some l) None h = cc
-option_same (Some l) (Some m) h = ap (λ x. Some x) (line_same l m h)
+option_same (Some l) (Some m) h = ap (λ x. Some x) (line_same l m (both (line_eq l m) true h).0)
 
 option_self : (o : Option TextLine) → option_eq o o ≡ true
-option_self None = refl
-option_self (Some l) = line_self l
+option_self o = lines_self (option_to_list o)
 
 head_same : (h k : Head) → head_eq h k ≡ true → h ≡ k
 head_same h k e =
@@ -70,6 +73,9 @@ head_same h k e =
 
 head_self : (h : Head) → head_eq h h ≡ true
 head_self h = and_true (lines_eq h.fields h.fields) (option_eq h.separator h.separator) (lines_self h.fields) (option_self h.separator)
+
+abbrev tail_eq : Option (TextLine × List TextLine) → Option (TextLine × List TextLine) → Bool
+tail_eq t u = lines_eq (tail_lines t) (tail_lines u)
 
 tail_same : (t u : Option (TextLine × List TextLine)) → tail_eq t u ≡ true → t ≡ u
 tail_same None None h = refl
@@ -80,8 +86,7 @@ tail_same (Some p) (Some q) h =
     λ i. Some (line_same p.0 q.0 w.0 i, lines_same p.1 q.1 w.1 i)
 
 tail_self : (t : Option (TextLine × List TextLine)) → tail_eq t t ≡ true
-tail_self None = refl
-tail_self (Some p) = and_true (line_eq p.0 p.0) (lines_eq p.1 p.1) (line_self p.0) (lines_self p.1)
+tail_self t = lines_self (tail_lines t)
 
 mutual
   pub entity_same : (d e : Entity) → entity_eq d e ≡ true → d ≡ e
@@ -127,12 +132,16 @@ mutual
   parts_self no_parts = refl
   parts_self (part l e ps) = and_true (line_eq l l) (entity_eq e e && parts_eq ps ps) (line_self l) (and_true (entity_eq e e) (parts_eq ps ps) (entity_self e) (parts_self ps))
 
-pub document_same : (s t : Document) → document_eq s t ≡ true → s ≡ t
+-- two documents are one
+abbrev document_eq : Document → Document → Bool
+document_eq s t = option_eq s.envelope t.envelope && entity_eq s.root t.root
+
+document_same : (s t : Document) → document_eq s t ≡ true → s ≡ t
 document_same s t h =
     let p = both (option_eq s.envelope t.envelope) (entity_eq s.root t.root) h in
     λ i. record { envelope = option_same s.envelope t.envelope p.0 i; root = entity_same s.root t.root p.1 i }
 
-pub document_self : (t : Document) → document_eq t t ≡ true
+document_self : (t : Document) → document_eq t t ≡ true
 document_self t = and_true (option_eq t.envelope t.envelope) (entity_eq t.root t.root) (option_self t.envelope) (entity_self t.root)
 
 pub test_stable : (t : Document) → is_stable t ≡ true → IsStable t

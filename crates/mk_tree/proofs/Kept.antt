@@ -1,17 +1,18 @@
 -- A document's lines are the lines that it was read from.
-use Rattle.std.proofs.Common.{◌≡◌, ◌++◌, ℕ, zero, suc, Bool, true, false, List, [], ◌∷◌, refl, ap, ◌∙◌}
+use Rattle.std.proofs.Common.{if◌then◌else◌, ◌≡◌, ◌++◌, ℕ, zero, suc, Bool, true, false, None, Some, List, [], ◌∷◌, refl, ap, ◌∙◌}
+use Rattle.std.specs.List.{flat_map}
 use Rattle.mk_line.specs.Lines.{TextLine, cut, text_of}
 use Rattle.mk_line.specs.Kinds.{is_from_line}
 use Rattle.mk_line.proofs.Cuts.{text_cut}
 use Rattle.mk_head.proofs.Splits.{head_body}
 use Rattle.mk_head.specs.Split.{Head, head_of, head_lines, after_head}
 use Rattle.mk_tree.specs.Kinds.{Kind, Leaf, Message, Multi, kind}
-use Rattle.mk_tree.specs.Cutting.{cut_by, parts_lines}
+use Rattle.mk_tree.specs.Cutting.{cut_by}
 use Rattle.mk_tree.specs.Tree.{Entity, parts_by, entity_by, read, print, print_parts}
 use Rattle.mk_tree.proofs.OneCut.{cut_is}
-use Rattle.mk_tree.specs.Documents.{levels, enveloped, document_of, tree, document_lines, printed}
+use Rattle.mk_tree.specs.Documents.{Document, levels, document_of, tree, document_lines, printed}
 
-pub print_parts_by : (f : List TextLine → Entity) → ((ls : List TextLine) → print (f ls) ≡ ls) → (ps : List (TextLine × List TextLine)) → print_parts (parts_by f ps) ≡ parts_lines ps
+pub print_parts_by : (f : List TextLine → Entity) → ((ls : List TextLine) → print (f ls) ≡ ls) → (ps : List (TextLine × List TextLine)) → print_parts (parts_by f ps) ≡ flat_map (λ p. p.0 ∷ p.1) ps
 print_parts_by f h [] = refl
 print_parts_by f h (p ∷ ps) = rw (h p.1, print_parts_by f h ps) refl
 
@@ -23,6 +24,12 @@ print_by f e (Multi b digest) h ls = rw (print_parts_by (f digest) (e digest) (c
 pub print_read : (n : ℕ) (d : Bool) (ls : List TextLine) → print (read n d ls) ≡ ls
 print_read zero d ls = head_body ls
 print_read (suc n) d ls = print_by (read n) (print_read n) (kind (head_of ls).fields d) (head_of ls) (after_head ls) ∙ head_body ls
+
+-- lines whose first is the envelope, or isn't
+abbrev pub enveloped : Bool → TextLine → List TextLine → Document
+enveloped t l ls =
+    if t then record { envelope = Some l; root = read levels false ls }
+    else record { envelope = None; root = read levels false (l ∷ ls) }
 
 enveloped_kept : (t : Bool) (l : TextLine) (ls : List TextLine) → document_lines (enveloped t l ls) ≡ l ∷ ls
 enveloped_kept true l ls = ap (λ xs. l ∷ xs) (print_read levels false ls)

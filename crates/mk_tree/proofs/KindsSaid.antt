@@ -3,7 +3,7 @@ use Rattle.std.proofs.Common.{◌≡◌, ◌&&◌, if◌then◌else◌, ℕ, Boo
 use Rattle.mk_line.specs.Lines.{TextLine}
 use Rattle.mk_head.specs.declared.encodings.Encoding.{Encoding}
 use Rattle.mk_head.specs.declared.encodings.Encoding.TheVariants.{Identity, Qp, Base64, Other}
-use Rattle.mk_head.specs.Types.{field_value, type_by, default_type, header_encoding}
+use Rattle.mk_head.specs.Types.{field_value, type_by, header_encoding}
 use Rattle.mk_head.specs.Values.{MediaType, content_type_of}
 use Rattle.mk_tree.specs.Kinds.{Kind, Leaf, Message, kind, kind_of, is_identity}
 
@@ -17,7 +17,7 @@ pub kind_some : {X V : Type 0} (fields : List TextLine) (digest : Bool) (e : Enc
 kind_some fields digest e value media f r h k m o =
     subst (λ g. IfOk r (λ d. f d ≡ g)) (ap (λ t. kind_of t e) m ∙ sym (kind_by fields digest e (Some value) h k)) o
 
-pub kind_default : (digest : Bool) (e : Encoding) (t : Bool) → (digest && is_identity e) ≡ t → kind_of (default_type digest) e ≡ (if t then Message else Leaf)
+pub kind_default : (digest : Bool) (e : Encoding) (t : Bool) → (digest && is_identity e) ≡ t → kind_of (type_by digest None) e ≡ (if t then Message else Leaf)
 kind_default true Identity true h = refl
 kind_default true Qp true h = cc
 kind_default true Base64 true h = cc

@@ -1,4 +1,5 @@
 -- Content types that say a leaf, by their first byte.
+use Rattle.std.specs.List.{onto_first}
 use Rattle.std.proofs.Common.{◌≡◌, ◌==◌, ◌&&◌, ℕ, Bool, true, false, not, Option, None, Some, List, [], ◌∷◌, refl, sym, subst, inl, inr, codes}
 use Rattle.std.proofs.lemmas.Bool.{cases_Bool, and_parts, eqb-true}
 use Rattle.std.specs.Char.{to_ascii_lowercase}
@@ -7,7 +8,7 @@ use Rattle.mk_line.specs.Ascii.{is_blank, opening, semicolon, slash}
 use Rattle.mk_line.specs.Marks.{trimmed, trimmed_before}
 use Rattle.mk_line.specs.Parting.{before, following}
 use Rattle.mk_head.specs.declared.encodings.Encoding.{Encoding}
-use Rattle.mk_head.specs.Values.{MediaType, Scan, Plain, scan, content_type_of, is_kept, is_token, lowered, parameters, pieces, push_first, stripped, typed_as, type_of_pieces, uncommented, unled}
+use Rattle.mk_head.specs.Values.{MediaType, Scan, Plain, scan, content_type_of, is_kept, is_token, lowered, parameters, pieces, stripped, typed_as, type_of_pieces, uncommented, unled}
 use Rattle.mk_head.specs.Depths.{first_piece, other_pieces}
 use Rattle.mk_head.proofs.Parts.{pieces_parts}
 use Rattle.mk_tree.specs.Kinds.{Leaf, kind_of}
@@ -65,10 +66,10 @@ text_other b bs h k =
     ]
 
 -- a blank at the start doesn't count
-after_blank : (b : ℕ) (u : List ℕ) (ps : List (List ℕ)) → is_blank b ≡ true → type_of_pieces (push_first b (u ∷ ps)) ≡ type_of_pieces (u ∷ ps)
+after_blank : (b : ℕ) (u : List ℕ) (ps : List (List ℕ)) → is_blank b ≡ true → type_of_pieces (onto_first b (u ∷ ps)) ≡ type_of_pieces (u ∷ ps)
 after_blank b u ps h = rw h refl
 
-blank_pieces : (b : ℕ) (bs : List ℕ) → is_blank b ≡ true → type_of_pieces (push_first b (pieces Plain bs)) ≡ type_of_pieces (pieces Plain bs)
+blank_pieces : (b : ℕ) (bs : List ℕ) → is_blank b ≡ true → type_of_pieces (onto_first b (pieces Plain bs)) ≡ type_of_pieces (pieces Plain bs)
 blank_pieces b bs h = rw (pieces_parts Plain bs) (after_blank b (first_piece Plain bs) (other_pieces Plain bs) h)
 
 blank_type : (b : ℕ) (value : List ℕ) → is_blank b ≡ true → content_type_of (b ∷ value) ≡ content_type_of value

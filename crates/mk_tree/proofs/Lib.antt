@@ -1,3 +1,4 @@
+pub mod TreeNames
 pub mod Kept
 pub mod Equals
 pub mod OneCut

@@ -14,8 +14,8 @@ use Rattle.mk_tree.specs.Sections.{Placed}
 use Rattle.mk_tree.specs.Forms.{form_digest, form_in}
 use Rattle.mk_tree.specs.Places.{append_parts, below, in_multi}
 use Rattle.mk_tree.specs.Changed.{FitsOwn, own_changed, with_span, without_span, span_count}
-use Rattle.mk_tree.specs.Splicing.{part_count, HasPart, LacksPart}
-use Rattle.mk_tree.specs.Planning.{IsBehindParts, MakesAll}
+use Rattle.mk_tree.specs.Splicing.{part_count, HasPart}
+use Rattle.mk_tree.specs.Planning.{LacksPart, IsBehindParts, MakesAll}
 use Rattle.mk_tree.proofs.Descent.{size_append, size_cut}
 use Rattle.mk_tree.proofs.Heads.{lines_front}
 use Rattle.mk_tree.proofs.WellRead.{well_read}

@@ -9,7 +9,8 @@ use Rattle.mk_tree.specs.Cutting.{tail_lines}
 use Rattle.mk_tree.specs.Tree.{Entity, leaf, message, multi, Parts, no_parts, part, print, print_parts}
 use Rattle.mk_tree.specs.Documents.{Document}
 use Rattle.mk_tree.specs.Spans.{size, digest_below}
-use Rattle.mk_tree.specs.Sections.{Placed, has_part, has_tail, parts_placed, children_of, root_of, section_below}
+use Rattle.mk_tree.specs.Sections.{Placed, has_part, parts_placed, children_of, root_of, section_below}
+use Rattle.mk_tree.proofs.TreeNames.{has_tail}
 use Rattle.mk_tree.specs.Places.{Frame, in_message, in_multi, append_parts, plug_one, plug, part_at, step_to, place_at, default_at, lines_before, lines_after, placed}
 use Rattle.mk_tree.proofs.Descent.{size_append}
 use Rattle.mk_tree.proofs.Plugs.{lines_end}

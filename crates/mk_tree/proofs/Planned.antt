@@ -13,7 +13,8 @@ use Rattle.mk_tree.specs.Tree.{Entity, leaf, message, multi, Parts, no_parts, pa
 use Rattle.mk_tree.specs.Spans.{size, more_spans, span_of, spans_of, digest_below}
 use Rattle.mk_tree.specs.Nodes.{node_span}
 use Rattle.mk_tree.specs.Reading.{IsWellRead}
-use Rattle.mk_tree.specs.Sections.{Placed, raw_of, body_lines, preamble_lines, has_part, has_tail, parts_placed, children, children_of}
+use Rattle.mk_tree.specs.Sections.{Placed, raw_of, body_lines, preamble_lines, has_part, parts_placed, children, children_of}
+use Rattle.mk_tree.proofs.TreeNames.{has_tail}
 use Rattle.mk_tree.specs.Places.{append_parts}
 use Rattle.mk_tree.specs.Changed.{own_changed, redelimited, with_span, without_span, span_count}
 use Rattle.mk_splice.specs.Splices.{spliced}

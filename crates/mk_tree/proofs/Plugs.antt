@@ -1,5 +1,5 @@
 -- An entity at a place: its lines among the others, what its place says of it, and another entity there.
-use Rattle.std.proofs.Common.{◌≡◌, ◌&&◌, ◌++◌, ℕ, zero, suc, Bool, false, Option, None, Some, List, [], ◌∷◌, refl, ap, sym, ◌∙◌, subst, append_assoc}
+use Rattle.std.proofs.Common.{◌≡◌, ◌&&◌, ◌++◌, ℕ, zero, suc, Bool, false, Option, None, Some, List, [], ◌∷◌, refl, ap, sym, ◌∙◌, subst, append_assoc, take}
 use Rattle.std.proofs.lemmas.Bool.{or_parts}
 use Rattle.mk_line.specs.Lines.{TextLine, is_nil}
 use Rattle.mk_head.specs.Split.{Head, is_start, is_more, head_of, head_lines, after_head, belongs}
@@ -11,7 +11,8 @@ use Rattle.mk_tree.specs.Kinds.{Leaf, Message, Multi, kind, kind_at}
 use Rattle.mk_tree.specs.Tree.{Entity, Parts, no_parts, part, print, print_parts, entity_head}
 use Rattle.mk_tree.specs.Spans.{digest_below}
 use Rattle.mk_tree.specs.Places.{Frame, in_message, in_multi, append_parts, plug, below, left_at, default_at, lines_before, lines_after}
-use Rattle.mk_tree.specs.Locality.{Unmarked_in, first_line, open_head, Ends, Continues, FitsIn}
+use Rattle.mk_tree.specs.Locality.{Unmarked_in, open_head, Ends, FitsIn}
+use Rattle.mk_tree.proofs.TreeNames.{Continues}
 use Rattle.mk_tree.specs.Reading.{IsWellRead, AreWellRead}
 use Rattle.mk_tree.proofs.WellRead.{well_read, read_head}
 
@@ -107,11 +108,11 @@ bare_lines inside (l ∷ ls) h = rw (no_start inside l h.0, h.1) refl
 pub bare : (inside : Bool) (n : ℕ) (d : Bool) (e : Entity) → Stops inside (print e) → IsWellRead n d e → entity_head e ≡ open_head []
 bare inside n d e h w = ap entity_head (sym (well_read n d e w)) ∙ (read_head n d (print e) ∙ bare_lines inside (print e) h)
 
-pub stops_first : (inside : Bool) (ls : List TextLine) → Stops inside ls → Stops inside (first_line ls)
+pub stops_first : (inside : Bool) (ls : List TextLine) → Stops inside ls → Stops inside (take 1 ls)
 stops_first inside [] h = tt
 stops_first inside (l ∷ ls) h = h
 
-pub first_stops : (inside : Bool) (ls : List TextLine) → Stops inside (first_line ls) → Stops inside ls
+pub first_stops : (inside : Bool) (ls : List TextLine) → Stops inside (take 1 ls) → Stops inside ls
 first_stops inside [] h = tt
 first_stops inside (l ∷ ls) h = h
 
@@ -130,11 +131,11 @@ of_ends fields ls h = subst (λ k. IsSplit k ls) h.head (subst (IsSplit (head_of
 pub continues_of : (n : ℕ) (d : Bool) (fields : List TextLine) (o : Option TextLine) (e : Entity) → IsRun false fields → Follows (not (is_nil fields)) o (print e) → IsWellRead n d e → Continues fields o e
 continues_of n d fields (Some l) e r h w = tt
 continues_of n d fields None e r h w =
-    (bare (not (is_nil fields)) n d e h w, ends_of fields (first_line (print e)) (record { run = r; next = stops_first (not (is_nil fields)) (print e) h }))
+    (bare (not (is_nil fields)) n d e h w, ends_of fields (take 1 (print e)) (record { run = r; next = stops_first (not (is_nil fields)) (print e) h }))
 
 continues_follows : (fields : List TextLine) (o : Option TextLine) (s e : Entity) → Follows (not (is_nil fields)) o (print s) → Continues fields o e → Follows (not (is_nil fields)) o (print e)
 continues_follows fields (Some l) s e h c = h
-continues_follows fields None s e h c = first_stops (not (is_nil fields)) (print e) (of_ends fields (first_line (print e)) c.1).next
+continues_follows fields None s e h c = first_stops (not (is_nil fields)) (print e) (of_ends fields (take 1 (print e)) c.1).next
 
 pub fits_in_of : (n : ℕ) (d : Bool) (fs : List Frame) (e : Entity) → IsWellRead n d (plug fs e) → FitsIn fs e
 fits_in_of n d [] e w = tt

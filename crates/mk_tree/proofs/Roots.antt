@@ -6,9 +6,9 @@ use Rattle.mk_line.proofs.Cuts.{cut_rest}
 use Rattle.std.specs.Option.{option_to_list}
 use Rattle.mk_tree.specs.Tree.{read, print}
 use Rattle.mk_tree.specs.Spans.{Span, size, span_of}
-use Rattle.mk_tree.specs.Documents.{Document, levels, enveloped, document_of, tree}
+use Rattle.mk_tree.specs.Documents.{Document, levels, document_of, tree}
 use Rattle.mk_tree.specs.Layouts.{delimiter_of, IsSpanOver}
-use Rattle.mk_tree.proofs.Kept.{lines_kept}
+use Rattle.mk_tree.proofs.Kept.{enveloped, lines_kept}
 use Rattle.mk_tree.proofs.Slices.{front_within}
 use Rattle.mk_tree.proofs.Below.{delimiter_span}
 

@@ -14,7 +14,7 @@ use Rattle.mk_tree.specs.Tree.{Entity, leaf, message, multi, read, print, print_
 use Rattle.mk_tree.specs.Spans.{Form, Span, span, Spans, no_spans, more_spans, size, tail_sizes, span_of}
 use Rattle.mk_tree.specs.Nodes.{form_of, spans_with, span_step, node_span}
 use Rattle.mk_tree.specs.Forms.{kind_in, form_kind, form_boundary, form_preamble, epilogue_size, form_epilogue, form_in, spans_in}
-use Rattle.mk_tree.specs.Sections.{body_lines, body_text, unended, content_text, preamble_lines, epilogue_of, epilogue_lines, boundary_in, root_of, section_fields}
+use Rattle.mk_tree.specs.Sections.{body_lines, body_text, unended, content_text, preamble_lines, epilogue_lines, boundary_in, root_of, section_fields}
 use Rattle.mk_tree.specs.Layouts.{delimiter_of, placed_over, IsNodeOver}
 use Rattle.mk_tree.specs.declared.node.Node.{Node}
 use Rattle.mk_tree.specs.declared.node.Node.TheViews.{out-Node}
@@ -164,7 +164,7 @@ preamble_size digest (leaf h ls) = refl
 preamble_size digest (message h e) = refl
 preamble_size digest (multi h b pre ps t) = refl
 
-epilogue_sizes : (t : Option (TextLine × List TextLine)) → epilogue_size (tail_sizes t) ≡ size (epilogue_of t)
+epilogue_sizes : (t : Option (TextLine × List TextLine)) → epilogue_size (tail_sizes t) ≡ size (drop 1 (tail_lines t))
 epilogue_sizes None = refl
 epilogue_sizes (Some t) = refl
 
@@ -212,7 +212,7 @@ abbrev close_lines : Option (TextLine × List TextLine) → List TextLine
 close_lines None = []
 close_lines (Some t) = t.0 ∷ []
 
-tail_end : (t : Option (TextLine × List TextLine)) → tail_lines t ≡ close_lines t ++ epilogue_of t
+tail_end : (t : Option (TextLine × List TextLine)) → tail_lines t ≡ close_lines t ++ drop 1 (tail_lines t)
 tail_end None = refl
 tail_end (Some t) = refl
 
@@ -221,10 +221,13 @@ before_epilogue (leaf h ls) = head_lines h ++ ls
 before_epilogue (message h e) = head_lines h ++ print e
 before_epilogue (multi h b pre ps t) = head_lines h ++ (pre ++ (print_parts ps ++ close_lines t))
 
+regroup : (us vs xs ys zs : List TextLine) → us ++ (vs ++ (xs ++ (ys ++ zs))) ≡ (us ++ (vs ++ (xs ++ ys))) ++ zs
+regroup us vs xs ys zs = simp append_assoc
+
 epilogue_end : (e : Entity) → print e ≡ before_epilogue e ++ epilogue_lines e
 epilogue_end (leaf h ls) = sym (append_end (head_lines h ++ ls))
 epilogue_end (message h e) = sym (append_end (head_lines h ++ print e))
-epilogue_end (multi h b pre ps t) = rw (tail_end t) (simp append_assoc)
+epilogue_end (multi h b pre ps t) = ap (λ xs. head_lines h ++ (pre ++ (print_parts ps ++ xs))) (tail_end t) ∙ regroup (head_lines h) pre (print_parts ps) (close_lines t) (drop 1 (tail_lines t))
 
 raw_end : (raw : List ℕ) (left : ℕ) (digest : Bool) → cut raw ≡ before_epilogue (read left digest (cut raw)) ++ epilogue_lines (read left digest (cut raw))
 raw_end raw left digest = raw_lines raw left digest ∙ epilogue_end (read left digest (cut raw))

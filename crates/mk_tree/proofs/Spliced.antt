@@ -15,8 +15,8 @@ use Rattle.mk_tree.specs.Sections.{Placed, section_at, head_text, raw_of}
 use Rattle.mk_tree.specs.Places.{Frame, below, left_at, default_at, lines_before, lines_after, place_at, step_to, placed, put}
 use Rattle.mk_tree.specs.Changed.{FitsOwn, LeadsTo, own_changed, respan}
 use Rattle.mk_splice.specs.Splices.{spliced}
-use Rattle.mk_tree.specs.Splicing.{ChangesFields, IsDigestOf, DigestsAt, DigestsBelow, SectionBecomes, LacksPart, PartGoes}
-use Rattle.mk_tree.specs.Planning.{Makes, MakesAll, Puts}
+use Rattle.mk_tree.specs.Splicing.{ChangesFields, IsDigestOf, DigestsAt, DigestsBelow, SectionBecomes, HasPart, PartGoes}
+use Rattle.mk_tree.specs.Planning.{LacksPart, Makes, MakesAll, Puts}
 use Rattle.mk_tree.proofs.Kept.{text_kept}
 use Rattle.mk_tree.proofs.Descent.{size_append}
 use Rattle.mk_tree.proofs.Heads.{lines_front}
@@ -235,8 +235,36 @@ last_same xs ys x y e =
       ap (first_or x) (sym (drop_at xs (x ∷ []) (length xs) refl) ∙ (ap (drop (length xs)) e ∙ drop_at ys (y ∷ []) (length xs) (sym l))),
     )
 
+lacks_part : (before : ℕ) (text : List ℕ) (s e : Entity) → HasPart before text e s → LacksPart (suc before) s e
+lacks_part before text s e h = record {
+  head = h.head;
+  boundary = h.boundary;
+  preamble = h.preamble;
+  before = h.before;
+  delimiter = h.delimiter;
+  old = h.new;
+  after = h.after;
+  tail = h.tail;
+  section_is = h.result_is;
+  result_is = h.section_is;
+  number_is = ap suc h.place_is;
+}
+
+becomes_less : (path : List ℕ) (before : ℕ) (text : List ℕ) (t u : Document) → SectionBecomes path (λ s e. HasPart before text e s) t u → SectionBecomes path (LacksPart (suc before)) t u
+becomes_less path before text t u b = record {
+  numbers = b.numbers;
+  around = b.around;
+  section = b.section;
+  new = b.new;
+  path_is = b.path_is;
+  found = b.found;
+  becomes = lacks_part before text b.section b.new b.becomes;
+  result = b.result;
+  stable = b.stable;
+}
+
 -- a part that goes, by the path of what holds it
 pub part_goes : (path around : List ℕ) (number : ℕ) (t u : Document) → path ≡ around ++ number ∷ [] → PartGoes path t u → SectionBecomes around (LacksPart number) t u
 part_goes path around number t u e g =
-    let s = last_same g.around around g.number number (sym g.path_is ∙ e) in
-    subst (λ (q : List ℕ × ℕ). SectionBecomes q.0 (LacksPart q.1) t u) (λ i. (s.0 i, s.1 i)) g.becomes
+    let s = last_same g.around around (suc g.before) number (sym g.path_is ∙ e) in
+    subst (λ (q : List ℕ × ℕ). SectionBecomes q.0 (LacksPart q.1) t u) (λ i. (s.0 i, s.1 i)) (becomes_less g.around g.before g.text t u g.becomes)

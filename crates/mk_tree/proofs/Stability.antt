@@ -6,11 +6,11 @@ use Rattle.mk_line.specs.Kinds.{is_from_line}
 use Rattle.std.specs.Option.{option_to_list}
 use Rattle.mk_tree.specs.Cutting.{tail_lines}
 use Rattle.mk_tree.specs.Tree.{Entity, part, read, print, print_parts}
-use Rattle.mk_tree.specs.Documents.{Document, levels, enveloped, document_of, tree, document_lines, printed, IsStable}
+use Rattle.mk_tree.specs.Documents.{Document, levels, document_of, tree, document_lines, printed, IsStable}
 use Rattle.mk_tree.specs.Places.{Frame, in_message, in_multi, append_parts, plug, left_at, default_at, put}
 use Rattle.mk_tree.specs.Locality.{BeginsPlain, RootFits, Replaces}
 use Rattle.mk_tree.specs.Reading.{IsWellRead}
-use Rattle.mk_tree.proofs.Kept.{document_kept, text_kept}
+use Rattle.mk_tree.proofs.Kept.{enveloped, document_kept, text_kept}
 use Rattle.mk_tree.proofs.WellRead.{well_read, well_of}
 use Rattle.mk_tree.proofs.Plugs.{own_of, unmarked_of, has_fields, fits_in_of, put_back}
 

@@ -4,14 +4,14 @@ use Rattle.mk_line.specs.Lines.{TextLine}
 use Rattle.mk_head.specs.Split.{Head, head_of, head_lines, after_head}
 use Rattle.mk_head.specs.Splits.{IsSplit}
 use Rattle.mk_head.proofs.Apart.{splits_read, reads_split}
-use Rattle.mk_tree.specs.Cutting.{cut_by, parts_lines, tail_lines, Unmarked, ArePartsOf, Closes}
+use Rattle.mk_tree.specs.Cutting.{Cut, cut_by, tail_lines, Unmarked}
 use Rattle.mk_tree.specs.Kinds.{Kind, Leaf, Message, Multi, kind, kind_at, is_digest}
-use Rattle.mk_tree.specs.Tree.{Entity, leaf, message, multi, Parts, no_parts, part, parts_by, multi_by, entity_by, read, print, print_parts, entity_head}
+use Rattle.mk_tree.specs.Tree.{Entity, leaf, message, multi, Parts, no_parts, part, parts_by, entity_by, read, print, print_parts, entity_head}
 use Rattle.mk_tree.specs.Spans.{digest_below}
 use Rattle.mk_tree.specs.Places.{below}
-use Rattle.mk_tree.specs.Reading.{IsWellRead, AreWellRead}
+use Rattle.mk_tree.specs.Reading.{Closes, IsWellRead, AreWellRead}
 use Rattle.mk_tree.proofs.Kept.{print_parts_by, print_read}
-use Rattle.mk_tree.proofs.OneCut.{cut_is, cut_of}
+use Rattle.mk_tree.proofs.OneCut.{parts_lines, ArePartsOf, cut_is, cut_of}
 
 -- one level of reading
 pub read_is : (n : ℕ) (d : Bool) (ls : List TextLine) → read n d ls ≡ entity_by (read (below n)) (kind_at n (head_of ls).fields d) (head_of ls) (after_head ls)
@@ -42,7 +42,7 @@ cut_parts_lines (part l e ps) = ap (λ xs. l ∷ (print e ++ xs)) (cut_parts_lin
 
 cut_parts_are : (n : ℕ) (d : Bool) (b : List ℕ) (ps : Parts) → AreWellRead n d b ps → ArePartsOf b (cut_parts_of ps)
 cut_parts_are n d b no_parts w = tt
-cut_parts_are n d b (part l e ps) w = (w.0, w.1, cut_parts_are n d b ps w.3)
+cut_parts_are n d b (part l e ps) w = ((w.0, w.1), cut_parts_are n d b ps w.3)
 
 multi_cut : (n : ℕ) (d : Bool) (b : List ℕ) (pre : List TextLine) (ps : Parts) (t : Option (TextLine × List TextLine)) → AreWellRead n d b ps → Unmarked b pre → Closes b t → cut_by b (pre ++ (print_parts ps ++ tail_lines t)) ≡ record { preamble = pre; parts = cut_parts_of ps; tail = t }
 multi_cut n d b pre ps t w u c =
@@ -58,7 +58,7 @@ mutual
   well_read n d (multi h b pre ps t) w =
       read_split n d h (pre ++ (print_parts ps ++ tail_lines t)) w.0
       ∙ (ap (λ k. entity_by (read (below n)) k h (pre ++ (print_parts ps ++ tail_lines t))) w.1
-      ∙ (ap (λ c. multi_by (read (below n) (digest_below d h)) h b c) (multi_cut (below n) (digest_below d h) b pre ps t w.2 w.3 w.4)
+      ∙ (ap (λ (c : Cut). multi h b c.preamble (parts_by (read (below n) (digest_below d h)) c.parts) c.tail) (multi_cut (below n) (digest_below d h) b pre ps t w.2 w.3 w.4)
       ∙ ap (λ qs. multi h b pre qs t) (parts_well_read (below n) (digest_below d h) b ps w.2)))
 
   parts_well_read : (n : ℕ) (d : Bool) (b : List ℕ) (ps : Parts) → AreWellRead n d b ps → parts_by (read n d) (cut_parts_of ps) ≡ ps
@@ -67,7 +67,7 @@ mutual
 
 read_parts_well : (n : ℕ) (d : Bool) (b : List ℕ) → ((ls : List TextLine) → IsWellRead n d (read n d ls)) → (ps : List (TextLine × List TextLine)) → ArePartsOf b ps → AreWellRead n d b (parts_by (read n d) ps)
 read_parts_well n d b f [] h = tt
-read_parts_well n d b f (p ∷ ps) h = (h.0, subst (Unmarked b) (sym (print_read n d p.1)) h.1, f p.1, read_parts_well n d b f ps h.2)
+read_parts_well n d b f (p ∷ ps) h = (h.0.0, subst (Unmarked b) (sym (print_read n d p.1)) h.0.1, f p.1, read_parts_well n d b f ps h.1)
 
 kind_well : (n : ℕ) (d : Bool) (k : Kind) (h : Head) (ls : List TextLine) → ((g : Bool) (ms : List TextLine) → IsWellRead n g (read n g ms)) → IsSplit h ls → kind h.fields d ≡ k → IsWellRead (suc n) d (entity_by (read n) k h ls)
 kind_well n d Leaf h ls f s e = (s, e)

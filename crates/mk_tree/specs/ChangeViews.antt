@@ -13,7 +13,3 @@ ChangesTo path (change.Body text) t u = SectionBecomes path (HasBody text.items)
 ChangesTo path (change.Entity text) t u = SectionBecomes path (HasText text.items) t u
 ChangesTo path (change.Part place text) t u = SectionBecomes path (HasPart place text.items) t u
 ChangesTo path change.NoPart t u = PartGoes path t u
-
--- the change can be made
-abbrev pub Changes : List ℕ → Change → Document → Type 0
-Changes path c t = (u : Document) × ChangesTo path c t u

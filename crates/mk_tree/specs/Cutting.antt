@@ -1,5 +1,6 @@
 -- Multiparts cut by one boundary (RFC 2046, 5.1.1).
-use Rattle.std.specs.Prelude.{◌≡◌, ◌++◌, Option, None, Some, List, [], ◌∷◌, ℕ}
+use Rattle.std.specs.Prelude.{◌≡◌, ◌++◌, Option, None, Some, IfSome, List, [], ◌∷◌, ℕ}
+use Rattle.std.specs.List.{AllByRecursion, flat_map}
 use Rattle.mk_line.specs.declared.marks.Mark.{Mark}
 use Rattle.mk_line.specs.declared.marks.Mark.TheVariants.{No, Part, Close}
 use Rattle.mk_line.specs.Lines.{TextLine}
@@ -22,11 +23,6 @@ abbrev pub cut_by : List ℕ → List TextLine → Cut
 cut_by b [] = record { preamble = []; parts = []; tail = None }
 cut_by b (l ∷ ls) = cut_before (mark b l.content) l ls (cut_by b ls)
 
--- the lines of parts, each after its delimiter
-abbrev pub parts_lines : List (TextLine × List TextLine) → List TextLine
-parts_lines [] = []
-parts_lines (p ∷ ps) = p.0 ∷ (p.1 ++ parts_lines ps)
-
 -- the close line and the epilogue, where there is a close line
 abbrev pub tail_lines : Option (TextLine × List TextLine) → List TextLine
 tail_lines None = []
@@ -37,24 +33,10 @@ abbrev pub Unmarked : List ℕ → List TextLine → Type 0
 Unmarked b [] = Unit {0}
 Unmarked b (l ∷ ls) = (mark b l.content ≡ No) × Unmarked b ls
 
--- each part begins with a delimiter, and holds no mark
-abbrev pub ArePartsOf : List ℕ → List (TextLine × List TextLine) → Type 0
-ArePartsOf b [] = Unit {0}
-ArePartsOf b (p ∷ ps) = (mark b p.0.content ≡ Part) × Unmarked b p.1 × ArePartsOf b ps
-
--- a close line, where there is one
-abbrev pub Closes : List ℕ → Option (TextLine × List TextLine) → Type 0
-Closes b None = Unit {0}
-Closes b (Some p) = mark b p.0.content ≡ Close
-
--- the lines are this preamble, these parts, and this close line and epilogue
+-- the lines are this preamble, these parts, and this close line and epilogue: each part begins with a delimiter and holds no
+-- other mark, and the preamble holds none
 pub record IsCutBy (b : List ℕ) (ls : List TextLine) (c : Cut) : Type 0 where
-  pub joined : c.preamble ++ (parts_lines c.parts ++ tail_lines c.tail) ≡ ls
+  pub joined : c.preamble ++ (flat_map (λ p. p.0 ∷ p.1) c.parts ++ tail_lines c.tail) ≡ ls
   pub preamble : Unmarked b c.preamble
-  pub parts : ArePartsOf b c.parts
-  pub tail : Closes b c.tail
-
--- lines have one cut by a boundary, and no other
-pub record HasOneCut (b : List ℕ) (ls : List TextLine) : Type 0 where
-  pub is_cut : IsCutBy b ls (cut_by b ls)
-  pub only : (c : Cut) → IsCutBy b ls c → cut_by b ls ≡ c
+  pub parts : AllByRecursion (λ p. (mark b p.0.content ≡ Part) × Unmarked b p.1) c.parts
+  pub tail : IfSome c.tail (λ p. mark b p.0.content ≡ Close)

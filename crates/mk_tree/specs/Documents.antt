@@ -1,5 +1,5 @@
 -- A document: the line that a mailbox puts before a message, where it is there, and the message (own).
-use Rattle.std.specs.Prelude.{◌≡◌, ◌++◌, ℕ, Bool, true, false, Option, None, Some, List, [], ◌∷◌}
+use Rattle.std.specs.Prelude.{if◌then◌else◌, ◌≡◌, ◌++◌, ℕ, false, Option, None, Some, List, [], ◌∷◌}
 use Rattle.mk_line.specs.Lines.{TextLine, cut, text_of}
 use Rattle.mk_line.specs.Kinds.{is_from_line}
 use Rattle.std.specs.Option.{option_to_list}
@@ -14,15 +14,12 @@ pub record Document : Type 0 where
 abbrev pub levels : ℕ
 levels = 100
 
--- lines whose first is the envelope, or isn't
-abbrev pub enveloped : Bool → TextLine → List TextLine → Document
-enveloped true l ls = record { envelope = Some l; root = read levels false ls }
-enveloped false l ls = record { envelope = None; root = read levels false (l ∷ ls) }
-
 -- the document that lines are read as: a From-line at the start is the envelope
 abbrev pub document_of : List TextLine → Document
 document_of [] = record { envelope = None; root = read levels false [] }
-document_of (l ∷ ls) = enveloped (is_from_line l.content) l ls
+document_of (l ∷ ls) =
+    if is_from_line l.content then record { envelope = Some l; root = read levels false ls }
+    else record { envelope = None; root = read levels false (l ∷ ls) }
 
 -- the document that a text is read as
 abbrev pub tree : List ℕ → Document

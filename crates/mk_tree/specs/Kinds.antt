@@ -1,5 +1,6 @@
 -- What the fields of an entity say that its body is (RFC 2046, 5.1, 5.1.5, 5.2.1; RFC 6532, 3.7 for message/global).
 use Rattle.std.specs.Prelude.{◌==◌, ◌&&◌, ◌||◌, if◌then◌else◌, ℕ, zero, suc, Bool, true, false, not, List, [], ◌∷◌, codes}
+use Rattle.std.specs.List.{list_any}
 use Rattle.std.specs.Str.{bytes_eq}
 use Rattle.mk_line.specs.Ascii.{carriage_return}
 use Rattle.mk_line.specs.Lines.{TextLine, is_nil}
@@ -14,11 +15,6 @@ pub data Kind : Type 0 where
   Message : Kind
   Multi : (boundary : List ℕ) → (digest : Bool) → Kind
 
--- some byte is a carriage return
-abbrev pub has_return : List ℕ → Bool
-has_return [] = false
-has_return (byte ∷ bytes) = byte == carriage_return || has_return bytes
-
 -- the encoding changes nothing: 7bit, 8bit or binary (RFC 2045, 6.2)
 abbrev pub is_identity : Encoding → Bool
 is_identity Identity = true
@@ -28,7 +24,7 @@ is_identity Other = false
 
 -- a boundary counts where it has a byte and no CR (own)
 abbrev pub has_boundary : MediaType → Bool
-has_boundary t = not (is_nil (boundary_of t)) && not (has_return (boundary_of t))
+has_boundary t = not (is_nil (boundary_of t)) && not (list_any (λ c. c == carriage_return) (boundary_of t))
 
 -- message/rfc822 and message/global hold a message, where no encoding hides it (own)
 abbrev pub holds_message : MediaType → Encoding → Bool

@@ -1,5 +1,5 @@
 -- What an entity put in the place of a section has to meet, so that the document is read back as it is (own).
-use Rattle.std.specs.Prelude.{◌≡◌, ◌++◌, false, Option, None, Some, List, [], ◌∷◌}
+use Rattle.std.specs.Prelude.{take, IfNone, ◌≡◌, ◌++◌, false, Option, None, Some, List, [], ◌∷◌}
 use Rattle.mk_line.specs.Lines.{TextLine, cut}
 use Rattle.mk_line.specs.Kinds.{is_from_line}
 use Rattle.mk_head.specs.Split.{Head, head_of, after_head}
@@ -14,11 +14,6 @@ Unmarked_in [] ls = Unit {0}
 Unmarked_in (in_message h ∷ fs) ls = Unmarked_in fs ls
 Unmarked_in (in_multi h b pre before l after t ∷ fs) ls = Unmarked b ls × Unmarked_in fs ls
 
--- the first line, where there is one
-abbrev pub first_line : List TextLine → List TextLine
-first_line [] = []
-first_line (l ∷ ls) = l ∷ []
-
 -- fields without a separator (own)
 abbrev pub open_head : List TextLine → Head
 open_head fields = record { fields = fields; separator = None }
@@ -28,14 +23,10 @@ pub record Ends (fields first : List TextLine) : Type 0 where
   pub head : head_of (fields ++ first) ≡ open_head fields
   pub body : after_head (fields ++ first) ≡ first
 
--- an entity after the fields of a message: without a separator it has no head, and the fields end at its first line
-abbrev pub Continues : List TextLine → Option TextLine → Entity → Type 0
-Continues fields (Some l) e = Unit {0}
-Continues fields None e = (entity_head e ≡ open_head []) × Ends fields (first_line (print e))
-
--- an entity after the head of a message doesn't run on into it (own); a part stands after a delimiter
+-- an entity after the head of a message doesn't run on into it (own): without a separator there it has no head, and the
+-- fields end at its first line. A part stands after a delimiter
 abbrev pub FitsFrame : Frame → Entity → Type 0
-FitsFrame (in_message h) e = Continues h.fields h.separator e
+FitsFrame (in_message h) e = IfNone h.separator ((entity_head e ≡ open_head []) × Ends h.fields (take 1 (print e)))
 FitsFrame (in_multi h b pre before l after t) e = Unit {0}
 
 -- of what stands around a place only the innermost is looked at

@@ -1,11 +1,11 @@
 -- A change planned: bytes in the place of others, and what becomes of the lengths of a section (own).
-use Rattle.std.specs.Prelude.{◌≡◌, ◌≤◌, ◌<◌, ◌+◌, ◌-◌, ◌^◌, ◌++◌, false, ℕ, Option, List, [], ◌∷◌, length}
+use Rattle.std.specs.Prelude.{◌≡◌, ◌≤◌, ◌<◌, ◌+◌, ◌-◌, ◌^◌, ◌++◌, false, ℕ, suc, Option, List, [], ◌∷◌, length}
 use Rattle.mk_line.specs.Lines.{TextLine, AreLines, text_of}
 use Rattle.mk_head.specs.Split.{Head, head_lines}
 use Rattle.mk_tree.specs.declared.planning.Plan.{Plan}
 use Rattle.mk_tree.specs.declared.planning.SectionChange.{SectionChange}
 use Rattle.mk_tree.specs.declared.planning.SectionChange.TheVariants as section
-use Rattle.mk_tree.specs.Tree.{Entity, multi, Parts, print, print_parts}
+use Rattle.mk_tree.specs.Tree.{Entity, multi, Parts, part, print, print_parts}
 use Rattle.mk_tree.specs.Reading.{IsWellRead}
 use Rattle.mk_tree.specs.Documents.{Document, printed, tree}
 use Rattle.mk_tree.specs.Spans.{size, span_of}
@@ -13,7 +13,21 @@ use Rattle.mk_tree.specs.Sections.{Placed, raw_of}
 use Rattle.mk_tree.specs.Changed.{FitsOwn, LeadsTo, own_changed, respan}
 use Rattle.mk_tree.specs.Places.{append_parts}
 use Rattle.mk_splice.specs.Splices.{spliced}
-use Rattle.mk_tree.specs.Splicing.{part_count, HasBody, HasText, HasPart, LacksPart}
+use Rattle.mk_tree.specs.Splicing.{part_count, HasBody, HasText, HasPart}
+
+-- a multipart without its part of a number, counted from 1, and without the delimiter of that part
+pub record LacksPart (number : ℕ) (s e : Entity) : Type 0 where
+  pub head : Head
+  pub boundary : List ℕ
+  pub preamble : List TextLine
+  pub before : Parts
+  pub delimiter : TextLine
+  pub old : Entity
+  pub after : Parts
+  pub tail : Option (TextLine × List TextLine)
+  pub section_is : s ≡ multi head boundary preamble (append_parts before (part delimiter old after)) tail
+  pub result_is : e ≡ multi head boundary preamble (append_parts before after) tail
+  pub number_is : suc (part_count before) ≡ number
 
 -- what a section becomes
 abbrev pub Becomes : SectionChange → Entity → Entity → Type 0

@@ -1,13 +1,18 @@
 -- An entity that is read back from its lines, said level by level (own).
-use Rattle.std.specs.Prelude.{◌≡◌, ◌++◌, ℕ, Bool, false, List}
-use Rattle.mk_line.specs.declared.marks.Mark.TheVariants.{Part}
+use Rattle.std.specs.Prelude.{◌≡◌, ◌++◌, ℕ, Bool, false, Option, IfSome, List}
+use Rattle.mk_line.specs.declared.marks.Mark.TheVariants.{Part, Close}
+use Rattle.mk_line.specs.Lines.{TextLine}
 use Rattle.mk_line.specs.Marks.{mark}
 use Rattle.mk_head.specs.Splits.{IsSplit}
-use Rattle.mk_tree.specs.Cutting.{tail_lines, Unmarked, Closes}
+use Rattle.mk_tree.specs.Cutting.{tail_lines, Unmarked}
 use Rattle.mk_tree.specs.Kinds.{Leaf, Message, Multi, kind_at}
 use Rattle.mk_tree.specs.Tree.{Entity, leaf, message, multi, Parts, no_parts, part, print, print_parts}
 use Rattle.mk_tree.specs.Spans.{digest_below}
 use Rattle.mk_tree.specs.Places.{below}
+
+-- a close line, where there is one
+abbrev pub Closes : List ℕ → Option (TextLine × List TextLine) → Type 0
+Closes b t = IfSome t (λ p. mark b p.0.content ≡ Close)
 
 abbrev mutual
   -- where so many levels may stand below, in a digest or not: head and body are apart, the fields say the kind, and

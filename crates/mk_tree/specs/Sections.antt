@@ -1,5 +1,5 @@
 -- Sections of a document: the root, and below each its parts or its message (own).
-use Rattle.std.specs.Prelude.{◌==◌, ◌+◌, ◌++◌, ◌||◌, if◌then◌else◌, ℕ, Bool, true, false, Option, None, Some, List, [], ◌∷◌, option_and_then}
+use Rattle.std.specs.Prelude.{drop, is_some, ◌==◌, ◌+◌, ◌++◌, ◌||◌, if◌then◌else◌, ℕ, Bool, true, false, Option, None, Some, List, [], ◌∷◌, option_and_then}
 use Rattle.mk_line.specs.Lines.{TextLine, text_of, text_line}
 use Rattle.mk_line.specs.declared.cutting.Ending.TheVariants.{Missing}
 use Rattle.mk_head.specs.Split.{head_lines}
@@ -22,11 +22,6 @@ abbrev pub has_part : Parts → Bool
 has_part no_parts = false
 has_part (part l e ps) = true
 
--- a close line is there
-abbrev pub has_tail : Option (TextLine × List TextLine) → Bool
-has_tail None = false
-has_tail (Some t) = true
-
 -- parts in their places, the first delimiter at a place; `followed`: whether lines stand after the last
 abbrev pub parts_placed : ℕ → Bool → Bool → Parts → List Placed
 parts_placed place followed digest no_parts = []
@@ -38,7 +33,7 @@ parts_placed place followed digest (part l e ps) =
 abbrev pub children_of : Placed → Entity → List Placed
 children_of p (leaf h ls) = []
 children_of p (message h e) = record { start = p.start + size (head_lines h); followed = p.followed; digest = false; entity = e } ∷ []
-children_of p (multi h b pre ps t) = parts_placed (p.start + size (head_lines h) + size pre) (has_tail t || p.followed) (digest_below p.digest h) ps
+children_of p (multi h b pre ps t) = parts_placed (p.start + size (head_lines h) + size pre) (is_some t || p.followed) (digest_below p.digest h) ps
 
 -- the sections directly below a section, in order
 abbrev pub children : Placed → List Placed
@@ -82,13 +77,9 @@ unended [] = []
 unended (l ∷ []) = text_line l.content Missing ∷ []
 unended (l ∷ m ∷ ls) = l ∷ unended (m ∷ ls)
 
--- the line ending before a delimiter or close line belongs to that line (RFC 2046, 5.1.1)
-abbrev pub content_lines : Placed → List TextLine
-content_lines p = if p.followed then unended (body_lines p.entity) else body_lines p.entity
-
--- the bytes of its content
+-- the bytes of its content: the line ending before a delimiter or close line belongs to that line (RFC 2046, 5.1.1)
 abbrev pub content_text : Placed → List ℕ
-content_text p = text_of (content_lines p)
+content_text p = text_of (if p.followed then unended (body_lines p.entity) else body_lines p.entity)
 
 -- the lines before the first delimiter of a multipart
 abbrev pub preamble_lines : Entity → List TextLine
@@ -96,16 +87,11 @@ preamble_lines (leaf h ls) = []
 preamble_lines (message h e) = []
 preamble_lines (multi h b pre ps t) = pre
 
--- the lines after a close line, where there is one
-abbrev pub epilogue_of : Option (TextLine × List TextLine) → List TextLine
-epilogue_of None = []
-epilogue_of (Some t) = t.1
-
 -- the lines after the close line of a multipart
 abbrev pub epilogue_lines : Entity → List TextLine
 epilogue_lines (leaf h ls) = []
 epilogue_lines (message h e) = []
-epilogue_lines (multi h b pre ps t) = epilogue_of t
+epilogue_lines (multi h b pre ps t) = drop 1 (tail_lines t)
 
 -- the boundary of a multipart
 abbrev pub boundary_in : Entity → Option (List ℕ)

@@ -83,23 +83,10 @@ pub record HasPart (place : ℕ) (text : List ℕ) (s e : Entity) : Type 0 where
   pub place_is : part_count before ≡ place
   pub text_is : text_of (delimiter ∷ print new) ≡ text
 
--- a multipart without its part of a number, counted from 1, and without the delimiter of that part
-pub record LacksPart (number : ℕ) (s e : Entity) : Type 0 where
-  pub head : Head
-  pub boundary : List ℕ
-  pub preamble : List TextLine
-  pub before : Parts
-  pub delimiter : TextLine
-  pub old : Entity
-  pub after : Parts
-  pub tail : Option (TextLine × List TextLine)
-  pub section_is : s ≡ multi head boundary preamble (append_parts before (part delimiter old after)) tail
-  pub result_is : e ≡ multi head boundary preamble (append_parts before after) tail
-  pub number_is : suc (part_count before) ≡ number
-
--- the part at a path goes
+-- the part at a path goes, with its delimiter: what holds it has one part more, after so many, than what it becomes
 pub record PartGoes (path : List ℕ) (t u : Document) : Type 0 where
   pub around : List ℕ
-  pub number : ℕ
-  pub path_is : path ≡ around ++ number ∷ []
-  pub becomes : SectionBecomes around (LacksPart number) t u
+  pub before : ℕ
+  pub text : List ℕ
+  pub path_is : path ≡ around ++ suc before ∷ []
+  pub becomes : SectionBecomes around (λ s e. HasPart before text e s) t u

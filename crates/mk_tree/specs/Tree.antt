@@ -2,7 +2,7 @@
 use Rattle.std.specs.Prelude.{ℕ, zero, suc, Bool, false, Option, List, [], ◌∷◌, ◌++◌}
 use Rattle.mk_line.specs.Lines.{TextLine}
 use Rattle.mk_head.specs.Split.{Head, head_of, head_lines, after_head}
-use Rattle.mk_tree.specs.Cutting.{Cut, cut_by, tail_lines}
+use Rattle.mk_tree.specs.Cutting.{cut_by, tail_lines}
 use Rattle.mk_tree.specs.Kinds.{Kind, Leaf, Message, Multi, kind_at}
 
 mutual
@@ -22,15 +22,11 @@ abbrev pub parts_by : (List TextLine → Entity) → List (TextLine × List Text
 parts_by f [] = no_parts
 parts_by f (p ∷ ps) = part p.0 (f p.1) (parts_by f ps)
 
--- a multipart of a cut body, whose parts a function reads
-abbrev pub multi_by : (List TextLine → Entity) → Head → List ℕ → Cut → Entity
-multi_by f h b c = multi h b c.preamble (parts_by f c.parts) c.tail
-
 -- an entity of a kind, where a function reads what lies one level deeper
 abbrev pub entity_by : (Bool → List TextLine → Entity) → Kind → Head → List TextLine → Entity
 entity_by f Leaf h ls = leaf h ls
 entity_by f Message h ls = message h (f false ls)
-entity_by f (Multi b digest) h ls = multi_by (f digest) h b (cut_by b ls)
+entity_by f (Multi b digest) h ls = let c = cut_by b ls in multi h b c.preamble (parts_by (f digest) c.parts) c.tail
 
 -- the entity that lines are read as, below which so many levels may stand, in a digest or not
 abbrev pub read : ℕ → Bool → List TextLine → Entity

@@ -1,5 +1,5 @@
 //! What fields say of a body (RFC 2045, 5.1, 5.2 and 6; RFC 2046, 5.1 and 5.2.1).
-ghost use Rattle.std.specs.Prelude.{◌≡◌, ◌∷◌, List, None, codes, false, true, not, IfOk, IfNone, IfSome};
+ghost use Rattle.std.specs.Prelude.{◌==◌, ◌≡◌, ◌∷◌, List, None, codes, false, true, not, IfOk, IfNone, IfSome};
 ghost use Rattle.std.specs.Option.{option_map, option_map_or};
 ghost use Rattle.mk_line.specs.Lines.{cut as lines_of};
 ghost use Rattle.mk_head.specs.Split.{fields_from};
@@ -8,7 +8,9 @@ ghost use Rattle.mk_head.specs.Types.{boundary_of, field_value, header_encoding}
 ghost use Rattle.mk_head.specs.ValueViews.{media_type_of};
 ghost use Rattle.mk_head.specs.Values.{unled};
 ghost use Rattle.mk_head.specs.Views.{field_view};
-ghost use Rattle.mk_tree.specs.Kinds.{kind, kind_of, has_boundary, has_return as holds_return, holds_message as is_message, is_identity as identity};
+ghost use Rattle.std.specs.List.{list_any};
+ghost use Rattle.mk_line.specs.Ascii.{carriage_return};
+ghost use Rattle.mk_tree.specs.Kinds.{kind, kind_of, has_boundary, holds_message as is_message, is_identity as identity};
 ghost use Rattle.mk_tree.specs.Steps.{kind_described};
 ghost use Rattle.mk_tree.specs.inner.Said.{begins_leaf, value_said, said_first};
 ghost use Rattle.mk_head.specs.Encodings.{encoding_of};
@@ -141,7 +143,7 @@ fn boundary_in(media: &ContentType) -> Option<&[u8]>
 }
 
 fn has_return(text: &[u8]) -> bool
-    ensures { result ≡ holds_return text.now }
+    ensures { result ≡ list_any (λ c. c == carriage_return) text.now }
 {
     for byte in text {
         if *byte == CARRIAGE_RETURN {

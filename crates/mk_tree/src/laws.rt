@@ -3,7 +3,7 @@ ghost use Rattle.std.specs.Prelude.{◌≡◌, ◌↔◌, true, ℕ, List, Optio
 ghost use Rattle.std.specs.Option.{option_map};
 ghost use Rattle.mk_line.specs.Lines.{cut};
 ghost use Rattle.mk_line.specs.Lines.{TextLine};
-ghost use Rattle.mk_tree.specs.Cutting.{HasOneCut};
+ghost use Rattle.mk_tree.specs.Cutting.{Cut, IsCutBy, cut_by};
 ghost use Rattle.mk_tree.specs.Documents.{Document, IsStable, document_lines, printed, tree};
 ghost use Rattle.mk_tree.specs.Equal.{is_stable};
 ghost use Rattle.mk_tree.specs.Locality.{Replaces};
@@ -29,7 +29,8 @@ pub fn stability_is_told()
 /// Lines have exactly one cut by a boundary: a preamble without its marks, parts that each begin with a delimiter and
 /// hold no mark, and a close line with the epilogue, where there is one (RFC 2046, 5.1.1).
 pub fn cuts_are_unique()
-    ensures { (boundary : List ℕ) (lines : List TextLine) → HasOneCut boundary lines }
+    ensures some { (boundary : List ℕ) (lines : List TextLine) → IsCutBy boundary lines (cut_by boundary lines) }
+    ensures only { (boundary : List ℕ) (lines : List TextLine) (cut : Cut) → IsCutBy boundary lines cut → cut_by boundary lines ≡ cut }
 {}
 
 /// What a text is read as is stable.

@@ -3,9 +3,9 @@ ghost use Rattle.std.specs.Prelude.{◌≡◌, ◌≤◌, ◌-◌, ◌∷◌, �
 ghost use Rattle.mk_line.specs.Lines.{TextLine, cut as lines_of};
 ghost use Rattle.mk_tree.specs.Documents.{levels};
 ghost use Rattle.mk_tree.specs.Nodes.{node_span};
-ghost use Rattle.mk_tree.specs.Planning.{Becomes, IsBehindParts, MakesAll, new_of};
+ghost use Rattle.mk_tree.specs.Planning.{Becomes, IsBehindParts, LacksPart, MakesAll, new_of};
 ghost use Rattle.mk_tree.specs.Spans.{span_of};
-ghost use Rattle.mk_tree.specs.Splicing.{HasBody, HasText, HasPart, LacksPart};
+ghost use Rattle.mk_tree.specs.Splicing.{HasBody, HasText, HasPart};
 ghost use Rattle.mk_tree.specs.Tree.{Entity, read};
 
 use crate::changing::Own;

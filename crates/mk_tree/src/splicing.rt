@@ -74,14 +74,14 @@ impl Doc {
     ghost use Rattle.mk_tree.specs.Documents.{Document, tree, printed};
     ghost use Rattle.mk_splice.specs.Splices.{spliced};
     ghost use Rattle.mk_tree.specs.Splicing.{ChangesFields, DigestsBelow, SectionBecomes};
-    ghost use Rattle.mk_tree.specs.ChangeViews.{Changes, ChangesTo};
+    ghost use Rattle.mk_tree.specs.ChangeViews.{ChangesTo};
     ghost use Rattle.mk_tree.specs.Planning.{Becomes, Puts};
 
     /// Changes the section at a path, where the document that comes of it is stable: the bytes, and of the tree the
     /// sections on the path. It reads the new bytes and the head of the section. If memory runs out, nothing changes,
     /// and the change comes back.
     pub fn splice(&mut self, path: &[u32], change: Change) -> Result<(), (Change, AllocError)>
-        requires { Changes path.now change (tree self.old) }
+        requires { (u : Document) × ChangesTo path.now change (tree self.old) u }
         ensures ok { OnOk result ((u : Document) → ChangesTo path.now change (tree self.old) u → self.new ≡ printed u) }
         ensures same { OnErr result (self.new ≡ self.old) }
         ensures change { IfErr result (λ e. e.0 ≡ change) }
@@ -93,7 +93,7 @@ impl Doc {
     }
 
     fn change(&mut self, path: &[u32], change: &Change) -> Result<(), AllocError>
-        requires { Changes path.now change.now (tree self.old) }
+        requires { (u : Document) × ChangesTo path.now change.now (tree self.old) u }
         ensures ok { OnOk result ((u : Document) → ChangesTo path.now change.now (tree self.old) u → self.new ≡ printed u) }
         ensures err { OnErr result (self.new ≡ self.old) }
     {

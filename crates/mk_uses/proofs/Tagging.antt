@@ -1,7 +1,8 @@
 -- A mailbox read to its end, and each message of it tagged.
 use Rattle.std.proofs.Common.{◌≡◌, ◌++◌, ◌||◌, ℕ, Bool, true, false, not, Option, None, Some, Result, List, [], ◌∷◌, refl, ap, sym, subst, ◌∙◌, map, append-nil, append_assoc, inl, inr}
 use Rattle.std.specs.Io.KnownBytes.{Consumes}
-use Rattle.std.specs.List.{flat_map}
+use Rattle.std.specs.List.{AllByRecursion, AllZip, flat_map}
+use Rattle.std.specs.Prelude.{IfSome}
 use Rattle.std.proofs.lemmas.Bool.{cases_Bool}
 use Rattle.std.proofs.lemmas.Grind.{flat_map-append}
 use Rattle.mk_line.specs.Lines.{cut}
@@ -9,15 +10,16 @@ use Rattle.mk_tree.specs.Documents.{Document, tree}
 use Rattle.mk_decide.specs.Answers.{IsRefusedBy}
 use Rattle.mk_decide.specs.Edits.{AddField, Refusal}
 use Rattle.mk_decide.specs.Outcomes.{edited}
+use Rattle.mk_mailbox.specs.declared.from_lines.FromLines.{FromLines}
 use Rattle.mk_mailbox.specs.declared.from_lines.FromLines.TheVariants.{Any}
 use Rattle.mk_mailbox.specs.Held.{Held}
-use Rattle.mk_mailbox.specs.MailboxLaws.{AreCalls, Call, EndsAreWhole, IsCall, PiecesAreUncut, given_by, message, message_of, read_by, unread_mailbox}
+use Rattle.mk_mailbox.specs.MailboxLaws.{AreCalls, Call, IsCall, given_by, message, message_of, read_by, unread_mailbox}
 use Rattle.mk_mailbox.specs.Mailboxes.{IsOver}
 use Rattle.mk_mailbox.specs.Pieces.{mailbox_pieces}
 use Rattle.mk_mailbox.specs.Places.{begins_from, ends_empty, is_uncut, takes_place}
 use Rattle.mk_mailbox.specs.inner.Parts.{AreOnes, at_most_one}
 use Rattle.mk_mail.proofs.ReplacedApart.{AreReplaced}
-use Rattle.mk_mail.specs.Replaced.{ReplacedStayApart, texts_left}
+use Rattle.mk_mail.specs.Replaced.{texts_left}
 use Rattle.mk_uses.specs.Tagged.{all_tagged, kept_or, tagged, tagged_one, text_made}
 
 -- the calls so far read these bytes, and the messages that they gave, each with the field, are these
@@ -99,13 +101,17 @@ joined field (m ∷ ms) = one (tagged_one field m) (joined field ms)
     one [] e = e
     one (x ∷ xs) e = ap (λ ys. (x ∷ xs) ++ ys) e
 
-pub apart : PiecesAreUncut → ReplacedStayApart → (field mailbox out : List ℕ) → out ≡ all_tagged field mailbox → mailbox_pieces Any out ≡ texts_left (tagged field mailbox)
+pub apart : ((way : FromLines) (text : List ℕ) → AllByRecursion (λ p. mailbox_pieces way p ≡ p ∷ []) (mailbox_pieces way text))
+    → ((way : FromLines) (mailbox : List ℕ) (os : List (Option (List ℕ))) → AllZip (λ message o. IfSome o (λ text. takes_place way message text ≡ true)) (mailbox_pieces way mailbox) os
+    → mailbox_pieces way (flat_map (λ text. text) (texts_left os)) ≡ texts_left os)
+    → (field mailbox out : List ℕ) → out ≡ all_tagged field mailbox → mailbox_pieces Any out ≡ texts_left (tagged field mailbox)
 apart uncut law field mailbox out e =
     ap (mailbox_pieces Any) (e ∙ joined field (mailbox_pieces Any mailbox))
     ∙ law Any mailbox (tagged field mailbox) (replaced field (mailbox_pieces Any mailbox) (uncut Any mailbox))
 
 -- the end of the mailbox: all messages of what was read are tagged
-pub all_made : EndsAreWhole → (field : List ℕ) (a b c : Option (List ℕ)) (now next : Held) (out read : List ℕ) → AreTagged field a b now out → Consumes b c read → IsOver now read next
+pub all_made : ((way : FromLines) (calls : List Call) (last now : Held) (read : List ℕ) → AreCalls (unread_mailbox way) calls last → IsOver last read now → mailbox_pieces way (read_by calls ++ read) ≡ given_by calls)
+    → (field : List ℕ) (a b c : Option (List ℕ)) (now next : Held) (out read : List ℕ) → AreTagged field a b now out → Consumes b c read → IsOver now read next
     → (all : List ℕ) × Consumes a c all × (out ≡ all_tagged field all)
 all_made whole field a b c now next out read t k over = (
   read_by t.calls ++ read,

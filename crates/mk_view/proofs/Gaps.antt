@@ -7,7 +7,8 @@ use Rattle.mk_head.specs.Split.{head_lines}
 use Rattle.std.specs.Option.{option_to_list}
 use Rattle.mk_tree.specs.Cutting.{tail_lines}
 use Rattle.mk_tree.specs.Documents.{tree}
-use Rattle.mk_tree.specs.Sections.{Placed, body_lines, body_text, children, children_of, has_tail, parts_placed}
+use Rattle.mk_tree.specs.Sections.{Placed, body_lines, body_text, children, children_of, parts_placed}
+use Rattle.mk_tree.proofs.TreeNames.{has_tail}
 use Rattle.mk_tree.specs.Spans.{digest_below, size}
 use Rattle.mk_tree.specs.Tree.{Entity, leaf, message, multi, Parts, no_parts, part, entity_head, print, print_parts}
 use Rattle.mk_tree.proofs.Descent.{size_append}

@@ -1,7 +1,7 @@
 //! What the fields of a section say of it (RFC 2045, 5.1, 5.2 and 6).
 ghost use Rattle.std.specs.Prelude.{◌≡◌, ◌++◌, [], IfOk, OnOk, OnErr};
 ghost use Rattle.std.specs.Option.{option_map};
-ghost use Rattle.mk_head.specs.Types.{default_type as type_by_default, type_by};
+ghost use Rattle.mk_head.specs.Types.{type_by};
 ghost use Rattle.mk_head.specs.ValueViews.{media_type_of};
 ghost use Rattle.mk_view.specs.Listing.{type_of, type_text};
 
@@ -56,7 +56,7 @@ fn said_type(alloc: Global, value: Option<Vec<u8>>, digest: bool) -> Result<Cont
 
 // The content type where no field says it, in a digest or not (RFC 2046, 5.1.5).
 fn default_type(alloc: Global, digest: bool) -> Result<ContentType, AllocError>
-    ensures { IfOk result (λ media. media_type_of media ≡ type_by_default digest) }
+    ensures { IfOk result (λ media. media_type_of media ≡ type_by digest None) }
 {
     if digest {
         media(alloc, b"message", b"rfc822")

@@ -8,11 +8,11 @@ use Rattle.mk_line.specs.declared.cutting.Ending.{Ending}
 use Rattle.mk_line.specs.Ascii.{colon}
 use Rattle.mk_head.specs.Values.{Scan, Plain, Comment, is_plain, scan}
 use Rattle.mk_wording.specs.Addresses.{angle, worded_address}
-use Rattle.mk_wording.specs.Lists.{ends_of, worded_entries, worded_entry, worded_pieces}
+use Rattle.mk_wording.specs.Lists.{ends_of, worded_entries, worded_entry, worded_pieces, worded_list, worded_parameters}
 use Rattle.mk_wording.specs.Parameters.{parameter_first, worded_parameter}
 use Rattle.mk_wording.specs.Scanned.{ListEntry, before_mark, entries, from_mark, is_one_of, push_entry}
 use Rattle.mk_wording.specs.Stretches.{Stretch, are_ascii, begin_comment, comment_of, is_in_comment, parenthesis, part_before, push_inside, push_outside, stretches, worded_comment, worded_name, worded_outside, worded_stretches, worded_text}
-use Rattle.mk_wording.specs.WordingLaws.{AddressesStay, CommentsStay, Inside, IsWordedAs, Name, Other, Parameter, ParametersStay, bytes_of, written_as}
+use Rattle.mk_wording.specs.WordingLaws.{Inside, IsWordedAs, Name, Other, Parameter, bytes_of, written_as}
 use Rattle.mk_wording.specs.declared.lists.ListKind.{ListKind}
 use Rattle.mk_wording.specs.declared.lists.ListKind.TheVariants.{Addresses, Parameters}
 use Rattle.mk_wording.specs.declared.stretches.Outside.{Outside}
@@ -184,13 +184,13 @@ pieces_are eol (e ∷ es) made h =
     entry_more eol e (flat_map joined es) made (worded_text Ascii eol e.text) (worded_entries Parameters eol es) (λ part k. text_is eol Ascii e.text part k)
     (λ back k. entries_are eol Parameters es back k) h
 
-pub addresses_stay : AddressesStay
+pub addresses_stay : (eol : Ending) (value made : List ℕ) → worded_list Addresses eol value ≡ Some made → IsWordedAs eol value made
 addresses_stay eol value made h =
     subst (λ v. IsWordedAs eol v made) (entries_joined (ends_of Addresses) Plain value) (entries_are eol Addresses (entries (ends_of Addresses) Plain value) made h)
 
-pub parameters_stay : ParametersStay
+pub parameters_stay : (eol : Ending) (value made : List ℕ) → worded_parameters eol value ≡ Some made → IsWordedAs eol value made
 parameters_stay eol value made h =
     subst (λ v. IsWordedAs eol v made) (entries_joined (ends_of Parameters) Plain value) (pieces_are eol (entries (ends_of Parameters) Plain value) made h)
 
-pub comments_stay : CommentsStay
+pub comments_stay : (eol : Ending) (value made : List ℕ) → worded_text Ascii eol value ≡ Some made → IsWordedAs eol value made
 comments_stay eol value made h = text_is eol Ascii value made h

@@ -1,12 +1,9 @@
 -- What `--encode` leaves of structured values (RFC 2047, 5).
-use Rattle.std.specs.Prelude.{◌≡◌, ℕ, Some, List, unwrap_or}
+use Rattle.std.specs.Prelude.{◌≡◌, ℕ, List, unwrap_or}
 use Rattle.std.specs.List.{flat_map}
 use Rattle.mk_line.specs.declared.cutting.Ending.{Ending}
-use Rattle.mk_wording.specs.Lists.{worded_list, worded_parameters}
 use Rattle.mk_wording.specs.Parameters.{worded_parameter}
-use Rattle.mk_wording.specs.Stretches.{worded_comment, worded_name, worded_text}
-use Rattle.mk_wording.specs.declared.lists.ListKind.TheVariants.{Addresses}
-use Rattle.mk_wording.specs.declared.stretches.Outside.TheVariants.{Ascii}
+use Rattle.mk_wording.specs.Stretches.{worded_comment, worded_name}
 
 -- a part of a structured value: a name, what a comment holds, a parameter, or other bytes
 pub data Part : Type 0 where
@@ -34,15 +31,3 @@ pub record IsWordedAs (eol : Ending) (value made : List ℕ) : Type 0 where
   pub parts : List Part
   pub was : value ≡ flat_map bytes_of parts
   pub is : made ≡ flat_map (written_as eol) parts
-
--- of a list of addresses the names and comments alone change
-abbrev pub AddressesStay : Type 0
-AddressesStay = (eol : Ending) (value made : List ℕ) → worded_list Addresses eol value ≡ Some made → IsWordedAs eol value made
-
--- of a value with parameters the parameters and comments alone change
-abbrev pub ParametersStay : Type 0
-ParametersStay = (eol : Ending) (value made : List ℕ) → worded_parameters eol value ≡ Some made → IsWordedAs eol value made
-
--- of other structured values the comments alone change
-abbrev pub CommentsStay : Type 0
-CommentsStay = (eol : Ending) (value made : List ℕ) → worded_text Ascii eol value ≡ Some made → IsWordedAs eol value made

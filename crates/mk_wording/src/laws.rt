@@ -1,17 +1,24 @@
 //! Laws of fields in encoded words, each a function with an empty body whose clause is the law.
-ghost use Rattle.mk_wording.specs.WordingLaws.{AddressesStay, CommentsStay, ParametersStay};
+
+ghost use Rattle.std.specs.Prelude.{◌≡◌, ℕ, List, Some};
+ghost use Rattle.mk_line.specs.declared.cutting.Ending.{Ending};
+ghost use Rattle.mk_wording.specs.Lists.{worded_list, worded_parameters};
+ghost use Rattle.mk_wording.specs.Stretches.{worded_text};
+ghost use Rattle.mk_wording.specs.WordingLaws.{IsWordedAs};
+ghost use Rattle.mk_wording.specs.declared.lists.ListKind.TheVariants.{Addresses};
+ghost use Rattle.mk_wording.specs.declared.stretches.Outside.TheVariants.{Ascii};
 
 /// Of a list of addresses that goes in as encoded words all bytes outside names and comments stay.
 pub fn addresses_stay()
-    ensures { AddressesStay }
+    ensures { (eol : Ending) (value made : List ℕ) → worded_list Addresses eol value ≡ Some made → IsWordedAs eol value made }
 {}
 
 /// Of a value with parameters all bytes outside parameters and comments stay.
 pub fn parameters_stay()
-    ensures { ParametersStay }
+    ensures { (eol : Ending) (value made : List ℕ) → worded_parameters eol value ≡ Some made → IsWordedAs eol value made }
 {}
 
 /// Of other structured values all bytes outside comments stay.
 pub fn comments_stay()
-    ensures { CommentsStay }
+    ensures { (eol : Ending) (value made : List ℕ) → worded_text Ascii eol value ≡ Some made → IsWordedAs eol value made }
 {}

@@ -1,6 +1,5 @@
 //! Documents after a change: what is put where, the text that comes of it, and its sections.
-ghost use Rattle.mk_tree.specs.Documents.{tree};
-ghost use Rattle.mk_tree.specs.ChangeViews.{Changes};
+ghost use Rattle.mk_tree_tests.specs.inner.Changes.{Changes};
 
 use super::{LEVELS, read};
 use mk_tree::{Change, Section};
@@ -32,7 +31,7 @@ fn check_change(
     change: Change,
     after: &[u8],
 )
-    requires { Changes path.now change (tree text.now) }
+    requires { Changes text.now path.now change }
 {
     let mut doc = read(rt, alloc, text);
     let changed = doc.splice(path, change);

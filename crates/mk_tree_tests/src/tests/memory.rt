@@ -2,8 +2,7 @@
 //! `checks/refuse` runs each test here with each growth refused in turn. Tests of the same calls beside these want the
 //! answer at the first call.
 ghost use Rattle.std.specs.Prelude.{◌≡◌, IfOk};
-ghost use Rattle.mk_tree.specs.Documents.{tree};
-ghost use Rattle.mk_tree.specs.ChangeViews.{Changes};
+ghost use Rattle.mk_tree_tests.specs.inner.Changes.{Changes};
 
 use super::changes::same_sections;
 use super::rows::MIXED;
@@ -116,7 +115,7 @@ fn check_change(
     change: Change,
     after: &[u8],
 )
-    requires { Changes path.now change (tree text.now) }
+    requires { Changes text.now path.now change }
 {
     let (Ok(mut doc), Ok(twin)) = (document(alloc, text), document(alloc, text)) else {
         return;

@@ -1,7 +1,7 @@
-use Rattle.std.proofs.Common.{◌≡◌, take}
+use Rattle.std.proofs.Common.{◌≡◌, encode_utf8, take}
 use Rattle.std.specs.List.{flat_map}
-use Rattle.mk_code.specs.EncodedWords.{latin_character}
+use Rattle.std.specs.String.{string_bytes}
 use Rattle.mk_code.proofs.charsets.from_latin.Given as goal
 
 abbrev pub invariant-loop-byte : goal.invariant-loop-byte
-invariant-loop-byte l = l.out.items ≡ flat_map latin_character (take l.byte-index l.bytes)
+invariant-loop-byte l = string_bytes l.text ≡ flat_map encode_utf8 (take l.byte-index l.bytes)

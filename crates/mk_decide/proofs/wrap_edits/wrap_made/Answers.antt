@@ -3,7 +3,8 @@ use Rattle.mk_line.specs.Lines.{cut, eol_of, is_nil}
 use Rattle.mk_tree.specs.Documents.{tree}
 use Rattle.mk_tree.specs.Sections.{root_of, head_text}
 use Rattle.mk_decide.specs.Around.{hit_below}
-use Rattle.mk_decide.specs.Outcomes.{has_mark, or_own}
+use Rattle.mk_decide.specs.Outcomes.{has_mark}
+use Rattle.mk_decide.specs.SectionAnswers.{or_own}
 use Rattle.mk_decide.specs.WrapAnswers.{made_bytes, other_part, content_part, type_bytes, delimiter_bytes, close_bytes, version_bytes, wrap_opens, wrap_fits}
 use Rattle.mk_decide.proofs.WrapAnswered.{AreSteps, lines_are, bytes_are, wrapped_in}
 use Rattle.mk_decide.proofs.wrap_edits.wrap_made.Goals as goal

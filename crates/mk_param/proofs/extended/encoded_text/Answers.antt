@@ -3,18 +3,18 @@ use Rattle.std.specs.Prelude.{Option}
 use Rattle.std.specs.Option.{option_map}
 use Rattle.std.specs.String.{string_bytes}
 use Rattle.mk_line.specs.Parting.{before, following}
-use Rattle.mk_param.specs.Extended.{joined, segments_text, text_in, when}
+use Rattle.mk_param.specs.Extended.{joined, segments_text, text_in}
 use Rattle.mk_param.specs.Percents.{percent_decoded}
 use Rattle.mk_param.specs.Segments.{Segment, Encoded}
 use Rattle.mk_param.specs.SegmentViews.{segment_of}
 use Rattle.mk_param.proofs.extended.encoded_text.Goals as goal
 
 -- what was read, and was put after other bytes
-was_read : (out new : List ℕ) (o : Option (List ℕ)) → when true new ≡ option_map (λ bytes. out ++ bytes) o → (bytes : List ℕ) × (o ≡ Some bytes) × (new ≡ out ++ bytes)
+was_read : (out new : List ℕ) (o : Option (List ℕ)) → Some new ≡ option_map (λ bytes. out ++ bytes) o → (bytes : List ℕ) × (o ≡ Some bytes) × (new ≡ out ++ bytes)
 was_read out new None e = cc
 was_read out new (Some bytes) e = let same : new ≡ out ++ bytes = cc in (bytes, refl, same)
 
-not_read : (out new : List ℕ) (o : Option (List ℕ)) → when false new ≡ option_map (λ bytes. out ++ bytes) o → o ≡ None
+not_read : (out new : List ℕ) (o : Option (List ℕ)) → None ≡ option_map (λ bytes. out ++ bytes) o → o ≡ None
 not_read out new None e = refl
 not_read out new (Some bytes) e = cc
 

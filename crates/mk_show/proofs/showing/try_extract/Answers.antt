@@ -30,3 +30,6 @@ returns-in-Ok-given-clause-blamed g c =
 
 pub returns-clause-leaves : goal.returns-clause-leaves
 returns-clause-leaves g c = (c.in-Ok.doc, c.in-Ok.ensures.all, inl (record { output = Keeps-refl _; errors = Keeps-refl _ }))
+
+pub returns-in-Content-clause-leaves : goal.returns-in-Content-clause-leaves
+returns-in-Content-clause-leaves g c = rw c.in-Content.is (c.in-Ok.doc, c.in-Ok.ensures.all, c.show_content.ensures.shows _ _ c.in-Ok.ensures.ended)

@@ -1,5 +1,6 @@
 use Rattle.std.proofs.Common.{◌∙◌, Some, ap, arith}
-use Rattle.mk_edit.specs.Histories.{after, step}
+use Rattle.mk_edit.specs.Histories.{step}
+use Rattle.mk_edit.proofs.HistoryNames.{after}
 use Rattle.std.specs.Result.{result_err}
 use Rattle.mk_edit.specs.Views.{order_of}
 use Rattle.mk_edit.proofs.Obeying.{told_next, rest_next, front_next}

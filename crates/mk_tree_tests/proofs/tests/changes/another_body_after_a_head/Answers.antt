@@ -1,7 +1,9 @@
 use Rattle.std.proofs.Common.{codes}
 use Rattle.mk_tree.specs.Documents.{tree}
 use Rattle.mk_tree.proofs.ChangeRows.{another_body}
+use Rattle.mk_tree_tests.specs.inner.Changes.{Changes}
 use Rattle.mk_tree_tests.proofs.tests.changes.another_body_after_a_head.Goals as goal
 
 pub check_change-requires : goal.check_change-requires
+unfolding Changes
 check_change-requires g c = (tree (codes "Subject: s\n\nother\nlines\n"), another_body c.in_ok-text.text.items c.in_ok-text.ensures.items)
