@@ -2,24 +2,24 @@
 
 use crate::editing::{edit, redo, undo};
 use crate::faults::{Problem, usage};
-use crate::letters::letter_words;
-use crate::mailboxes::{Picked, from_lines, messages, pick_message};
+use crate::mailboxes::{Picked, messages, pick_message};
 use crate::packing::pack;
 use clap::ArgMatches;
-use mk_mail::{FromLines, NameForm, Sink, Source};
+use mk_asked::{
+    field_form, from_lines, letter_words, name_form, paths, portion, report, value_form,
+};
+use mk_mail::{FromLines, Sink, Source};
 use mk_messages::InMemory;
 use mk_run::{
-    Cause, FieldFilter, FieldForm, Manner, Portion, Report, Status, Stop, UnpackOptions, ValueForm,
-    letters_of_rounds, read_doc, rounds, rounds_of_words, try_extract, try_field, try_sections,
-    try_unpack, write_all,
+    Cause, FieldFilter, Manner, Status, Stop, UnpackOptions, letters_of_rounds, read_doc, rounds,
+    rounds_of_words, try_extract, try_field, try_sections, try_unpack, write_all,
 };
 use mk_script::numbers;
 use mk_system::Directory;
 use mk_words::options::{
-    DECODE, DIR, EACH, EDIT, ENCODE, EOL, EXTRACT, FIELD, HEAD, JSON, MESSAGES, OVER, PACK, PATH,
-    PATHS, PREFIX, RAW, REDO, REFUSED_OK, SECTIONS, SILENT, TEXTS, UNDO, UNFOLD, UNPACK, UTF8,
+    DIR, EACH, EDIT, EXTRACT, FIELD, JSON, MESSAGES, OVER, PACK, PATH, REDO, REFUSED_OK, SECTIONS,
+    TEXTS, UNDO, UNPACK,
 };
-use std::alloc::{AllocError, Global};
 use std::fs::File;
 use std::rt::{Clock, Files};
 
@@ -122,21 +122,6 @@ fn extract<R: AllocGlobal, S: Source, O: Sink, E: Sink>(
     }
 }
 
-// What `extract` gives of the section.
-fn portion(matches: &ArgMatches<'_>) -> Portion {
-    if matches.get_flag(RAW) {
-        Portion::Raw
-    } else if matches.get_flag(HEAD) {
-        Portion::Head
-    } else if matches.get_flag(PREFIX) {
-        Portion::Prefix
-    } else if matches.get_flag(UTF8) {
-        Portion::Utf8
-    } else {
-        Portion::Content
-    }
-}
-
 // mimetool unpack
 fn unpack<R: Files<File = File> + AllocGlobal, S: Source, O: Sink, E: Sink>(
     rt: &R,
@@ -176,38 +161,6 @@ fn unpack<R: Files<File = File> + AllocGlobal, S: Source, O: Sink, E: Sink>(
     }
 }
 
-// What `unpack` says of the files that it writes.
-fn report(matches: &ArgMatches<'_>) -> Report {
-    if matches.get_flag(SILENT) {
-        Report::Nothing
-    } else if matches.get_flag(PATHS) {
-        Report::Paths
-    } else {
-        Report::Names
-    }
-}
-
-// The paths that words write, if each writes one.
-fn paths(alloc: Global, words: &[&str]) -> Result<Option<Vec<Vec<u32>>>, AllocError> {
-    let mut paths = Vec::new(alloc);
-    for word in words {
-        match numbers(alloc, word.as_bytes())? {
-            Some(path) => paths.push(path)?,
-            None => return Ok(None),
-        }
-    }
-    Ok(Some(paths))
-}
-
-/// The form in which files are named.
-pub fn name_form(matches: &ArgMatches<'_>) -> NameForm {
-    if matches.get_flag(UTF8) {
-        NameForm::Utf8
-    } else {
-        NameForm::Plain
-    }
-}
-
 // mimetool field
 fn field<R: AllocGlobal, S: Source, O: Sink, E: Sink>(
     rt: &R,
@@ -239,24 +192,5 @@ fn field<R: AllocGlobal, S: Source, O: Sink, E: Sink>(
     match try_field(alloc, input, out, err, &filter, each)? {
         Status::Refused if matches.get_flag(REFUSED_OK) => Ok(Status::Well),
         status => Ok(status),
-    }
-}
-
-// How fields go into a message.
-fn field_form(matches: &ArgMatches<'_>) -> FieldForm {
-    FieldForm {
-        encoded: matches.get_flag(ENCODE),
-        turned: matches.get_flag(EOL),
-    }
-}
-
-// How `-x` prints values.
-fn value_form(matches: &ArgMatches<'_>) -> ValueForm {
-    if matches.get_flag(DECODE) {
-        ValueForm::Decoded
-    } else if matches.get_flag(UNFOLD) {
-        ValueForm::Unfolded
-    } else {
-        ValueForm::AsWritten
     }
 }

@@ -1,14 +1,12 @@
 //! Mailboxes: their messages listed, or one of them in place of the input.
 
-ghost use Rattle.std.specs.Prelude.{◌<◌, IfOk, IfSome};
-
 use crate::faults::Problem;
 use clap::ArgMatches;
+use mk_asked::{from_lines, message_number};
 use mk_mail::{FromLines, Sink, Source};
 use mk_messages::{pick, report_missing, try_messages, unmarked, without_separator};
 use mk_run::{Cause, Status, Stop};
-use mk_script::numbers;
-use mk_words::options::{MBOX, NUMBER, RFC4155, UNQUOTE};
+use mk_words::options::{NUMBER, UNQUOTE};
 use std::alloc::{AllocError, Global};
 
 /// The message that a command works on.
@@ -73,32 +71,6 @@ fn alone(alloc: Global, matches: &ArgMatches<'_>, message: Vec<u8>) -> Result<Ve
         unmarked(alloc, &message)
     } else {
         Ok(message)
-    }
-}
-
-/// The number in a word: decimal, from 1 to 4,294,967,295, without zeros before it.
-pub fn message_number(alloc: Global, word: &str) -> Result<Option<u32>, AllocError>
-    ensures { IfOk result (λ number. IfSome number (λ n. 0 < n)) }
-{
-    match numbers(alloc, word.as_bytes())? {
-        Some(path) => match path.as_slice() {
-            [number] if *number > 0 => Ok(Some(*number)),
-            _ => Ok(None),
-        },
-        None => Ok(None),
-    }
-}
-
-/// Which From-lines begin a message. `None` where the word of `--mbox` names none.
-pub fn from_lines(matches: &ArgMatches<'_>) -> Option<FromLines> {
-    if matches.get_flag(RFC4155) {
-        return Some(FromLines::Dated);
-    }
-    match matches.get_str(MBOX) {
-        None | Some("any") => Some(FromLines::Any),
-        Some("date") => Some(FromLines::Dated),
-        Some("field") => Some(FromLines::Fielded),
-        Some(_) => None,
     }
 }
 

@@ -24,12 +24,10 @@ mod endings;
 mod explaining;
 mod faults;
 mod files;
-mod letters;
 mod mailboxes;
 mod packing;
 mod program;
 mod tips;
-mod words;
 
 pub use mk_run::{
     Folder, Journal, Status, laws, run_edit, run_extract, run_field, run_pack, run_sections, unpack,

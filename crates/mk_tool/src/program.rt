@@ -5,9 +5,9 @@ use crate::endings::Ending;
 use crate::explaining::Explained;
 use crate::faults::{Problem, report, say_usage, usage};
 use crate::files::open;
-use crate::words::check_words;
 use clap::ArgMatches;
 use clap::error::ErrorKind;
+use mk_asked::why_invalid;
 use mk_mail::{Sink, Source};
 use mk_run::{Cause, Status, give_up, write_all};
 use mk_system::{EditedFile, Input, MaybePipe, size_in};
@@ -155,7 +155,9 @@ fn start<R: Files<File = File> + Clock + AllocGlobal, S: Source, O: Sink, E: Sin
     out: &mut O,
     err: &mut E,
 ) -> Result<Status, Problem> {
-    check_words(rt.alloc(), name, matches)?;
+    if let Some(sentence) = why_invalid(rt.alloc(), name, matches)? {
+        return Err(Problem::Usage(sentence));
+    }
     if let Some(path) = matches.get_str(IN_PLACE) {
         return run_in_place(rt, name, matches, path, err);
     }

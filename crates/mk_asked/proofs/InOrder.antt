@@ -6,7 +6,8 @@ use Rattle.std.proofs.lemmas.List.{get_or-map, length-map}
 use Rattle.std.proofs.lemmas.List.Sorted.{IsPermutation-map}
 use Rattle.mk_field.specs.RoundsAsked.{word_of}
 use Rattle.mk_field.specs.declared.words.LetterWord.{LetterWord}
-use Rattle.mk_tool.specs.Found.{AreInOrder, PlacedWord, placed_word}
+use Rattle.mk_asked.specs.Found.{AreInOrder, PlacedWord}
+use Rattle.mk_asked.specs.inner.Placed.{placed_word}
 
 same_words : (xs : List (ℕ × LetterWord)) → map word_of (map (λ p. p.1) xs) ≡ map (λ q. q.word) (map placed_word xs)
 same_words [] = refl

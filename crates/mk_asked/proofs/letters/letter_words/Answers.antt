@@ -1,9 +1,9 @@
 use Rattle.std.proofs.Common.{◌≡◌, IfOk, map, subst, rules}
 use Rattle.std.proofs.lemmas.List.Sorted.{IsNonDecreasingBy-from_sort_by_key}
 use Rattle.clap.specs.Matches.{found_of}
-use Rattle.mk_tool.specs.Found.{letters_found}
-use Rattle.mk_tool.proofs.InOrder.{in_order}
-use Rattle.mk_tool.proofs.letters.letter_words.Goals as goal
+use Rattle.mk_asked.specs.Found.{letters_found}
+use Rattle.mk_asked.proofs.InOrder.{in_order}
+use Rattle.mk_asked.proofs.letters.letter_words.Goals as goal
 
 pub returns : goal.returns
 returns c =

@@ -4,19 +4,14 @@ use Rattle.std.specs.List.Sorted.{IsNonDecreasingBy}
 use Rattle.std.specs.Option.{option_map}
 use Rattle.clap.specs.declared.parser.matches.Found.{Found}
 use Rattle.clap.specs.Matches.{matched_of, raw_values}
-use Rattle.mk_field.specs.RoundsAsked.{PlainWord, word_of}
+use Rattle.mk_field.specs.RoundsAsked.{PlainWord}
 use Rattle.mk_field.specs.declared.words.Letter.{Letter}
 use Rattle.mk_field.specs.declared.words.Letter.TheVariants.{Prepend, Drops, Rename, AddIf, Add, Prefixed, Only, First, Last, Take, Whole}
-use Rattle.mk_field.specs.declared.words.LetterWord.{LetterWord}
 
 -- a letter with its word, and its place on the command line
 pub record PlacedWord : Type 0 where
   pub place : ℕ
   pub word : PlainWord
-
--- what is in memory
-abbrev pub placed_word : ℕ × LetterWord → PlacedWord
-placed_word p = record { place = p.0; word = word_of p.1 }
 
 -- the words that an option takes
 abbrev pub words_found : Found → List ℕ → List (List ℕ)

@@ -3,10 +3,11 @@
 ghost use Rattle.std.specs.Prelude.{◌≡◌, ◌++◌, map, IfOk, OnOk};
 ghost use Rattle.clap.specs.Matches.{found_of};
 ghost use Rattle.mk_field.specs.RoundsAsked.{word_of};
-ghost use Rattle.mk_tool.specs.Found.{AreInOrder, letter_found, letters_found, placed_word, words_placed};
+ghost use Rattle.mk_asked.specs.Found.{AreInOrder, letter_found, letters_found, words_placed};
+ghost use Rattle.mk_asked.specs.inner.Placed.{placed_word};
 
 use clap::ArgMatches;
-use mk_run::{Letter, LetterWord, LetterWords, takes_words};
+use mk_field::{Letter, LetterWord, LetterWords, takes_words};
 use mk_words::options::{
     ADD, ADD_IF, DECODE, DROP, ENCODE, EOL, FIRST, LAST, ONLY, PREFIXED, PREPEND, RENAME, TAKE,
     UNFOLD, WHOLE,
@@ -36,7 +37,7 @@ fn without_places<'a>(
 }
 
 /// The words of all letters with their places on the command line, letter by letter.
-pub fn placed_words<'a>(
+pub(crate) fn placed_words<'a>(
     alloc: Global,
     matches: &'a ArgMatches<'_>,
 ) -> Result<Vec<(usize, LetterWord<'a>)>, AllocError>
@@ -128,7 +129,7 @@ const ENCODE_ALONE: &str = "--encode is for the fields of -a, -A, -i and -I";
 const EOL_ALONE: &str = "--eol is for the fields of -a, -A, -i and -I";
 
 /// Why letters are refused, if they are: the first whose word it doesn't take, or that they can't be used together.
-pub fn why_refused(
+pub(crate) fn why_refused(
     alloc: Global,
     words: &[(usize, LetterWord<'_>)],
 ) -> Result<Option<String>, AllocError> {
@@ -147,7 +148,7 @@ pub fn why_refused(
 }
 
 /// Why an option on values is refused, if one is: it has no letter to work on.
-pub fn why_no_values(
+pub(crate) fn why_no_values(
     alloc: Global,
     matches: &ArgMatches<'_>,
     words: &[(usize, LetterWord<'_>)],

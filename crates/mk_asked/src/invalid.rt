@@ -1,11 +1,10 @@
 //! Words of the command line that clap takes as they are, and why some of them are refused.
 
-use crate::faults::Problem;
 use crate::letters::{placed_words, why_no_values, why_refused};
 use crate::mailboxes::{from_lines, message_number};
 use clap::ArgMatches;
-use mk_run::Spec;
 use mk_script::numbers;
+use mk_show::Spec;
 use mk_words::options::{
     EACH, EDIT, EXTRACT, FIELD, JSON, LINE, MBOX, MESSAGES, NUMBER, PACK, PART, PATH, RFC4155,
     SCRIPT, SECTIONS, SPEC, UNPACK, UNQUOTE, UTF8,
@@ -28,33 +27,33 @@ const SECTION: &str = "-s <PATH>";
 
 const SECTION_OF_FIELDS: &str = "-p <PATH>";
 
-/// Refuses the words of a subcommand if one is invalid. No file has to be opened for that, so such a fault comes before
-/// those of files.
-pub fn check_words(alloc: Global, name: &str, matches: &ArgMatches<'_>) -> Result<(), Problem> {
+/// Why the words of a subcommand are refused, if they are. No file has to be opened for that, so such a fault comes before those
+/// of files.
+pub fn why_invalid(
+    alloc: Global,
+    name: &str,
+    matches: &ArgMatches<'_>,
+) -> Result<Option<String>, AllocError> {
     if let Some(sentence) = why_no_message(alloc, name, matches)? {
-        return Err(Problem::Usage(sentence));
+        return Ok(Some(sentence));
     }
     if let Some(sentence) = why_no_seconds(alloc, matches)? {
-        return Err(Problem::Usage(sentence));
+        return Ok(Some(sentence));
     }
-    let sentence = if name == EDIT {
-        why_no_script(alloc, matches)?
+    if name == EDIT {
+        why_no_script(alloc, matches)
     } else if name == SECTIONS {
-        why_no_names(alloc, matches)?
+        why_no_names(alloc, matches)
     } else if name == EXTRACT {
-        why_no_path(alloc, matches.get_str(PATH).unwrap_or(""), SECTION)?
+        why_no_path(alloc, matches.get_str(PATH).unwrap_or(""), SECTION)
     } else if name == UNPACK {
-        why_no_paths(alloc, matches)?
+        why_no_paths(alloc, matches)
     } else if name == PACK {
-        why_no_parts(alloc, matches)?
+        why_no_parts(alloc, matches)
     } else if name == FIELD {
-        why_no_field(alloc, matches)?
+        why_no_field(alloc, matches)
     } else {
-        None
-    };
-    match sentence {
-        Some(sentence) => Err(Problem::Usage(sentence)),
-        None => Ok(()),
+        Ok(None)
     }
 }
 

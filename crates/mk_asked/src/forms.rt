@@ -1,0 +1,75 @@
+//! What the options ask for, in the words of the runs.
+
+use clap::ArgMatches;
+use mk_field::{FieldForm, ValueForm};
+use mk_script::numbers;
+use mk_show::{Portion, Report};
+use mk_view::NameForm;
+use mk_words::options::{DECODE, ENCODE, EOL, HEAD, PATHS, PREFIX, RAW, SILENT, UNFOLD, UTF8};
+use std::alloc::{AllocError, Global};
+
+/// What `extract` gives of the section.
+pub fn portion(matches: &ArgMatches<'_>) -> Portion {
+    if matches.get_flag(RAW) {
+        Portion::Raw
+    } else if matches.get_flag(HEAD) {
+        Portion::Head
+    } else if matches.get_flag(PREFIX) {
+        Portion::Prefix
+    } else if matches.get_flag(UTF8) {
+        Portion::Utf8
+    } else {
+        Portion::Content
+    }
+}
+
+/// What `unpack` says of the files that it writes.
+pub fn report(matches: &ArgMatches<'_>) -> Report {
+    if matches.get_flag(SILENT) {
+        Report::Nothing
+    } else if matches.get_flag(PATHS) {
+        Report::Paths
+    } else {
+        Report::Names
+    }
+}
+
+/// The paths that words write, if each writes one.
+pub fn paths(alloc: Global, words: &[&str]) -> Result<Option<Vec<Vec<u32>>>, AllocError> {
+    let mut paths = Vec::new(alloc);
+    for word in words {
+        match numbers(alloc, word.as_bytes())? {
+            Some(path) => paths.push(path)?,
+            None => return Ok(None),
+        }
+    }
+    Ok(Some(paths))
+}
+
+/// The form in which files are named.
+pub fn name_form(matches: &ArgMatches<'_>) -> NameForm {
+    if matches.get_flag(UTF8) {
+        NameForm::Utf8
+    } else {
+        NameForm::Plain
+    }
+}
+
+/// How fields go into a message.
+pub fn field_form(matches: &ArgMatches<'_>) -> FieldForm {
+    FieldForm {
+        encoded: matches.get_flag(ENCODE),
+        turned: matches.get_flag(EOL),
+    }
+}
+
+/// How `-x` prints values.
+pub fn value_form(matches: &ArgMatches<'_>) -> ValueForm {
+    if matches.get_flag(DECODE) {
+        ValueForm::Decoded
+    } else if matches.get_flag(UNFOLD) {
+        ValueForm::Unfolded
+    } else {
+        ValueForm::AsWritten
+    }
+}
