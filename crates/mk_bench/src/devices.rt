@@ -4,7 +4,7 @@ ghost use Rattle.std.specs.Prelude.{◌≡◌, None, false};
 
 use crate::digest::Digest;
 use mk_mailbox::{Fault, Sink};
-use mk_run::Folder;
+use mk_run::{Content, Folder, Stop};
 
 /// A sink that takes all.
 #[derive(Debug, Drop)]
@@ -111,10 +111,12 @@ impl Folder for Shelf {
 
     ghost failures = { λ _. 0 };
 
-    fn put(&mut self, name: &[u8], text: &[u8], _over: bool) -> Result<bool, Fault> {
+    fn put(&mut self, name: &[u8], content: &mut Content<'_>, _over: bool) -> Result<bool, Stop> {
         self.digest.add(name);
-        self.digest.add_number(text.len() as u64);
-        self.digest.add(text);
+        self.digest.add_number(content.size() as u64);
+        'each: while content.advance()? {
+            self.digest.add(content.piece());
+        }
         Ok(true)
     }
 

@@ -1,3 +1,5 @@
 pub mod Failing
 pub mod Envelopes
 pub mod EndedTexts
+pub mod PieceSplits
+pub mod PieceTexts

@@ -3,3 +3,5 @@ pub mod BuildViews
 pub mod Multiparts
 pub mod Forwards
 pub mod ForwardViews
+pub mod Pieces
+pub mod inner

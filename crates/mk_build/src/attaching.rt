@@ -1,8 +1,9 @@
 //! Parts of messages, from what is attached (RFC 2045, 5 and 6; RFC 2183).
 ghost use Rattle.std.specs.Prelude.{◌≡◌, ◌≢◌, ◌++◌, if◌then◌else◌, None, [], codes, IfOk, IfErr, OnOk};
 ghost use Rattle.mk_build.specs.BuildViews.{attached_of, written_in, written_of, IsAttachRefused};
-ghost use Rattle.mk_build.specs.Building.{attach_refusal, disposition_line, encoded, encoding_line};
+ghost use Rattle.mk_build.specs.Building.{attach_refusal as refusal_of, disposition_line, encoded, encoding_line};
 ghost use Rattle.mk_build.specs.Multiparts.{attached as attached_text, attached_as, charset_param, type_line_as};
+ghost use Rattle.mk_build.specs.inner.PieceViews.{part_fields};
 ghost use Rattle.mk_param.specs.Percents.{percent_encoded};
 ghost use Rattle.std.specs.Option.{option_map, option_map_or};
 
@@ -65,7 +66,7 @@ impl<'a> Default for AttachOptions<'a> {
 /// no ending where the bytes have none.
 pub fn attach(alloc: Global, attached: &Attach, eol: Ending) -> Result<Vec<u8>, AttachError>
     requires { eol ≢ Ending.Missing }
-    ensures text { IfOk result (λ text. (attach_refusal (attached_of attached.now) ≡ None) × (text.items ≡ attached_text eol (attached_of attached.now))) }
+    ensures text { IfOk result (λ text. (refusal_of (attached_of attached.now) ≡ None) × (text.items ≡ attached_text eol (attached_of attached.now))) }
     ensures refused { IfErr result (λ error. IsAttachRefused (attached_of attached.now) error) }
 {
     attach_with(alloc, attached, AttachOptions::default(), eol)
@@ -79,7 +80,7 @@ pub fn attach_with(
     eol: Ending,
 ) -> Result<Vec<u8>, AttachError>
     requires { eol ≢ Ending.Missing }
-    ensures text { IfOk result (λ text. (attach_refusal (written_in options.entry.utf8_names attached.now) ≡ None) × (text.items ≡ attached_as eol (option_map (λ c. c.now) options.entry.charset) (written_in options.entry.utf8_names attached.now))) }
+    ensures text { IfOk result (λ text. (refusal_of (written_in options.entry.utf8_names attached.now) ≡ None) × (text.items ≡ attached_as eol (option_map (λ c. c.now) options.entry.charset) (written_in options.entry.utf8_names attached.now))) }
     ensures refused { IfErr result (λ error. IsAttachRefused (written_in options.entry.utf8_names attached.now) error) }
 {
     let written = as_named(alloc, attached, options.utf8_names)?;
@@ -94,18 +95,28 @@ fn attach_of(
     eol: Ending,
 ) -> Result<Vec<u8>, AttachError>
     requires { eol ≢ Ending.Missing }
-    ensures text { IfOk result (λ text. (attach_refusal (written_of written.now) ≡ None) × (text.items ≡ attached_as eol (option_map (λ c. c.now) charset.entry) (written_of written.now))) }
+    ensures text { IfOk result (λ text. (refusal_of (written_of written.now) ≡ None) × (text.items ≡ attached_as eol (option_map (λ c. c.now) charset.entry) (written_of written.now))) }
     ensures refused { IfErr result (λ error. IsAttachRefused (written_of written.now) error) }
 {
-    if !is_media(written.media) {
-        return Err(AttachError::BadType);
-    }
-    if !has_name(written) {
-        return Err(AttachError::BadName);
+    if let Some(reason) = attach_refusal(written) {
+        return Err(reason);
     }
     let mut text = Vec::new(alloc);
     push_attached(&mut text, written, charset, eol)?;
     Ok(text)
+}
+
+/// Why something can't be attached, if it can't.
+pub(crate) fn attach_refusal(written: &Written<'_>) -> Option<AttachError>
+    ensures { result ≡ refusal_of (written_of written.now) }
+{
+    if !is_media(written.media) {
+        Some(AttachError::BadType)
+    } else if !has_name(written) {
+        Some(AttachError::BadName)
+    } else {
+        None
+    }
 }
 
 /// Writes what is attached as a part, a text with the charset.
@@ -118,11 +129,23 @@ pub(crate) fn push_attached(
     requires { eol ≢ Ending.Missing }
     ensures { OnOk result (text.new.items ≡ text.old.items ++ attached_as eol (option_map (λ c. c.now) charset.entry) (written_of written.now)) }
 {
+    push_part_fields(text, written, charset, eol)?;
+    push_bytes(text, written, eol)
+}
+
+/// Writes the fields that say what is attached, and the empty line after them.
+pub(crate) fn push_part_fields(
+    text: &mut Vec<u8>,
+    written: &Written<'_>,
+    charset: Option<&[u8]>,
+    eol: Ending,
+) -> Result<(), AllocError>
+    ensures { OnOk result (text.new.items ≡ text.old.items ++ part_fields eol (option_map (λ c. c.now) charset.entry) (written_of written.now)) }
+{
     push_type(text, written, charset, eol)?;
     push_disposition(text, written, eol)?;
     push_encoding(text, written.base64, eol)?;
-    text.extend_from_slice(eol.bytes())?;
-    push_bytes(text, written, eol)
+    text.extend_from_slice(eol.bytes())
 }
 
 fn push_type(

@@ -101,8 +101,8 @@ pub fn build_with(
     build_of(alloc, fields, &parts, messages, multipart, eol)
 }
 
-// What is written of all parts, under names in UTF-8 where that is asked for.
-fn all_written(
+/// What is written of all parts, under names in UTF-8 where that is asked for.
+pub(crate) fn all_written(
     alloc: Global,
     parts: &[Attach],
     utf8_names: bool,
@@ -129,20 +129,8 @@ fn build_of(
     ensures text { IfOk result (λ text. (refusal_with (map (λ f. f.items) fields.now) (map written_of parts.now) (map forwarded_of messages.now) (multipart_of multipart.now) ≡ None) × (text.items ≡ built_with eol (map (λ f. f.items) fields.now) (map written_of parts.now) (map forwarded_of messages.now) (multipart_of multipart.now))) }
     ensures refused { IfErr result (λ error. IsRefusedWith (map (λ f. f.items) fields.now) (map written_of parts.now) (map forwarded_of messages.now) (multipart_of multipart.now) error) }
 {
-    if let Some(index) = bad_field(fields) {
-        return Err(BuildError::BadField { index });
-    }
-    if let Some(index) = bad_type(parts) {
-        return Err(BuildError::BadType { index });
-    }
-    if let Some(index) = bad_name(parts) {
-        return Err(BuildError::BadName { index });
-    }
-    if let Some(reason) = refusal(multipart) {
+    if let Some(reason) = first_refusal(fields, parts, messages, multipart) {
         return Err(reason);
-    }
-    if let Some(index) = first_holding(messages, multipart.boundary) {
-        return Err(BuildError::HoldsBoundary { index });
     }
     let mut text = Vec::new(alloc);
     push_fields(&mut text, fields, eol)?;
@@ -151,6 +139,33 @@ fn build_of(
     push_forwards(&mut text, messages, multipart.boundary, eol)?;
     push_close(&mut text, multipart.boundary, eol)?;
     Ok(text)
+}
+
+/// Why a message can't be built, if it can't: the first reason.
+pub(crate) fn first_refusal(
+    fields: &[Vec<u8>],
+    parts: &[Written<'_>],
+    messages: &[Forward],
+    multipart: &Multipart<'_>,
+) -> Option<BuildError>
+    ensures { result ≡ refusal_with (map (λ f. f.items) fields.now) (map written_of parts.now) (map forwarded_of messages.now) (multipart_of multipart.now) }
+{
+    if let Some(index) = bad_field(fields) {
+        return Some(BuildError::BadField { index });
+    }
+    if let Some(index) = bad_type(parts) {
+        return Some(BuildError::BadType { index });
+    }
+    if let Some(index) = bad_name(parts) {
+        return Some(BuildError::BadName { index });
+    }
+    if let Some(reason) = refusal(multipart) {
+        return Some(reason);
+    }
+    match first_holding(messages, multipart.boundary) {
+        Some(index) => Some(BuildError::HoldsBoundary { index }),
+        None => None,
+    }
 }
 
 // Why a multipart can't be made, if it can't.
@@ -239,7 +254,11 @@ fn describes_content(name: &[u8]) -> bool
     }
 }
 
-fn push_fields(text: &mut Vec<u8>, fields: &[Vec<u8>], eol: Ending) -> Result<(), AllocError>
+pub(crate) fn push_fields(
+    text: &mut Vec<u8>,
+    fields: &[Vec<u8>],
+    eol: Ending,
+) -> Result<(), AllocError>
     ensures { OnOk result (text.new.items ≡ text.old.items ++ flat_map (closed_field eol) (map (λ f. f.items) fields.now)) }
 {
     for field in fields {
@@ -259,7 +278,7 @@ fn push_field(text: &mut Vec<u8>, field: &[u8], eol: Ending) -> Result<(), Alloc
     }
 }
 
-fn push_head(
+pub(crate) fn push_head(
     text: &mut Vec<u8>,
     multipart: &Multipart<'_>,
     wide: bool,
@@ -311,7 +330,7 @@ fn push_part(
     text.extend_from_slice(eol.bytes())
 }
 
-fn push_close(text: &mut Vec<u8>, boundary: &[u8], eol: Ending) -> Result<(), AllocError>
+pub(crate) fn push_close(text: &mut Vec<u8>, boundary: &[u8], eol: Ending) -> Result<(), AllocError>
     ensures { OnOk result (text.new.items ≡ text.old.items ++ printed_line (close_line eol boundary.now)) }
 {
     text.extend_from_slice(HYPHENS)?;

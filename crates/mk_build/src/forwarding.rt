@@ -5,6 +5,7 @@ ghost use Rattle.mk_line.specs.Lines.{ends_in_return as ends_in_cr};
 ghost use Rattle.mk_line.specs.Marks.{dashed};
 ghost use Rattle.mk_build.specs.Forwards.{attachment_line, eight_bit_line, ending_after as ending_following, forwarded_part, is_8bit as has_8bit, is_clear as is_clear_text, without_envelope as message_of};
 ghost use Rattle.mk_build.specs.ForwardViews.{forwarded_of};
+ghost use Rattle.mk_build.specs.inner.PieceViews.{forward_fields};
 
 use mk_line::{Ending, cut, first_line, is_from_line, push_delimiter};
 use std::alloc::AllocError;
@@ -136,14 +137,26 @@ fn push_forward(
     ensures { OnOk result (text.new.items ≡ text.old.items ++ forwarded_part eol boundary.now (forwarded_of forward.now)) }
 {
     let message = forward.message();
+    push_forward_fields(text, forward, boundary, eol)?;
+    text.extend_from_slice(message)?;
+    text.extend_from_slice(ending_after(message, eol).bytes())
+}
+
+/// Writes the delimiter before a message, the fields of its part, and the empty line after them.
+pub(crate) fn push_forward_fields(
+    text: &mut Vec<u8>,
+    forward: &Forward,
+    boundary: &[u8],
+    eol: Ending,
+) -> Result<(), AllocError>
+    ensures { OnOk result (text.new.items ≡ text.old.items ++ forward_fields eol boundary.now (forwarded_of forward.now)) }
+{
     push_delimiter(text, boundary, eol)?;
     text.extend_from_slice(b"Content-Type: message/rfc822")?;
     text.extend_from_slice(eol.bytes())?;
     push_attachment(text, forward.inline, eol)?;
-    push_8bit(text, is_8bit(message), eol)?;
-    text.extend_from_slice(eol.bytes())?;
-    text.extend_from_slice(message)?;
-    text.extend_from_slice(ending_after(message, eol).bytes())
+    push_8bit(text, is_8bit(forward.message()), eol)?;
+    text.extend_from_slice(eol.bytes())
 }
 
 // Writes the disposition, unless the part is to be shown inline.
@@ -168,8 +181,8 @@ pub(crate) fn push_8bit(text: &mut Vec<u8>, wide: bool, eol: Ending) -> Result<(
     text.extend_from_slice(eol.bytes())
 }
 
-// The ending between a message and the next delimiter.
-fn ending_after(message: &[u8], eol: Ending) -> Ending
+/// The ending between a message and the next delimiter.
+pub(crate) fn ending_after(message: &[u8], eol: Ending) -> Ending
     ensures { result ≡ ending_following eol message.now }
 {
     if ends_in_return(message) {

@@ -16,7 +16,7 @@
 //! The example is run by `a_message_is_built` in `mk_mail_tests/src/tests/examples.rt`.
 //!
 //! Tests: `mk_mail_tests/src/tests/builds.rt`, `mk_run_tests/src/tests/packed_kinds.rt`,
-//! `mk_run_tests/src/tests/forwarded.rt`; `mk_mail_tests/src/tests/memory.rt` where memory is refused.
+//! `mk_run_tests/src/tests/packed_pieces.rt`, `mk_run_tests/src/tests/forwarded.rt`; `mk_mail_tests/src/tests/memory.rt` where memory is refused.
 #![tactic(auto)]
 
 mod attaching;
@@ -25,9 +25,11 @@ mod building;
 mod forwarding;
 pub mod laws;
 mod multipart;
+mod pieces;
 
 pub use attaching::{AttachError, AttachOptions, attach, attach_with};
 pub use attachment::Attach;
 pub use building::{BuildError, build, build_with};
 pub use forwarding::Forward;
 pub use multipart::{MIXED, Multipart, is_charset};
+pub use pieces::Pieces;

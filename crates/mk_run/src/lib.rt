@@ -37,7 +37,7 @@ pub use mk_field::{
     letters_of_rounds, rounds, rounds_of_words, run_field, takes_words, try_field, word_laws,
 };
 pub use mk_show::{
-    Folder, Manner, Portion, Report, Spec, UnpackOptions, read_doc, run_extract, run_pack,
+    Content, Folder, Manner, Portion, Report, Spec, UnpackOptions, read_doc, run_extract, run_pack,
     run_sections, try_extract, try_sections, try_unpack, unpack,
 };
 pub use mk_transfer::{Cause, Status, Stop, give_up, read_all, write_all};

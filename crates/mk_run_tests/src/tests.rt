@@ -21,6 +21,7 @@ mod own_boundaries;
 mod packed;
 mod packed_kinds;
 mod packed_names;
+mod packed_pieces;
 mod parts_alone;
 mod pieces;
 mod portions;

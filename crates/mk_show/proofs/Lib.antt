@@ -8,3 +8,5 @@ pub mod ChoosingLemmas
 pub mod TurnedParts
 pub mod MeasuredTexts
 pub mod SentPieces
+pub mod GonePieces
+pub mod HeldDigests

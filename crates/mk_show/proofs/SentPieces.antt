@@ -1,5 +1,5 @@
 -- A content that goes out piece by piece.
-use Rattle.std.proofs.Common.{◌≡◌, ◌≢◌, ◌++◌, ◌≤◌, ◌∙◌, Result, Ok, Err, Some, IfOk, IfErr, OnOk, OnErr, inl, inr, ℕ, List, [], Option, refl, ap, sym, append_assoc, arith, subst}
+use Rattle.std.proofs.Common.{true, false, ◌≡◌, ◌≢◌, ◌++◌, ◌∙◌, Result, Ok, Err, Some, IfOk, IfErr, OnOk, OnErr, inl, inr, ℕ, List, [], Option, refl, ap, sym, append_assoc, arith, subst}
 use Rattle.std.proofs.lemmas.List.{append-nil}
 use Rattle.std.proofs.KnownBytes.{Appends-nil, Appends-trans}
 use Rattle.std.specs.Io.KnownBytes.{Appends, IsAtEnd}
@@ -22,91 +22,111 @@ use Rattle.mk_transfer.specs.Said.{shown}
 use Rattle.mk_tree.specs.Documents.{tree}
 use Rattle.mk_tree.specs.Sections.{Placed, section_at}
 use Rattle.mk_view.specs.Extracts.{IsExtract}
+use Rattle.mk_show.specs.GivenPieces.{Given, GivesPiece, IsLeft}
 use Rattle.mk_show.specs.Shown.{IsTaken, ShowsSoFar}
 use Rattle.mk_transfer.proofs.Fronts.{AppendsFront-following, AppendsFront-none}
 
--- what was sent of the contents of a text, and what is left
-abbrev pub IsHalfSent : Encoding → List ℕ → List ℕ → Option (List ℕ) → Option (List ℕ) → Type 0
-IsHalfSent encoding text rest old new = (content : List ℕ) → IsContent encoding text content
-    → (sent : List ℕ) × (more : List ℕ) × (content ≡ sent ++ more) × IsContent encoding rest more × Appends old new sent
-
--- one piece more
-pub piece_sent : (encoding : Encoding) (text rest left piece bytes : List ℕ) (old mid new : Option (List ℕ)) → IsHalfSent encoding text rest old mid
-    → ((content : List ℕ) → IsContent encoding rest content → (more : List ℕ) × (content ≡ piece ++ more) × IsContent encoding left more)
-    → bytes ≡ piece → Appends mid new bytes → IsHalfSent encoding text left old new
-piece_sent encoding text rest left piece bytes old mid new h given b a content is =
-    let before = h content is in
-    let p = given before.1 before.3 in (
-      before.0 ++ bytes,
-      p.0,
-      before.2 ∙ (ap (λ xs. before.0 ++ xs) (p.1 ∙ ap (λ xs. xs ++ p.0) (sym b)) ∙ sym (append_assoc before.0 bytes p.0)),
-      p.2,
-      Appends-trans old mid new before.0 bytes before.4 a,
-    )
-
 -- an empty text has an empty content
-nothing : (encoding : Encoding) (more : List ℕ) → IsContent encoding [] more → more ≡ []
+pub nothing : (encoding : Encoding) (more : List ℕ) → IsContent encoding [] more → more ≡ []
 unfolding encode_symbols
 nothing Identity more h = h
 nothing Qp more h = h
 nothing Base64 more h = content_same Base64 [] more [] h (λ i. omega arith, refl)
 nothing Other more h = absurd h
 
-pub all_sent : (encoding : Encoding) (text rest : List ℕ) (old new : Option (List ℕ)) (before after : ℕ) → IsHalfSent encoding text rest old new → rest ≡ [] → after ≡ before
-    → (content : List ℕ) → IsContent encoding text content → IsSent content old new before after
-all_sent encoding text rest old new before after h n w content is =
-    let half = h content is in
-    let none : half.1 ≡ [] = nothing encoding half.1 (subst (λ xs. IsContent encoding xs half.1) n half.3) in
-    let whole : half.0 ≡ content = sym (half.2 ∙ (ap (λ xs. half.0 ++ xs) none ∙ append-nil half.0)) in
+-- what was sent of a content, and what is left
+abbrev pub IsHalfSent : Given → Given → Option (List ℕ) → Option (List ℕ) → Type 0
+IsHalfSent first given old new = (bytes : List ℕ) → IsLeft first bytes
+    → (sent : List ℕ) × (more : List ℕ) × (bytes ≡ sent ++ more) × IsLeft given more × Appends old new sent
+
+-- one piece more
+pub piece_sent : (first given after : Given) (piece : List ℕ) (old mid new : Option (List ℕ)) → IsHalfSent first given old mid
+    → ((bytes : List ℕ) → IsLeft given bytes → GivesPiece true bytes after) → piece ≡ after.piece → Appends mid new piece → IsHalfSent first after old new
+piece_sent first given after piece old mid new h next e a bytes is =
+    let before = h bytes is in
+    let p = next before.1 before.3 in (
+      before.0 ++ piece,
+      p.0,
+      before.2 ∙ (ap (λ xs. before.0 ++ xs) (p.1 ∙ ap (λ xs. xs ++ p.0) (sym e)) ∙ sym (append_assoc before.0 piece p.0)),
+      p.2,
+      Appends-trans old mid new before.0 piece before.4 a,
+    )
+
+-- all was sent
+pub all_sent : (first given after : Given) (old new : Option (List ℕ)) (before then : ℕ) → IsHalfSent first given old new
+    → ((bytes : List ℕ) → IsLeft given bytes → GivesPiece false bytes after) → then ≡ before
+    → (bytes : List ℕ) → IsLeft first bytes → IsSent bytes old new before then
+all_sent first given after old new before then h end w bytes is =
+    let half = h bytes is in
+    let none : half.1 ≡ [] = end half.1 half.3 in
+    let whole : half.0 ≡ bytes = sym (half.2 ∙ (ap (λ xs. half.0 ++ xs) none ∙ append-nil half.0)) in
     record { whole = subst (λ xs. Appends old new xs) whole half.4; well = w }
 
 -- the pieces end where memory is missing
-pub stopped_without_memory : (encoding : Encoding) (text rest : List ℕ) (old new : Option (List ℕ)) (before after : ℕ) → IsHalfSent encoding text rest old new → after ≡ before
-    → (content : List ℕ) → IsContent encoding text content → IsStopped Memory content old new before after
-stopped_without_memory encoding text rest old new before after h w content is =
-    let half = h content is in
+pub stopped_without_memory : (first given : Given) (old new : Option (List ℕ)) (before then : ℕ) → IsHalfSent first given old new → then ≡ before
+    → (bytes : List ℕ) → IsLeft first bytes → IsStopped Memory bytes old new before then
+stopped_without_memory first given old new before then h w bytes is =
+    let half = h bytes is in
     record { front = (half.0, half.1, half.2, half.4); fault = (λ e. absurd (not_fault e)); steady = λ e. w; counted = omega (arith, w) }
   where
     not_fault : Memory ≡ Fault → ⊥
     not_fault e = cc
 
 -- or where the device stops
-pub stopped_in_a_piece : (encoding : Encoding) (text rest left piece bytes : List ℕ) (old mid new : Option (List ℕ)) (before between after : ℕ) (stop : Stop) → IsHalfSent encoding text rest old mid
-    → ((content : List ℕ) → IsContent encoding rest content → (more : List ℕ) × (content ≡ piece ++ more) × IsContent encoding left more)
-    → bytes ≡ piece → between ≡ before → IsStopped stop bytes mid new between after
-    → (content : List ℕ) → IsContent encoding text content → IsStopped stop content old new before after
-stopped_in_a_piece encoding text rest left piece bytes old mid new before between after stop h given b w s content is =
-    let half = h content is in
-    let p = given half.1 half.3 in
-    let all : content ≡ half.0 ++ (bytes ++ p.0) = half.2 ∙ ap (λ xs. half.0 ++ xs) (p.1 ∙ ap (λ xs. xs ++ p.0) (sym b)) in
+pub stopped_in_a_piece : (first given after : Given) (piece : List ℕ) (old mid new : Option (List ℕ)) (before between then : ℕ) (stop : Stop) → IsHalfSent first given old mid
+    → ((bytes : List ℕ) → IsLeft given bytes → GivesPiece true bytes after) → piece ≡ after.piece → between ≡ before → IsStopped stop piece mid new between then
+    → (bytes : List ℕ) → IsLeft first bytes → IsStopped stop bytes old new before then
+stopped_in_a_piece first given after piece old mid new before between then stop h next e w s bytes is =
+    let half = h bytes is in
+    let p = next half.1 half.3 in
+    let all : bytes ≡ half.0 ++ (piece ++ p.0) = half.2 ∙ ap (λ xs. half.0 ++ xs) (p.1 ∙ ap (λ xs. xs ++ p.0) (sym e)) in
     record {
-      front = AppendsFront-following old mid new half.0 bytes p.0 content half.4 s.front all;
-      fault = λ e. (let r = s.fault e in rose_from before between after w r);
+      front = AppendsFront-following old mid new half.0 piece p.0 bytes half.4 s.front all;
+      fault = λ e. (let r = s.fault e in rose_from before between then w r);
       steady = λ e. s.steady e ∙ w;
       counted = (let r = s.counted in omega (arith, w, r));
     }
   where
-    rose_from : (before between after : ℕ) → between ≡ before → Rose between after → Rose before after
-    rose_from before between after w r = subst (λ n. Rose n after) w r
+    rose_from : (before between then : ℕ) → between ≡ before → Rose between then → Rose before then
+    rose_from before between then w r = subst (λ n. Rose n then) w r
 
--- a content that went out, or fronts of it, as a run
-pub ShowsSoFar-content : (path message : List ℕ) (place : Placed) (result : Result Status Cause) (input left out out_after err : Option (List ℕ))
-    → section_at path (tree message) ≡ Some place → (content : List ℕ) → IsExtract (Some place) content → IsAtEnd left
-    → IfOk result (λ status. status ≡ Well) → OnOk result ((bytes : List ℕ) → IsExtract (Some place) bytes → Appends out out_after bytes)
-    → OnErr result ((bytes : List ℕ) → IsExtract (Some place) bytes → AppendsFront out out_after bytes) → IfErr result (λ cause. cause ≢ Read)
+-- what was gathered of a content, and what is left
+abbrev pub IsHalfGathered : Given → Given → List ℕ → Type 0
+IsHalfGathered first given all = (bytes : List ℕ) → IsLeft first bytes → (more : List ℕ) × (bytes ≡ all ++ more) × IsLeft given more
+
+-- one piece more
+pub piece_gathered : (first given after : Given) (piece all : List ℕ) → IsHalfGathered first given all
+    → ((bytes : List ℕ) → IsLeft given bytes → GivesPiece true bytes after) → piece ≡ after.piece → IsHalfGathered first after (all ++ piece)
+piece_gathered first given after piece all h next e bytes is =
+    let before = h bytes is in
+    let p = next before.0 before.2 in
+    (p.0, before.1 ∙ (ap (λ xs. all ++ xs) (p.1 ∙ ap (λ xs. xs ++ p.0) (sym e)) ∙ sym (append_assoc all piece p.0)), p.2)
+
+-- all was gathered
+pub all_gathered : (first given after : Given) (all : List ℕ) → IsHalfGathered first given all
+    → ((bytes : List ℕ) → IsLeft given bytes → GivesPiece false bytes after) → (bytes : List ℕ) → IsLeft first bytes → all ≡ bytes
+all_gathered first given after all h end bytes is =
+    let half = h bytes is in
+    sym (half.1 ∙ (ap (λ xs. all ++ xs) (end half.0 half.2) ∙ append-nil all))
+
+-- a content that went out, or a front of it, as a run
+pub ShowsSoFar-content : (path message : List ℕ) (place : Placed) (bytes : List ℕ) (result : Result Status Cause) (input left out out_after err : Option (List ℕ))
+    → section_at path (tree message) ≡ Some place → IsExtract (Some place) bytes → IsAtEnd left
+    → IfOk result (λ status. status ≡ Well) → OnOk result (Appends out out_after bytes)
+    → OnErr result (AppendsFront out out_after bytes) → IfErr result (λ cause. cause ≢ Read)
     → ShowsSoFar (IsTaken path message) result (held input out err) (held left out_after err)
-ShowsSoFar-content path message place (Ok Well) input left out out_after err s content is e w a f n = (
-  shown content [],
-  inl (record { bytes = content; content = subst (λ p. IsExtract p content) (sym s) is; run_is = refl }),
-  record { status_is = refl; written = record { output = a content is; errors = Appends-nil err }; read = e },
+ShowsSoFar-content path message place bytes (Ok Well) input left out out_after err s is e w a f n = (
+  shown bytes [],
+  inl (record { bytes = bytes; content = subst (λ p. IsExtract p bytes) (sym s) is; run_is = refl }),
+  record { status_is = refl; written = record { output = a; errors = Appends-nil err }; read = e },
 )
-ShowsSoFar-content path message place (Ok Refused) input left out out_after err s content is e w a f n = absurd cc
-ShowsSoFar-content path message place (Ok Usage) input left out out_after err s content is e w a f n = absurd cc
-ShowsSoFar-content path message place (Ok status.Fault) input left out out_after err s content is e w a f n = absurd cc
-ShowsSoFar-content path message place (Ok status.Memory) input left out out_after err s content is e w a f n = absurd cc
-ShowsSoFar-content path message place (Err cause) input left out out_after err s content is e w a f n =
+ShowsSoFar-content path message place bytes (Ok Refused) input left out out_after err s is e w a f n = absurd cc
+ShowsSoFar-content path message place bytes (Ok Usage) input left out out_after err s is e w a f n = absurd cc
+ShowsSoFar-content path message place bytes (Ok status.Fault) input left out out_after err s is e w a f n = absurd cc
+ShowsSoFar-content path message place bytes (Ok status.Memory) input left out out_after err s is e w a f n = absurd cc
+ShowsSoFar-content path message place bytes (Err cause) input left out out_after err s is e w a f n =
     inr (
-      shown content [],
-      inl (record { bytes = content; content = subst (λ p. IsExtract p content) (sym s) is; run_is = refl }),
-      record { output = f content is; errors = AppendsFront-none err []; silent = λ read. absurd (n read) },
+      shown bytes [],
+      inl (record { bytes = bytes; content = subst (λ p. IsExtract p bytes) (sym s) is; run_is = refl }),
+      record { output = f; errors = AppendsFront-none err []; silent = λ read. absurd (n read) },
     )

@@ -1,7 +1,7 @@
 -- What stands in a folder, and what putting a file there does to it (own).
 use Rattle.std.specs.Prelude.{◌≡◌, ◌⊎◌, ◌++◌, if◌then◌else◌, ℕ, Bool, true, false, is_some, ⊤, List, Option, None, Some, Result, Ok, Err}
 use Rattle.std.specs.Str.{bytes_eq}
-use Rattle.mk_mailbox.specs.declared.device.Fault.{Fault}
+use Rattle.mk_transfer.specs.declared.transfer.Stop.{Stop}
 
 -- the text that stands under each name, where there is a file of that name
 abbrev pub Files : Type 0
@@ -36,9 +36,9 @@ pub record GetsFront (old new : Option Files) (name text : List ℕ) : Type 0 wh
   pub text_is : text ≡ front ++ rest
   pub gets : Gets old new name front
 
--- the text was put under the name; or a file has the name already, and none may be written over; or the folder failed, and each file
--- that there was stands whole
-abbrev pub Puts : Result Bool Fault → Bool → Option Files → Option Files → List ℕ → List ℕ → Type 0
+-- the text was put under the name; or a file has the name already, and none may be written over; or the folder failed, or
+-- memory ran out, and each file that there was stands whole
+abbrev pub Puts : Result Bool Stop → Bool → Option Files → Option Files → List ℕ → List ℕ → Type 0
 Puts (Ok true) over old new name text = MayPut over old name × Gets old new name text
 Puts (Ok false) over old new name text = (over ≡ false) × IsThere old name × (new ≡ old)
-Puts (Err fault) over old new name text = (new ≡ old) ⊎ GetsFront old new name text
+Puts (Err stop) over old new name text = (new ≡ old) ⊎ GetsFront old new name text

@@ -1,5 +1,6 @@
 pub mod Shown
 pub mod Portions
+pub mod GivenPieces
 pub mod Folders
 pub mod Unpacking
 pub mod Chosen

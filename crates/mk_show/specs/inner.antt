@@ -1,1 +1,3 @@
+pub mod LastPieces
 pub mod PackedFrom
+pub mod Judged

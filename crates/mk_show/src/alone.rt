@@ -5,13 +5,14 @@ ghost use Rattle.std.specs.Option.{option_map};
 ghost use Rattle.mk_line.specs.Meters.{ticked};
 ghost use Rattle.mk_build.specs.BuildViews.{written_in};
 ghost use Rattle.mk_transfer.specs.RunClauses.{held, counts, IsBlamed, SameFailures, ends_itself};
-ghost use Rattle.mk_show.specs.Shown.{ShowsSoFar, run_of_answer};
+ghost use Rattle.mk_show.specs.Shown.{ShowsSoFar};
+ghost use Rattle.mk_show.specs.inner.Judged.{run_of_judged};
 ghost use Rattle.mk_show.specs.Alone.{IsAlone, first_refusal as reason_of, no_input};
 
 use crate::answers::Answer;
-use crate::packing::refusal;
-use crate::showing::print;
-use mk_build::{Attach, AttachError, AttachOptions, BuildError, attach_with, is_charset};
+use crate::outgoing::give;
+use crate::packing::refused;
+use mk_build::{Attach, AttachError, AttachOptions, BuildError, Pieces, is_charset};
 use mk_line::Ending;
 use mk_mailbox::Sink;
 use mk_transfer::{Cause, Status};
@@ -40,29 +41,24 @@ pub fn try_part<O: Sink, E: Sink>(
     ensures unfinished { OnErr result (O.finishes out.new ≡ O.finishes out.old) }
 {
     match alone(alloc, options, part) {
-        Ok(answer) => print(out, err, &answer),
+        Ok(judged) => give(alloc, out, err, judged),
         Err(_) => Err(Cause::Memory),
     }
 }
 
 // The part, or the reason against it.
-fn alone(alloc: Global, options: AttachOptions<'_>, part: &Attach) -> Result<Answer, AllocError>
-    ensures { IfOk result (λ a. IsAlone (option_map (λ c. c.now) options.entry.charset) (written_in options.entry.utf8_names part.now) (run_of_answer a)) }
+fn alone<'a>(
+    alloc: Global,
+    options: AttachOptions<'_>,
+    part: &'a Attach,
+) -> Result<Result<Pieces<'a>, Answer>, AllocError>
+    ensures { IfOk result (λ judged. IsAlone (option_map (λ c. c.now) options.entry.charset) (written_in options.entry.utf8_names part.now) (run_of_judged judged)) }
 {
-    match attach_with(alloc, part, options, Ending::Lf) {
-        Ok(_) if !is_charset(options.charset) => Ok(Answer {
-            output: Vec::new(alloc),
-            errors: refusal(alloc, BuildError::BadCharset)?,
-        }),
-        Ok(output) => Ok(Answer {
-            output,
-            errors: Vec::new(alloc),
-        }),
+    match Pieces::of_part(alloc, part, options, Ending::Lf) {
+        Ok(_) if !is_charset(options.charset) => Ok(Err(refused(alloc, BuildError::BadCharset)?)),
+        Ok(pieces) => Ok(Ok(pieces)),
         Err(AttachError::Memory) => Err(AllocError),
-        Err(reason) => Ok(Answer {
-            output: Vec::new(alloc),
-            errors: refusal(alloc, first_refusal(reason))?,
-        }),
+        Err(reason) => Ok(Err(refused(alloc, first_refusal(reason))?)),
     }
 }
 

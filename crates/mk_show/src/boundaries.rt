@@ -1,16 +1,19 @@
 //! The boundary that is made of what is packed.
 
-ghost use Rattle.std.specs.Prelude.{◌≡◌, ◌++◌, unwrap_or, map, [], IfOk, OnOk};
-ghost use Rattle.std.specs.Option.{option_map};
+ghost use Rattle.std.specs.Prelude.{◌≡◌, ◌++◌, List, ℕ, unwrap_or, map, [], IfOk};
 ghost use Rattle.std.specs.List.{flat_map};
+ghost use Rattle.hex.specs.Hex.{encode_lower};
+ghost use Rattle.sha2.specs.Hashers.{Holds256};
 ghost use Rattle.mk_build.specs.BuildViews.{attached_of};
 ghost use Rattle.mk_build.specs.ForwardViews.{forwarded_of};
+ghost use Rattle.mk_splice.specs.Journals.{digest_of};
 ghost use Rattle.mk_show.specs.FreeBoundary.{all_packed_with, are_clear as are_all_clear, first_boundary as first_of_all, free_boundary as boundary_of, measured_message, number_mark};
 ghost use Rattle.mk_show.specs.OwnBoundary.{measured, measured_part};
 
+use hex::encode_to_slice;
 use itoa::Buffer;
 use mk_build::{Attach, Forward};
-use mk_splice::digest_of;
+use sha2::{Digest, Sha256};
 use std::alloc::{AllocError, Global};
 
 /// What the boundary begins with: no line of quoted-printable or base64 holds it.
@@ -19,7 +22,7 @@ const MARK: &[u8; 2] = b"=_";
 /// How many bytes the first has: the mark and 24 digits of the digest.
 const LENGTH: usize = 26;
 
-const COLON: u8 = b':';
+const COLON: &[u8; 1] = b":";
 
 const UNDERSCORE: u8 = b'_';
 
@@ -54,9 +57,8 @@ fn first_boundary(
 ) -> Result<Vec<u8>, AllocError>
     ensures { IfOk result (λ b. b.items ≡ first_of_all (map (λ f. f.items) fields.now) (map attached_of parts.now) (map forwarded_of messages.now)) }
 {
-    let digest = digest_of(&all(alloc, fields, parts, messages)?);
     let mut boundary = Vec::from_slice(alloc, MARK)?;
-    boundary.extend_from_slice(&digest)?;
+    boundary.extend_from_slice(&digest(fields, parts, messages))?;
     boundary.truncate(LENGTH);
     Ok(boundary)
 }
@@ -88,62 +90,63 @@ fn are_clear(boundary: &[u8], messages: &[Forward]) -> bool
     true
 }
 
-// All that is packed, each piece after its length.
-fn all(
-    alloc: Global,
-    fields: &[Vec<u8>],
-    parts: &[Attach],
-    messages: &[Forward],
-) -> Result<Vec<u8>, AllocError>
-    ensures { IfOk result (λ all. all.items ≡ all_packed_with (map (λ f. f.items) fields.now) (map attached_of parts.now) (map forwarded_of messages.now)) }
+// The digest of all that is packed, each piece after its length, in hexadecimal digits. It is taken piece by piece, without a
+// copy.
+fn digest(fields: &[Vec<u8>], parts: &[Attach], messages: &[Forward]) -> [u8; 64]
+    ensures { result ≡ digest_of (all_packed_with (map (λ f. f.items) fields.now) (map attached_of parts.now) (map forwarded_of messages.now)) }
 {
-    let mut all = Vec::new(alloc);
-    push_fields(&mut all, fields)?;
-    push_parts(&mut all, parts)?;
-    push_messages(&mut all, messages)?;
-    Ok(all)
+    let mut hasher = Sha256::new();
+    add_fields(&mut hasher, fields);
+    add_parts(&mut hasher, parts);
+    add_messages(&mut hasher, messages);
+    hexed(&hasher.finalize())
 }
 
-fn push_fields(all: &mut Vec<u8>, fields: &[Vec<u8>]) -> Result<(), AllocError>
-    ensures { OnOk result (all.new.items ≡ all.old.items ++ flat_map measured (map (λ f. f.items) fields.now)) }
+fn hexed(digest: &[u8; 32]) -> [u8; 64]
+    ensures { result ≡ encode_lower digest.now }
+{
+    let mut digits = [0; 64];
+    let _fits = encode_to_slice(digest, &mut digits);
+    digits
+}
+
+fn add_fields(hasher: &mut Sha256, fields: &[Vec<u8>])
+    ensures { (before : List ℕ) → Holds256 hasher.old before → Holds256 hasher.new (before ++ flat_map measured (map (λ f. f.items) fields.now)) }
 {
     for field in fields {
-        push_measured(all, field)?;
+        add_measured(hasher, field);
     }
-    Ok(())
 }
 
-fn push_parts(all: &mut Vec<u8>, parts: &[Attach]) -> Result<(), AllocError>
-    ensures { OnOk result (all.new.items ≡ all.old.items ++ flat_map measured_part (map attached_of parts.now)) }
+fn add_parts(hasher: &mut Sha256, parts: &[Attach])
+    ensures { (before : List ℕ) → Holds256 hasher.old before → Holds256 hasher.new (before ++ flat_map measured_part (map attached_of parts.now)) }
 {
     for part in parts {
-        push_part(all, part)?;
+        add_part(hasher, part);
     }
-    Ok(())
 }
 
-fn push_part(all: &mut Vec<u8>, part: &Attach) -> Result<(), AllocError>
-    ensures { OnOk result (all.new.items ≡ all.old.items ++ measured_part (attached_of part.now)) }
+fn add_part(hasher: &mut Sha256, part: &Attach)
+    ensures { (before : List ℕ) → Holds256 hasher.old before → Holds256 hasher.new (before ++ measured_part (attached_of part.now)) }
 {
-    push_measured(all, &part.media)?;
-    push_measured(all, name(part))?;
-    push_measured(all, &part.text)
+    add_measured(hasher, &part.media);
+    add_measured(hasher, name(part));
+    add_measured(hasher, &part.text);
 }
 
-fn push_messages(all: &mut Vec<u8>, messages: &[Forward]) -> Result<(), AllocError>
-    ensures { OnOk result (all.new.items ≡ all.old.items ++ flat_map measured_message (map forwarded_of messages.now)) }
+fn add_messages(hasher: &mut Sha256, messages: &[Forward])
+    ensures { (before : List ℕ) → Holds256 hasher.old before → Holds256 hasher.new (before ++ flat_map measured_message (map forwarded_of messages.now)) }
 {
     for forward in messages {
-        push_message(all, forward)?;
+        add_message(hasher, forward);
     }
-    Ok(())
 }
 
-fn push_message(all: &mut Vec<u8>, forward: &Forward) -> Result<(), AllocError>
-    ensures { OnOk result (all.new.items ≡ all.old.items ++ measured_message (forwarded_of forward.now)) }
+fn add_message(hasher: &mut Sha256, forward: &Forward)
+    ensures { (before : List ℕ) → Holds256 hasher.old before → Holds256 hasher.new (before ++ measured_message (forwarded_of forward.now)) }
 {
-    push_measured(all, RFC822)?;
-    push_measured(all, forward.message())
+    add_measured(hasher, RFC822);
+    add_measured(hasher, forward.message());
 }
 
 // The name of a part; empty if it has none.
@@ -156,12 +159,12 @@ fn name(part: &Attach) -> &[u8]
     }
 }
 
-// Writes a piece after its length.
-fn push_measured(all: &mut Vec<u8>, piece: &[u8]) -> Result<(), AllocError>
-    ensures { OnOk result (all.new.items ≡ all.old.items ++ measured piece.now) }
+// Adds a piece after its length.
+fn add_measured(hasher: &mut Sha256, piece: &[u8])
+    ensures { (before : List ℕ) → Holds256 hasher.old before → Holds256 hasher.new (before ++ measured piece.now) }
 {
     let mut digits = Buffer::new();
-    all.extend_from_slice(digits.format(piece.len()).as_bytes())?;
-    all.push(COLON)?;
-    all.extend_from_slice(piece)
+    hasher.update(digits.format(piece.len()).as_bytes());
+    hasher.update(COLON.as_slice());
+    hasher.update(piece);
 }

@@ -1,11 +1,13 @@
 //! Folders that files are put into.
 
-ghost use Rattle.std.specs.Prelude.{◌≡◌, ℕ, true, Option, OnOk, OnErr};
+ghost use Rattle.std.specs.Prelude.{◌≡◌, ℕ, true, false, List, Ok, Option, IfErr, OnOk};
 ghost use Rattle.mk_line.specs.Meters.{ticked};
 ghost use Rattle.mk_view.specs.GivenNames.{is_safe};
 ghost use Rattle.mk_show.specs.Folders.{Files as FilesOf, Puts};
+ghost use Rattle.mk_show.specs.GivenPieces.{IsLeft};
 
-use mk_mailbox::Fault;
+use crate::contents::Content;
+use mk_transfer::Stop;
 
 /// A device that keeps files by their names. It counts its failures; the count stays at the greatest `u64` once it is there.
 pub trait Folder {
@@ -14,12 +16,15 @@ pub trait Folder {
 
     ghost failures: { Self → ℕ };
 
-    /// Puts a text under a name, which leads to nothing outside the folder, and answers true. If a file has the name and
-    /// `over` is false, it writes nothing and answers false. If it fails, a file that has the name stays as it was.
-    fn put(&mut self, name: &[u8], text: &[u8], over: bool) -> Result<bool, Fault>
+    /// Puts a content under a name, which leads to nothing outside the folder, and answers true. If a file has the name and
+    /// `over` is false, it writes nothing, takes nothing of the content, and answers false. If it fails, or memory runs out, a
+    /// file that has the name stays as it was.
+    fn put(&mut self, name: &[u8], content: &mut Content<'_>, over: bool) -> Result<bool, Stop>
         requires { is_safe name.now ≡ true }
-        ensures files { Puts result over (files self.old) (files self.new) name.now text.now }
-        ensures failed { OnErr result (failures self.new ≡ ticked (failures self.old)) }
+        ensures files { (text : List ℕ) → IsLeft content.old text → Puts result over (files self.old) (files self.new) name.now text }
+        ensures untaken { result ≡ Ok false → content.new ≡ content.old }
+        ensures failed { IfErr result (λ stop. stop ≡ Stop.Fault → failures self.new ≡ ticked (failures self.old)) }
+        ensures memory { IfErr result (λ stop. stop ≡ Stop.Memory → failures self.new ≡ failures self.old) }
         ensures went_well { OnOk result (failures self.new ≡ failures self.old) };
 
     /// How many times it failed.

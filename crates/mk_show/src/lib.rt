@@ -13,7 +13,7 @@
 //!
 //! Tests: `mk_run_tests/src/tests/shown.rt`, `mk_run_tests/src/tests/portions.rt`, `mk_run_tests/src/tests/unpacked.rt`,
 //! `mk_run_tests/src/tests/chosen.rt`, `mk_run_tests/src/tests/packed.rt`, `mk_run_tests/src/tests/packed_kinds.rt`,
-//! `mk_run_tests/src/tests/packed_names.rt`, `mk_run_tests/src/tests/not_packed.rt`,
+//! `mk_run_tests/src/tests/packed_names.rt`, `mk_run_tests/src/tests/packed_pieces.rt`, `mk_run_tests/src/tests/not_packed.rt`,
 //! `mk_run_tests/src/tests/own_boundaries.rt`, `mk_run_tests/src/tests/parts_alone.rt`,
 //! `mk_run_tests/src/tests/forwarded.rt`; `mk_run_tests/src/tests/memory.rt` where memory is refused;
 //! `mk_run_tests/src/tests/failing.rt` where devices fail.
@@ -23,8 +23,10 @@ mod alone;
 mod answers;
 mod boundaries;
 mod choosing;
+mod contents;
 mod folder;
 pub mod laws;
+mod outgoing;
 mod packing;
 mod parts;
 mod portions;
@@ -34,8 +36,10 @@ mod showing;
 mod unpacking;
 
 pub use alone::try_part;
+pub use contents::Content;
 pub use folder::Folder;
 pub use mk_build::{AttachOptions, Forward, MIXED};
+pub use mk_transfer::Stop;
 pub use packing::{PackOptions, run_pack, try_pack, turned_parts};
 pub use parts::Spec;
 pub use portions::Portion;

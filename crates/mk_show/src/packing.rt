@@ -1,22 +1,24 @@
 //! A message packed from fields and files, over any devices.
 
-ghost use Rattle.std.specs.Prelude.{◌≡◌, ◌≢◌, ◌⊎◌, None, true, false, map, IfOk, IfErr, OnErr, OnOk};
+ghost use Rattle.std.specs.Prelude.{◌≡◌, ◌≢◌, ◌⊎◌, [], None, true, false, map, IfOk, IfErr, IfNone, IfSome, MatchOption, OnErr, OnOk};
 ghost use Rattle.mk_build.specs.BuildViews.{attached_of, written_in};
 ghost use Rattle.mk_build.specs.ForwardViews.{forwarded_of};
 ghost use Rattle.mk_build.specs.Forwards.{built_with, refusal_with};
 ghost use Rattle.mk_build.specs.Multiparts.{multipart_of};
 ghost use Rattle.mk_transfer.specs.RunClauses.{held, counts, reason, IsBlamed, SameFailures, ReadFailed, WriteFailed, ends_itself};
 ghost use Rattle.mk_show.specs.Shown.{LeavesShown, LeavesShownSoFar, run_of_answer};
-ghost use Rattle.mk_line.specs.Lines.{cut as lines_of};
+ghost use Rattle.mk_line.specs.Lines.{cut as lines_of, eol_of as eol_meant};
 ghost use Rattle.mk_line.specs.Meters.{ticked};
 ghost use Rattle.mk_show.specs.Packing.{IsPacked, IsPackedWith, manner_of, multipart_with, build_name, told, fields_given, fields_in_front as fields_of_front, has_body as has_a_body, index_of as index_named, pack_line, turned_part as turned_so};
+ghost use Rattle.mk_show.specs.inner.Judged.{run_of_judged};
 ghost use Rattle.mk_show.specs.inner.PackedFrom.{packed_from};
+ghost use Rattle.mk_transfer.specs.Said.{shown};
 
 use crate::answers::Answer;
 use crate::boundaries::free_boundary;
+use crate::outgoing::give;
 use crate::parts::is_text;
-use crate::showing::print;
-use mk_build::{Attach, BuildError, Forward, MIXED, Multipart, build_with};
+use mk_build::{Attach, BuildError, Forward, MIXED, Multipart, Pieces};
 use mk_head::{each_field, header};
 use mk_line::{Ending, eol_of};
 use mk_mailbox::{Sink, Source};
@@ -119,30 +121,55 @@ pub fn try_pack<S: Source, O: Sink, E: Sink>(
         Ok(text) => text,
         Err(stop) => return Err(reading(stop)),
     };
-    match message(alloc, &text, options, parts, messages) {
-        Ok(answer) => print(out, err, &answer),
+    let turned = match turned_if(alloc, options.turned, parts, eol_of(&text)) {
+        Ok(turned) => turned,
+        Err(_) => return Err(Cause::Memory),
+    };
+    match message(alloc, &text, options, chosen(&turned, parts), messages) {
+        Ok(judged) => give(alloc, out, err, judged),
         Err(_) => Err(Cause::Memory),
     }
 }
 
+// Copies of parts with these line endings in texts, where that is asked for.
+fn turned_if(
+    alloc: Global,
+    asked: bool,
+    parts: &[Attach],
+    eol: Ending,
+) -> Result<Option<Vec<Attach>>, AllocError>
+    ensures turned { IfOk result (λ turned. IfSome turned (λ list. (asked ≡ true) × (map attached_of list.items ≡ map (turned_so eol) (map attached_of parts.now)))) }
+    ensures plain { IfOk result (λ turned. IfNone turned (asked ≡ false)) }
+{
+    if asked {
+        Ok(Some(turned_parts(alloc, parts, eol)?))
+    } else {
+        Ok(None)
+    }
+}
+
+// The copies, or the parts where there are none.
+fn chosen<'a>(turned: &'a Option<Vec<Attach>>, parts: &'a [Attach]) -> &'a [Attach]
+    ensures { MatchOption turned.now (result.now ≡ parts.now) (λ list. result.now ≡ list.items) }
+{
+    match turned {
+        Some(list) => list,
+        None => parts,
+    }
+}
+
 // The message of the fields that a text gives, or the reason against it.
-fn message(
+fn message<'a>(
     alloc: Global,
     text: &[u8],
     options: PackOptions<'_>,
-    parts: &[Attach],
-    messages: &[Forward],
-) -> Result<Answer, AllocError>
-    ensures { IfOk result (λ a. IsPackedWith (manner_of options.entry) parts.now (map forwarded_of messages.now) text.now (run_of_answer a)) }
+    parts: &'a [Attach],
+    messages: &'a [Forward],
+) -> Result<Result<Pieces<'a>, Answer>, AllocError>
+    ensures { IfOk result (λ judged. run_of_judged judged ≡ packed_from (manner_of options.entry) (eol_meant (lines_of text.now)) (fields_given (lines_of text.now)) (map attached_of parts.now) (map (written_in options.entry.utf8_names) parts.now) (map forwarded_of messages.now)) }
 {
     let fields = fields(alloc, text)?;
-    let eol = eol_of(text);
-    if options.turned {
-        let parts = turned_parts(alloc, parts, eol)?;
-        message_of(alloc, &fields, options, &parts, messages, eol)
-    } else {
-        message_of(alloc, &fields, options, parts, messages, eol)
-    }
+    message_of(alloc, &fields, options, parts, messages, eol_of(text))
 }
 
 /// Copies parts, with these line endings in texts.
@@ -174,26 +201,26 @@ fn turned_part(alloc: Global, part: &Attach, eol: Ending) -> Result<Attach, Allo
 }
 
 // The message of these fields, parts and messages, packed as the options say, or the reason against it.
-fn message_of(
+fn message_of<'a>(
     alloc: Global,
     fields: &[Vec<u8>],
     options: PackOptions<'_>,
-    parts: &[Attach],
-    messages: &[Forward],
+    parts: &'a [Attach],
+    messages: &'a [Forward],
     eol: Ending,
-) -> Result<Answer, AllocError>
+) -> Result<Result<Pieces<'a>, Answer>, AllocError>
     requires { eol ≢ Ending.Missing }
-    ensures { IfOk result (λ a. run_of_answer a ≡ packed_from (manner_of options.entry) eol (map (λ f. f.items) fields.now) (map attached_of parts.now) (map (written_in options.entry.utf8_names) parts.now) (map forwarded_of messages.now)) }
+    ensures { IfOk result (λ judged. run_of_judged judged ≡ packed_from (manner_of options.entry) eol (map (λ f. f.items) fields.now) (map attached_of parts.now) (map (written_in options.entry.utf8_names) parts.now) (map forwarded_of messages.now)) }
 {
     match options.boundary {
         Some(boundary) => {
             let multipart = multipart(options, boundary);
-            answer(alloc, fields, parts, messages, &multipart, eol)
+            judged(alloc, fields, parts, messages, &multipart, eol)
         }
         None => {
             let boundary = free_boundary(alloc, fields, parts, messages)?;
             let multipart = multipart(options, &boundary);
-            answer(alloc, fields, parts, messages, &multipart, eol)
+            judged(alloc, fields, parts, messages, &multipart, eol)
         }
     }
 }
@@ -212,27 +239,21 @@ fn multipart<'a>(options: PackOptions<'a>, boundary: &'a [u8]) -> Multipart<'a>
 }
 
 // The message of these fields, parts and messages, or the reason against it.
-fn answer(
+fn judged<'a>(
     alloc: Global,
     fields: &[Vec<u8>],
-    parts: &[Attach],
-    messages: &[Forward],
+    parts: &'a [Attach],
+    messages: &'a [Forward],
     multipart: &Multipart<'_>,
     eol: Ending,
-) -> Result<Answer, AllocError>
+) -> Result<Result<Pieces<'a>, Answer>, AllocError>
     requires { eol ≢ Ending.Missing }
-    ensures { IfOk result (λ a. run_of_answer a ≡ told (built_with eol (map (λ f. f.items) fields.now) (map (written_in multipart.now.utf8_names) parts.now) (map forwarded_of messages.now) (multipart_of multipart.now)) (refusal_with (map (λ f. f.items) fields.now) (map (written_in multipart.now.utf8_names) parts.now) (map forwarded_of messages.now) (multipart_of multipart.now))) }
+    ensures { IfOk result (λ judged. run_of_judged judged ≡ told (built_with eol (map (λ f. f.items) fields.now) (map (written_in multipart.now.utf8_names) parts.now) (map forwarded_of messages.now) (multipart_of multipart.now)) (refusal_with (map (λ f. f.items) fields.now) (map (written_in multipart.now.utf8_names) parts.now) (map forwarded_of messages.now) (multipart_of multipart.now))) }
 {
-    match build_with(alloc, fields, parts, messages, multipart, eol) {
-        Ok(output) => Ok(Answer {
-            output,
-            errors: Vec::new(alloc),
-        }),
+    match Pieces::of_message(alloc, fields, parts, messages, multipart, eol) {
+        Ok(pieces) => Ok(Ok(pieces)),
         Err(BuildError::Memory) => Err(AllocError),
-        Err(reason) => Ok(Answer {
-            output: Vec::new(alloc),
-            errors: refusal(alloc, reason)?,
-        }),
+        Err(reason) => Ok(Err(refused(alloc, reason)?)),
     }
 }
 
@@ -265,8 +286,18 @@ fn has_body(alloc: Global, text: &[u8]) -> Result<bool, AllocError>
     Ok(header(alloc, text)?.body() < text.len())
 }
 
+// The answer that says why no message is built.
+pub(crate) fn refused(alloc: Global, reason: BuildError) -> Result<Answer, AllocError>
+    ensures { IfOk result (λ a. run_of_answer a ≡ shown [] (pack_line reason)) }
+{
+    Ok(Answer {
+        output: Vec::new(alloc),
+        errors: refusal(alloc, reason)?,
+    })
+}
+
 // The line that says why no message is built.
-pub(crate) fn refusal(alloc: Global, reason: BuildError) -> Result<Vec<u8>, AllocError>
+fn refusal(alloc: Global, reason: BuildError) -> Result<Vec<u8>, AllocError>
     ensures { IfOk result (λ line. line.items ≡ pack_line reason) }
 {
     let name = name(reason);

@@ -158,7 +158,7 @@ fn show_content<O: Sink, E: Sink>(
     ensures unfinished { OnErr result (O.finishes out.new ≡ O.finishes out.old) }
 {
     match judge(alloc, doc, path) {
-        Ok(Ok(section)) => give_content(alloc, out, &section),
+        Ok(Ok(mut content)) => give_content(out, &mut content),
         Ok(Err(answer)) => print(out, err, &answer),
         Err(_) => Err(Cause::Memory),
     }

@@ -1,23 +1,25 @@
 //! A message unpacked into a folder, over any devices.
 
-ghost use Rattle.std.specs.Prelude.{◌≡◌, ◌≤◌, ◌⊎◌, ◌∷◌, [], if◌then◌else◌, true, false, map, None, Some, Ok, IfOk, IfErr, IfSome, OnOk, OnErr};
+ghost use Rattle.std.specs.Prelude.{◌≡◌, ◌≤◌, ◌⊎◌, ◌∷◌, [], if◌then◌else◌, true, false, map, None, Some, Ok, IfOk, IfErr, IfSome, List, OnOk, OnErr, ℕ};
 ghost use Rattle.mk_line.specs.Meters.{ticked};
 ghost use Rattle.mk_tree.specs.Documents.{Document};
 ghost use Rattle.mk_mailbox.specs.Devices.{Rose};
 ghost use Rattle.mk_view.specs.GivenNames.{AreSafe, is_safe};
 ghost use Rattle.mk_view.specs.LeafViews.{AreAt, IsAt, leaf_view};
 ghost use Rattle.mk_transfer.specs.RunClauses.{held, counts, reason_with, IsBlamedWith, SameFailures, ReadFailed, WriteFailed, ends_itself};
+ghost use Rattle.mk_show.specs.GivenPieces.{IsLeft};
 ghost use Rattle.mk_show.specs.Unpacking.{tried as name_tried};
 ghost use Rattle.mk_show.specs.Chosen.{asked_of};
 ghost use Rattle.mk_show.specs.UnpackClauses.{LeavesAskedSoFar, LeavesUnpacked, LeavesUnpackedSoFar, NoneFailed, PutsFront, PutsNone, PutsText, SomeFailed, UnpackedAll, UnpackedAllAfter, UnpackedSome, UnpackedSomeAfter, failures, manner_of, written};
 
 use crate::choosing::{asked_leaves, missing_lines};
+use crate::contents::Content;
 use crate::folder::Folder;
 use crate::saying::{report_exists, report_undecoded, say_stored};
 use crate::showing::read_doc;
-use mk_mailbox::{Fault, Sink, Source};
+use mk_mailbox::{Sink, Source};
 use mk_transfer::{Cause, Status, Stop, finish, give_up, reading, send, writing};
-use mk_view::{ExtractError, Leaf, NameForm, content_in, numbered};
+use mk_view::{ExtractError, Leaf, NameForm, numbered};
 use std::alloc::{AllocError, Global};
 
 /// How many names are tried for a leaf: its own, and that with the numbers from 1 after it.
@@ -243,19 +245,19 @@ fn unpack_all<O: Sink, E: Sink, F: Folder>(
     ensures unfinished { O.finishes out.new ≡ O.finishes out.old }
 {
     let mut refused = false;
-    let mut memory = Vec::new(alloc);
+    let mut content = Content::of(alloc, &[]);
     for leaf in leaves {
-        refused |= unpack_leaf(alloc, manner, &leaf, &mut memory, out, err, dir)?;
+        refused |= unpack_leaf(alloc, manner, &leaf, &mut content, out, err, dir)?;
     }
     Ok(refused)
 }
 
-// Unpacks one leaf, which is decoded in `memory`; the next takes that again. Answers whether it was reported.
-fn unpack_leaf<O: Sink, E: Sink, F: Folder>(
+// Unpacks one leaf, whose content takes the place of another in the same memory. Answers whether it was reported.
+fn unpack_leaf<'a, O: Sink, E: Sink, F: Folder>(
     alloc: Global,
     manner: Manner,
-    leaf: &Leaf<'_>,
-    memory: &mut Vec<u8>,
+    leaf: &Leaf<'a>,
+    content: &mut Content<'a>,
     out: &mut O,
     err: &mut E,
     dir: &mut F,
@@ -279,7 +281,7 @@ fn unpack_leaf<O: Sink, E: Sink, F: Folder>(
     ensures counted { E.failures err.old ≤ E.failures err.new }
     ensures unfinished { O.finishes out.new ≡ O.finishes out.old }
 {
-    match content_in(memory, &leaf.section) {
+    match content.begin(alloc, &leaf.section) {
         Ok(()) => {}
         Err(ExtractError::Memory) => return Err(Stop::Memory),
         Err(reason) => {
@@ -287,7 +289,7 @@ fn unpack_leaf<O: Sink, E: Sink, F: Folder>(
             return Ok(true);
         }
     }
-    let put = put_free(alloc, dir, &leaf.name, memory, manner.over)?;
+    let put = put_free(alloc, dir, &leaf.name, content, manner.over)?;
     match put {
         Some(target) => {
             say_stored(alloc, out, manner.report, leaf, &target)?;
@@ -300,29 +302,30 @@ fn unpack_leaf<O: Sink, E: Sink, F: Folder>(
     }
 }
 
-// Puts a text under the first of the names that is free, or under the name itself if files may be overwritten. Answers
+// Puts a content under the first of the names that is free, or under the name itself if files may be overwritten. Answers
 // the name that was taken.
 fn put_free<F: Folder>(
     alloc: Global,
     dir: &mut F,
     name: &[u8],
-    text: &[u8],
+    content: &mut Content<'_>,
     over: bool,
 ) -> Result<Option<Vec<u8>>, Stop>
-    requires { is_safe name.now ≡ true }
-    ensures put { IfOk result (λ put. IfSome put (λ target. PutsText over (F.files dir.old) (F.files dir.new) name.now text.now target.items)) }
+    requires safe { is_safe name.now ≡ true }
+    requires decodes { (text : List ℕ) × IsLeft content.old text }
+    ensures put { IfOk result (λ put. IfSome put (λ target. (text : List ℕ) → IsLeft content.old text → PutsText over (F.files dir.old) (F.files dir.new) name.now text target.items)) }
     ensures full { result ≡ Ok None → PutsNone over (F.files dir.old) (F.files dir.new) name.now }
-    ensures stopped { OnErr result ((F.files dir.new ≡ F.files dir.old) ⊎ PutsFront over (F.files dir.old) (F.files dir.new) name.now text.now) }
+    ensures stopped { OnErr result ((text : List ℕ) → IsLeft content.old text → (F.files dir.new ≡ F.files dir.old) ⊎ PutsFront over (F.files dir.old) (F.files dir.new) name.now text) }
     ensures failed { IfErr result (λ stop. stop ≡ Stop.Fault → Rose (F.failures dir.old) (F.failures dir.new)) }
     ensures memory { IfErr result (λ stop. stop ≡ Stop.Memory → F.failures dir.new ≡ F.failures dir.old) }
     ensures well { OnOk result (F.failures dir.new ≡ F.failures dir.old) }
 {
     for number in 0..MOST_TRIES {
         let target = tried(alloc, name, number)?;
-        match dir.put(&target, text, over) {
+        match dir.put(&target, content, over) {
             Ok(true) => return Ok(Some(target)),
             Ok(false) => {}
-            Err(Fault) => return Err(Stop::Fault),
+            Err(stop) => return Err(stop),
         }
     }
     Ok(None)

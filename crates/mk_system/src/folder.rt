@@ -1,11 +1,10 @@
 //! Folders of the system.
 
-ghost use Rattle.std.specs.Prelude.{◌≡◌, None};
+ghost use Rattle.std.specs.Prelude.{◌≡◌, None, Ok, true, false, IfOk};
 ghost use Rattle.mk_line.specs.Meters.{ticked};
 
 use crate::replacing::Replacement;
-use mk_mailbox::Fault;
-use mk_show::Folder;
+use mk_show::{Content, Folder, Stop};
 use std::alloc::AllocError;
 use std::fs::{File, OpenOptions};
 use std::io::{Error, ErrorKind, Write};
@@ -24,15 +23,36 @@ pub struct Unwritten {
     pub error: io::Error,
 }
 
-impl From<io::Error> for Unwritten {
-    fn from(error: io::Error) -> Unwritten {
-        Unwritten { path: None, error }
+// Why a content wasn't put.
+#[derive(Drop)]
+enum Halt {
+    /// Memory ran out.
+    Memory,
+    Unwritten(Unwritten),
+}
+
+impl Halt {
+    // The same, where the file at a path was to be written.
+    fn at(self, path: PathBuf) -> Halt {
+        match self {
+            Halt::Memory => Halt::Memory,
+            Halt::Unwritten(Unwritten { error, .. }) => Halt::Unwritten(Unwritten {
+                path: Some(path),
+                error,
+            }),
+        }
     }
 }
 
-impl From<AllocError> for Unwritten {
-    fn from(_: AllocError) -> Unwritten {
-        Unwritten::from(Error::from(ErrorKind::OutOfMemory))
+impl From<io::Error> for Halt {
+    fn from(error: io::Error) -> Halt {
+        Halt::Unwritten(Unwritten { path: None, error })
+    }
+}
+
+impl From<AllocError> for Halt {
+    fn from(_: AllocError) -> Halt {
+        Halt::Memory
     }
 }
 
@@ -80,36 +100,36 @@ impl<'r, 'p, R: Files<File = File> + AllocGlobal> Directory<'r, 'p, R> {
     }
 
     // Writes a file. `false` if there is one of the name, and it may not be overwritten.
-    fn write(&mut self, name: &[u8], text: &[u8], over: bool) -> Result<bool, Unwritten>
-        ensures { self.new.faults ≡ self.old.faults }
+    fn write(&mut self, name: &[u8], content: &mut Content<'_>, over: bool) -> Result<bool, Halt>
+        ensures counted { self.new.faults ≡ self.old.faults }
+        ensures kept { result ≡ Ok false → over ≡ false }
+        ensures untaken { result ≡ Ok false → content.new ≡ content.old }
     {
         self.make()?;
         let Ok(name) = std::str::from_utf8(name) else {
-            return Err(Unwritten::from(Error::from(ErrorKind::InvalidFilename)));
+            return Err(Halt::from(Error::from(ErrorKind::InvalidFilename)));
         };
         let mut path = PathBuf::from_str(self.rt.alloc(), self.path)?;
         path.push(name)?;
         let written = if over {
-            write_over(self.rt, &path, text)
+            write_over(self.rt, &path, content)
         } else {
-            write_new(self.rt, &path, text)
+            write_new(self.rt, &path, content)
         };
         match written {
             Ok(is_written) => Ok(is_written),
-            Err(error) => Err(Unwritten {
-                path: Some(path),
-                error,
-            }),
+            Err(halt) => Err(halt.at(path)),
         }
     }
 
     // Counts a failure.
-    fn fail(&mut self, unwritten: Unwritten) -> Fault
-        ensures { self.new.faults ≡ ticked self.old.faults }
+    fn fail(&mut self, unwritten: Unwritten) -> Stop
+        ensures counted { self.new.faults ≡ ticked self.old.faults }
+        ensures stop { result ≡ Stop.Fault }
     {
         self.faults = self.faults.saturating_add(1);
         self.unwritten = Some(unwritten);
-        Fault
+        Stop::Fault
     }
 }
 
@@ -118,24 +138,38 @@ impl<'r, 'p, R: Files<File = File> + AllocGlobal> Directory<'r, 'p, R> {
 fn write_over<R: Files<File = File> + AllocGlobal>(
     rt: &R,
     path: &PathBuf,
-    text: &[u8],
-) -> io::Result<bool> {
+    content: &mut Content<'_>,
+) -> Result<bool, Halt>
+    ensures { IfOk result (λ written. written ≡ true) }
+{
     let mut new = Replacement::beside(rt, path)?;
-    let written = match new.write_all(text) {
-        Ok(()) => new.replace(rt, path),
-        Err(error) => Err(error),
-    };
-    match written {
+    match write_replacement(rt, path, &mut new, content) {
         Ok(()) => Ok(true),
-        Err(error) => {
+        Err(halt) => {
             new.remove(rt);
-            Err(error)
+            Err(halt)
         }
     }
 }
 
+fn write_replacement<R: Files<File = File> + AllocGlobal>(
+    rt: &R,
+    path: &PathBuf,
+    new: &mut Replacement,
+    content: &mut Content<'_>,
+) -> Result<(), Halt> {
+    write_pieces(new.file(), content)?;
+    Ok(new.replace(rt, path)?)
+}
+
 // Writes a new file, or nothing if something has the path, even a link that leads nowhere.
-fn write_new<R: Files<File = File>>(rt: &R, path: &PathBuf, text: &[u8]) -> io::Result<bool> {
+fn write_new<R: Files<File = File>>(
+    rt: &R,
+    path: &PathBuf,
+    content: &mut Content<'_>,
+) -> Result<bool, Halt>
+    ensures { result ≡ Ok false → content.new ≡ content.old }
+{
     let mut file = match OpenOptions::new()
         .write(true)
         .create_new(true)
@@ -143,15 +177,23 @@ fn write_new<R: Files<File = File>>(rt: &R, path: &PathBuf, text: &[u8]) -> io::
     {
         Ok(file) => file,
         Err(error) if error.kind() == ErrorKind::AlreadyExists => return Ok(false),
-        Err(error) => return Err(error),
+        Err(error) => return Err(Halt::from(error)),
     };
-    match file.write_all(text) {
+    match write_pieces(&mut file, content) {
         Ok(()) => Ok(true),
-        Err(error) => {
+        Err(halt) => {
             let _ = fs::remove_file(rt, path.as_str());
-            Err(error)
+            Err(halt)
         }
     }
+}
+
+// Writes all that is left of a content.
+fn write_pieces(file: &mut File, content: &mut Content<'_>) -> Result<(), Halt> {
+    'each: while content.advance()? {
+        file.write_all(content.piece())?;
+    }
+    Ok(())
 }
 
 impl<R: Files<File = File> + AllocGlobal> Folder for Directory<'_, '_, R> {
@@ -159,12 +201,11 @@ impl<R: Files<File = File> + AllocGlobal> Folder for Directory<'_, '_, R> {
 
     ghost failures = { λ s. s.faults };
 
-    fn put(&mut self, name: &[u8], text: &[u8], over: bool) -> Result<bool, Fault> {
-        match self.write(name, text, over) {
-            Ok(true) => Ok(true),
-            Ok(false) if !over => Ok(false),
-            Ok(false) => Err(self.fail(Unwritten::from(Error::from(ErrorKind::AlreadyExists)))),
-            Err(unwritten) => Err(self.fail(unwritten)),
+    fn put(&mut self, name: &[u8], content: &mut Content<'_>, over: bool) -> Result<bool, Stop> {
+        match self.write(name, content, over) {
+            Ok(is_written) => Ok(is_written),
+            Err(Halt::Memory) => Err(Stop::Memory),
+            Err(Halt::Unwritten(unwritten)) => Err(self.fail(unwritten)),
         }
     }
 

@@ -87,9 +87,9 @@ impl Replacement {
         self.file.write(piece)
     }
 
-    /// Writes all of the piece.
-    pub fn write_all(&mut self, piece: &[u8]) -> io::Result<()> {
-        self.file.write_all(piece)
+    /// The new file itself, to write to.
+    pub fn file(&mut self) -> &mut File {
+        &mut self.file
     }
 
     /// Makes sure that what was written is on the disk.

@@ -1,9 +1,9 @@
 //! `pack`, over any devices.
 
-use crate::commands::name_form;
 use crate::faults::{Problem, usage};
 use crate::files::{attachments, forwards};
 use clap::ArgMatches;
+use mk_asked::name_form;
 use mk_line::Ending;
 use mk_mail::{NameForm, Sink, Source};
 use mk_run::Status;

@@ -55,6 +55,24 @@ message: A: 1\nB: 2\nA: 3\n\n
 output: B: 2\nA: 9\n\n
 status: Well
 
+== what follows the header stays as it is, in lines that end in CR LF
+only: A: 9
+message: From x\r\nA: 1\r\nB: 2\r\n\r\n--x\nA: 3
+output: From x\r\nB: 2\r\nA: 9\r\n\r\n--x\nA: 3
+status: Well
+
+== a body that no empty line separates from the fields
+only: A: 9
+message: A: 1\nbody\n\nA: 2\n
+output: A: 9\nbody\n\nA: 2\n
+status: Well
+
+== the type of the body is taken out
+only: Content-Type:
+message: A: 1\nContent-Type: multipart/mixed; boundary=b\n\n--b\n\nx\n--b--\n
+output: A: 1\n\n--b\n\nx\n--b--\n
+status: Well
+
 == all fields of a name get a prefix
 prefixed: A:
 message: A: 1\nB: 2\nA: 3\n\n

@@ -1,12 +1,12 @@
 //! Folders in memory: one that tells its files and fails when it is told to, and one that takes no memory once it is made.
 
-ghost use Rattle.std.specs.Prelude.{◌≡◌, None, Some, true, false, OnErr, OnOk};
+ghost use Rattle.std.specs.Prelude.{◌≡◌, None, Some, true, false, List, ℕ, OnErr, OnOk};
 ghost use Rattle.mk_show.specs.Folders.{Gets, IsFree, IsThere};
+ghost use Rattle.mk_show.specs.GivenPieces.{IsLeft};
 ghost use Rattle.mk_run_tests.specs.Kept.{texts_in};
 
 use super::devices::Failing;
-use mk_mail::Fault;
-use mk_run::Folder;
+use mk_run::{Content, Folder, Stop};
 use std::alloc::{AllocError, Global};
 use std::collections::BTreeMap;
 
@@ -72,29 +72,51 @@ fn keep(alloc: Global, kept: &mut Kept, name: &[u8], text: &[u8]) -> Result<(), 
     Ok(())
 }
 
+fn keep_content(
+    alloc: Global,
+    kept: &mut Kept,
+    name: &[u8],
+    content: &mut Content<'_>,
+) -> Result<(), AllocError>
+    ensures put { OnOk result ((text : List ℕ) → IsLeft content.old text → Gets (Some (texts_in kept.old)) (Some (texts_in kept.new)) name.now text) }
+    ensures same { OnErr result (Some (texts_in kept.new) ≡ Some (texts_in kept.old)) }
+{
+    let text = content.read_all(alloc)?;
+    keep(alloc, kept, name, &text)
+}
+
 impl Folder for Shelf {
     ghost files = { λ s. Some (texts_in s.kept) };
 
     ghost failures = { λ s. s.faults };
 
-    fn put(&mut self, name: &[u8], text: &[u8], over: bool) -> Result<bool, Fault> {
+    fn put(&mut self, name: &[u8], content: &mut Content<'_>, over: bool) -> Result<bool, Stop> {
         let call = self.puts;
         self.puts = call.saturating_add(1);
-        if !self.failing.fails(call) {
-            if !over && has(&self.kept, name) {
-                return Ok(false);
-            }
-            if keep(self.alloc, &mut self.kept, name, text).is_ok() {
-                return Ok(true);
-            }
+        if self.failing.fails(call) {
+            self.faults = self.faults.saturating_add(1);
+            return Err(Stop::Fault);
         }
-        self.faults = self.faults.saturating_add(1);
-        Err(Fault)
+        if !over && has(&self.kept, name) {
+            return Ok(false);
+        }
+        match keep_content(self.alloc, &mut self.kept, name, content) {
+            Ok(()) => Ok(true),
+            Err(_) => Err(Stop::Memory),
+        }
     }
 
     fn faults(&self) -> u64 {
         self.faults
     }
+}
+
+// Appends all that is left of a content.
+fn append(text: &mut Vec<u8>, content: &mut Content<'_>) -> Result<(), AllocError> {
+    'each: while content.advance()? {
+        text.extend_from_slice(content.piece())?;
+    }
+    Ok(())
 }
 
 /// A folder with room for one file, which it doesn't tell.
@@ -126,16 +148,14 @@ impl Folder for Slot {
 
     ghost failures = { λ s. s.faults };
 
-    fn put(&mut self, name: &[u8], text: &[u8], _over: bool) -> Result<bool, Fault> {
-        let is_empty = self.name.is_empty();
-        if is_empty
-            && self.name.extend_from_slice(name).is_ok()
-            && self.text.extend_from_slice(text).is_ok()
-        {
-            return Ok(true);
+    fn put(&mut self, name: &[u8], content: &mut Content<'_>, _over: bool) -> Result<bool, Stop> {
+        if !self.name.is_empty() {
+            self.faults = self.faults.saturating_add(1);
+            return Err(Stop::Fault);
         }
-        self.faults = self.faults.saturating_add(1);
-        Err(Fault)
+        self.name.extend_from_slice(name)?;
+        append(&mut self.text, content)?;
+        Ok(true)
     }
 
     fn faults(&self) -> u64 {

@@ -8,7 +8,6 @@ use Rattle.mk_build.specs.Building.{closed_field}
 use Rattle.mk_build.specs.ForwardViews.{forwarded_of}
 use Rattle.mk_build.specs.Forwards.{forwarded_part, head_with, is_8bit}
 use Rattle.mk_build.specs.Multiparts.{multipart_of, part_as}
-use Rattle.mk_build.proofs.Envelopes.{none_against}
 use Rattle.mk_build.proofs.building.build_of.Goals as goal
 
 pub returns-clause-text : goal.returns-clause-text
@@ -27,7 +26,7 @@ returns-clause-text c =
     let three = c.push_parts.new.text.items in
     let four = c.push_forwards.new.text.items in
     let last = c.push_close.new.text.items in (
-      none_against fields parts messages m (sym c.bad_field.ensures ∙ c.in_default.is) (sym c.bad_type.ensures ∙ c.in_default-bad_type.is) (sym c.bad_name.ensures ∙ c.in_default-bad_name.is) (sym c.refusal.ensures ∙ c.in_default-refusal.is) (sym c.first_holding.ensures ∙ c.in_default-first_holding.is),
+      sym c.first_refusal.ensures ∙ c.in_default.is,
       joined [] (flat_map (closed_field eol) fields) (head ++ (written ++ (sent ++ close))) one last (c.in_ok-push_fields.ensures ∙ ap (λ t. t ++ flat_map (closed_field eol) fields) c.new-text.ensures.items)
           (joined one head (written ++ (sent ++ close)) two last (c.in_ok-push_head.ensures ∙ ap (λ w. one ++ head_with eol w m) c.are_8bit.ensures)
           (joined two written (sent ++ close) three last c.in_ok-push_parts.ensures

@@ -1,37 +1,25 @@
-use Rattle.std.proofs.Common.{ap, ◌∙◌, ◌++◌, append_assoc, codes}
-use Rattle.mk_line.specs.Lines.{ending_bytes, printed_line}
-use Rattle.mk_line.specs.Marks.{delimiter_line}
+use Rattle.std.proofs.Common.{ap, refl, ◌∙◌, ◌++◌}
+use Rattle.mk_line.specs.Lines.{ending_bytes}
 use Rattle.mk_line.proofs.Joined.{on_ok, written, joined}
 use Rattle.mk_build.specs.ForwardViews.{forwarded_of}
-use Rattle.mk_build.specs.Forwards.{attachment_line, eight_bit_line, ending_after, is_8bit}
+use Rattle.mk_build.specs.Forwards.{ending_after}
+use Rattle.mk_build.specs.inner.PieceViews.{forward_fields}
+use Rattle.mk_build.proofs.PieceTexts.{forward_whole}
 use Rattle.mk_build.proofs.forwarding.push_forward.Goals as goal
 
 pub returns : goal.returns
 returns c =
     let eol = c.args.eol in
-    let end = ending_bytes eol in
     let b = c.args.boundary.now in
     let f = forwarded_of c.args.forward.now in
     let t = c.args.text.now.items in
-    let tail = f.text ++ ending_bytes (ending_after eol f.text) in
-    let wide = eight_bit_line eol (is_8bit f.text) in
-    let fields = codes "Content-Type: message/rfc822" ++ (end ++ (attachment_line eol f.inline ++ (wide ++ (end ++ tail)))) in
-    let one = c.push_delimiter.new.text.items in
+    let end = ending_bytes (ending_after eol f.text) in
+    let one = c.push_forward_fields.new.text.items in
     let two = c.extend_from_slice.new.self.items in
-    let three = c.extend_from_slice-2.new.self.items in
-    let four = c.push_attachment.new.text.items in
-    let five = c.push_8bit.new.text.items in
-    let six = c.extend_from_slice-3.new.self.items in
-    let seven = c.extend_from_slice-4.new.self.items in
-    let last = c.extend_from_slice-5.new.self.items in
-    on_ok c.extend_from_slice-5.result _ _ (written c.extend_from_slice-5.result seven c.bytes-3.result.now last c.extend_from_slice-5.ensures.items)
+    let last = c.extend_from_slice-2.new.self.items in
+    on_ok c.extend_from_slice-2.result _ _ (written c.extend_from_slice-2.result two c.bytes.result.now last c.extend_from_slice-2.ensures.items)
     (λ h.
-    joined t (printed_line (delimiter_line eol b)) fields one last c.in_ok-push_delimiter.ensures.appended
-    (joined one (codes "Content-Type: message/rfc822") (end ++ (attachment_line eol f.inline ++ (wide ++ (end ++ tail)))) two last c.in_ok-extend_from_slice.ensures.items
-    (joined two end (attachment_line eol f.inline ++ (wide ++ (end ++ tail))) three last (c.in_ok-extend_from_slice-2.ensures.items ∙ ap (λ x. two ++ x) c.bytes.ensures)
-    (joined three (attachment_line eol f.inline) (wide ++ (end ++ tail)) four last c.in_ok-push_attachment.ensures
-    (joined four wide (end ++ tail) five last (c.in_ok-push_8bit.ensures ∙ ap (λ w. four ++ eight_bit_line eol w) (c.is_8bit.ensures ∙ ap is_8bit c.message-message.ensures))
-    (joined five end tail six last (c.in_ok-extend_from_slice-3.ensures.items ∙ ap (λ x. five ++ x) c.bytes-2.ensures)
-    (joined six f.text (ending_bytes (ending_after eol f.text)) seven last (c.in_ok-extend_from_slice-4.ensures.items ∙ ap (λ x. six ++ x) c.message-message.ensures)
-    (h ∙ ap (λ x. seven ++ x) (c.bytes-3.ensures ∙ ap ending_bytes (c.ending_after.ensures ∙ ap (ending_after eol) c.message-message.ensures)))))))))
-    ∙ ap (λ x. t ++ (codes "--" ++ x)) (append_assoc b end fields))
+    joined t (forward_fields eol b f) (f.text ++ end) one last c.in_ok-push_forward_fields.ensures
+    (joined one f.text end two last (c.in_ok-extend_from_slice.ensures.items ∙ ap (λ x. one ++ x) c.message-message.ensures)
+    (h ∙ ap (λ x. two ++ x) (c.bytes.ensures ∙ ap ending_bytes (c.ending_after.ensures ∙ ap (ending_after eol) c.message-message.ensures))))
+    ∙ ap (λ x. t ++ x) (forward_whole eol b f (f.text ++ end) refl))

@@ -1,20 +1,27 @@
-use Rattle.std.proofs.Common.{map, refl, subst}
+use Rattle.std.proofs.Common.{ap, map, refl, subst, sym, ◌∙◌}
+use Rattle.mk_line.specs.Lines.{cut, eol_of}
 use Rattle.mk_build.specs.ForwardViews.{forwarded_of}
 use Rattle.mk_show.specs.Packing.{IsPackedWith, manner_of}
-use Rattle.mk_show.specs.Shown.{run_of_answer}
+use Rattle.mk_show.specs.inner.Judged.{run_of_judged}
 use Rattle.mk_transfer.specs.RunClauses.{counts}
-use Rattle.mk_transfer.proofs.Blames.{reading_blamed, writing_blamed}
-use Rattle.mk_show.proofs.ShownLemmas.{ShowsSoFar-written}
+use Rattle.mk_transfer.proofs.Blames.{reading_blamed}
+use Rattle.mk_show.proofs.GonePieces.{ShowsSoFar-gone, giving_blamed}
+use Rattle.mk_show.proofs.TurnedParts.{packed_chosen}
 use Rattle.mk_show.proofs.packing.try_pack.Goals as goal
 
 pub returns-in-Ok-message-clause-leaves : goal.returns-in-Ok-message-clause-leaves
 returns-in-Ok-message-clause-leaves g c =
-    let packed = IsPackedWith (manner_of c.args.options) c.args.parts.now (map forwarded_of c.args.messages.now) in
-    let run = run_of_answer c.in-Ok-message.answer in
-    let is = subst (λ text. packed text run) c.deref.ensures.value c.in-Ok-message.ensures in (
-      c.in-Ok.text.items,
+    let messages = map forwarded_of c.args.messages.now in
+    let packed = IsPackedWith (manner_of c.args.options) c.args.parts.now messages in
+    let run = run_of_judged c.in-Ok-message.judged in
+    let text = c.in-Ok.text.items in
+    let is : packed c.deref-2.result.now run =
+    c.in-Ok-message.ensures
+    ∙ packed_chosen (λ v. v.items) (manner_of c.args.options) c.eol_of.result c.chosen.result.now c.args.parts.now c.in-Ok-turned_if.turned messages c.deref-2.result.now
+    (c.eol_of.ensures ∙ ap (λ t. eol_of (cut t)) (c.deref.ensures.value ∙ sym c.deref-2.ensures.value)) c.chosen.ensures c.in-Ok-turned_if.ensures.turned c.in-Ok-turned_if.ensures.plain in (
+      text,
       c.in-Ok.ensures.all,
-      ShowsSoFar-written (packed c.in-Ok.text.items) run c.print.result _ _ _ _ _ _ is c.in-Ok.ensures.ended c.print.ensures.written c.print.ensures.only,
+      ShowsSoFar-gone (packed text) run c.give.result _ _ _ _ _ _ (subst (λ t. packed t run) c.deref-2.ensures.value is) c.in-Ok.ensures.ended c.give.ensures.written c.give.ensures.not_read,
     )
 
 pub returns-in-Err-clause-blamed : goal.returns-in-Err-clause-blamed
@@ -26,7 +33,7 @@ returns-in-Err-clause-blamed g c =
 
 pub returns-in-Ok-message-clause-blamed : goal.returns-in-Ok-message-clause-blamed
 returns-in-Ok-message-clause-blamed g c =
-    writing_blamed c.print.result
+    giving_blamed c.give.result
     (counts (g.S.Source.failures c.args.input.now) (g.S.Source.read_count c.args.input.now) (g.O.Sink.failures c.args.out.now) (g.E.Sink.failures c.args.err.now))
-    (counts (g.S.Source.failures c.read_all.new.input) (g.S.Source.read_count c.read_all.new.input) (g.O.Sink.failures c.print.new.out) (g.E.Sink.failures c.print.new.err))
-    c.print.ensures.only c.print.ensures.failed c.in-Ok.ensures.well c.print.ensures.counted
+    (counts (g.S.Source.failures c.read_all.new.input) (g.S.Source.read_count c.read_all.new.input) (g.O.Sink.failures c.give.new.out) (g.E.Sink.failures c.give.new.err))
+    c.give.ensures.not_read c.give.ensures.failed c.give.ensures.memory c.in-Ok.ensures.well c.give.ensures.counted

@@ -6,6 +6,7 @@ use Rattle.mk_show.proofs.unpacking.put_free.Given as goal
 abbrev pub invariant-loop-number : goal.invariant-loop-number
 invariant-loop-number g l = record {
   same : g.F.Folder.files l.dir ≡ g.F.Folder.files l.fn.dir;
+  untaken : l.content ≡ l.fn.content;
   well : g.F.Folder.failures l.dir ≡ g.F.Folder.failures l.fn.dir;
   kept : 0 < l.number → l.over ≡ false;
   there : (n : ℕ) → n < l.number → IsThere (g.F.Folder.files l.fn.dir) (tried l.name n);

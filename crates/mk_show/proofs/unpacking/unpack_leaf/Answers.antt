@@ -43,41 +43,41 @@ returns-in_err-report_undecoded-in-Err g c =
 pub returns-in_ok-say_stored-in-Some-clause-all : goal.returns-in_ok-say_stored-in-Some-clause-all
 returns-in_ok-say_stored-in-Some-clause-all g c =
     let leaf = leaf_view c.args.leaf.now in
-    let content = c.in-Ok.ensures.content in
-    let put = rw (c.deref-2.ensures.value, c.deref-3.ensures.value, c.in-Some.is) at c.in_ok-put.ensures.put in
+    let content = c.in-Ok.ensures.begun in
+    let put = rw (c.deref-2.ensures.value, c.in-Some.is) at c.in_ok-put.ensures.put in
     let sent = rw c.deref-in-Some.ensures.value at c.in_ok-say_stored-in-Some.ensures.sends in
-    λ t here. UnpackedAll-one c.args.manner t leaf _ false _ _ (stored-leaf c.args.manner t leaf _ _ _ _ (rw here content) put) (rw here sent.whole) (Appends-nil _) refl
+    λ t here. UnpackedAll-one c.args.manner t leaf _ false _ _ (stored-leaf c.args.manner t leaf _ _ _ _ (rw here content.1) (put _ content.2)) (rw here sent.whole) (Appends-nil _) refl
 
 pub returns-in_err-say_stored-in-Some-clause-some : goal.returns-in_err-say_stored-in-Some-clause-some
 returns-in_err-say_stored-in-Some-clause-some g c =
     let from = err_from_is_err_and c.from_residual-in_err-say_stored-in-Some.result c.from_residual-in_err-say_stored-in-Some.ensures.1 in
     let leaf = leaf_view c.args.leaf.now in
-    let content = c.in-Ok.ensures.content in
-    let put = rw (c.deref-2.ensures.value, c.deref-3.ensures.value, c.in-Some.is) at c.in_ok-put.ensures.put in
+    let content = c.in-Ok.ensures.begun in
+    let put = rw (c.deref-2.ensures.value, c.in-Some.is) at c.in_ok-put.ensures.put in
     let stopped = rw c.deref-in-Some.ensures.value at c.in_err-say_stored-in-Some.ensures.sends in
-    rw from.1 (λ t here. UnpackedSome-one c.args.manner t leaf _ _ _ (stored-leaf c.args.manner t leaf _ _ _ _ (rw here content) put) (rw here stopped.front) (AppendsFront-none _ _))
+    rw from.1 (λ t here. UnpackedSome-one c.args.manner t leaf _ _ _ (stored-leaf c.args.manner t leaf _ _ _ _ (rw here content.1) (put _ content.2)) (rw here stopped.front) (AppendsFront-none _ _))
 
 pub returns-in_ok-report_exists-in-None-clause-all : goal.returns-in_ok-report_exists-in-None-clause-all
 returns-in_ok-report_exists-in-None-clause-all g c =
     let leaf = leaf_view c.args.leaf.now in
-    let content = c.in-Ok.ensures.content in
+    let content = c.in-Ok.ensures.begun in
     let none = rw c.deref-2.ensures.value at (c.put_free.ensures.full (search rules)) in
     let sent = rw c.deref-in-None.ensures.value at c.in_ok-report_exists-in-None.ensures in
-    λ t here. UnpackedAll-one c.args.manner t leaf _ true _ _ (crowded-leaf c.args.manner t leaf c.content_in.new.memory.items _ _ (rw here content) none) (Appends-nil _) sent.whole (line_told _ _ _)
+    λ t here. UnpackedAll-one c.args.manner t leaf _ true _ _ (crowded-leaf c.args.manner t leaf content.0 _ _ (rw here content.1) none) (Appends-nil _) sent.whole (line_told _ _ _)
 
 pub returns-in_err-report_exists-in-None-clause-some : goal.returns-in_err-report_exists-in-None-clause-some
 returns-in_err-report_exists-in-None-clause-some g c =
     let from = err_from_is_err_and c.from_residual-in_err-report_exists-in-None.result c.from_residual-in_err-report_exists-in-None.ensures.1 in
     let leaf = leaf_view c.args.leaf.now in
-    let content = c.in-Ok.ensures.content in
+    let content = c.in-Ok.ensures.begun in
     let none = rw c.deref-2.ensures.value at (c.put_free.ensures.full (search rules)) in
     let stopped = rw c.deref-in-None.ensures.value at c.in_err-report_exists-in-None.ensures in
-    rw from.1 (λ t here. UnpackedSome-one c.args.manner t leaf _ _ _ (crowded-leaf c.args.manner t leaf c.content_in.new.memory.items _ _ (rw here content) none) (AppendsFront-none _ _) stopped.front)
+    rw from.1 (λ t here. UnpackedSome-one c.args.manner t leaf _ _ _ (crowded-leaf c.args.manner t leaf content.0 _ _ (rw here content.1) none) (AppendsFront-none _ _) stopped.front)
 
 pub returns-in_err-put-clause-some : goal.returns-in_err-put-clause-some
 returns-in_err-put-clause-some g c =
     let from = err_from_is_err_and c.from_residual-in_err-put.result c.from_residual-in_err-put.ensures.1 in
     let leaf = leaf_view c.args.leaf.now in
-    let content = c.in-Ok.ensures.content in
-    let stopped = rw (c.deref-2.ensures.value, c.deref-3.ensures.value) at c.in_err-put.ensures.stopped in
-    rw from.1 (λ t here. UnpackedSome-none c.args.manner t leaf _ _ _ _ (front-leaf c.args.manner.over t leaf _ _ _ (rw here content) stopped))
+    let content = c.in-Ok.ensures.begun in
+    let stopped = rw c.deref-2.ensures.value at c.in_err-put.ensures.stopped in
+    rw from.1 (λ t here. UnpackedSome-none c.args.manner t leaf _ _ _ _ (front-leaf c.args.manner.over t leaf _ _ _ (rw here content.1) (stopped _ content.2)))
