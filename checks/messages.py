@@ -23,8 +23,22 @@ def of(fields, **said):
 
 
 def disposed(value, filename, stored_as):
-    """A leaf with a Content-Disposition, whose disposition is in lower case and has no blanks or comments around it."""
-    return of(b"Content-Disposition: " + value, disposition=value.split(b";")[0].decode(), filename=filename, stored_as=stored_as)
+    """A leaf with a Content-Disposition, whose disposition is in lower case and has no blanks or comments around it, and whose file
+    name is its only parameter."""
+    return of(b"Content-Disposition: " + value, disposition=value.split(b";")[0].decode(), filename=filename, stored_as=stored_as,
+              disposition_parameters={"filename": filename})
+
+
+def parameters(value, **said):
+    """A leaf with a Content-Disposition `inline` with these parameters."""
+    name = said.get("filename")
+    return of(b"Content-Disposition: inline" + value, disposition="inline", filename=name, raw_filename=name, stored_as=name or PART,
+              disposition_parameters=said or None)
+
+
+def identified(value, content_id):
+    """A leaf with a Content-ID."""
+    return of(b"Content-ID:" + value, stored_as=PART, content_id=content_id)
 
 
 def multi(boundary, *parts, fields=b"Content-Type: multipart/mixed; boundary=%s"):
@@ -59,11 +73,11 @@ ROWS = [
     ("a name", *of(b"Content-Type: image/gif; name=a.gif", filename="a.gif", stored_as="a.gif")),
     ("a file name", *disposed(b"attachment; filename=a.gif", "a.gif", "a.gif")),
     ("a file name before a name", *of(b"Content-Type: image/gif; name=a.gif\nContent-Disposition: inline; filename=b.gif",
-                                      disposition="inline", filename="b.gif", stored_as="b.gif")),
+                                      disposition="inline", filename="b.gif", stored_as="b.gif", disposition_parameters={"filename": "b.gif"})),
     ("a disposition without a file name", *of(b"Content-Disposition: inline\nContent-Type: image/gif; name=a.gif", disposition="inline", filename="a.gif", stored_as="a.gif")),
-    ("a file name that is empty", *of(b'Content-Type: image/gif; name=a\nContent-Disposition: inline; filename=""', disposition="inline", filename="", stored_as=PART)),
+    ("a file name that is empty", *of(b'Content-Type: image/gif; name=a\nContent-Disposition: inline; filename=""', disposition="inline", filename="", stored_as=PART, disposition_parameters={"filename": ""})),
     ("a file name without a disposition", *of(b"Content-Disposition: filename=a", stored_as=PART)),
-    ("a name of a disposition", *of(b"Content-Disposition: inline; name=a", disposition="inline", stored_as=PART)),
+    ("a name of a disposition", *of(b"Content-Disposition: inline; name=a", disposition="inline", stored_as=PART, disposition_parameters={"name": "a"})),
     ("blanks in a file name", *disposed(b'inline; filename="a b.gif"', "a b.gif", "a_b.gif")),
     ("a folded file name", *disposed(b'inline;\n filename="a\n b.gif"', "a b.gif", "a_b.gif")),
     ("quotes in a file name", *disposed(rb'inline; filename="a \"b\".gif"', 'a "b".gif', "a__b_.gif")),
@@ -81,8 +95,8 @@ ROWS = [
     ("bytes that can't be UTF-8", *disposed(b'inline; filename="\xff\xfe"', "\ufffd\ufffd", "__")),
     ("a charset that isn't UTF-8", *of(b"Content-Type: text/plain; charset=\xff", charset="\ufffd", stored_as=PART)),
     ("an encoded word", *of(b'Content-Disposition: inline; filename="=?utf-8?q?a=C3=A4.gif?="', disposition="inline", filename="a\u00e4.gif",
-                            raw_filename="=?utf-8?q?a=C3=A4.gif?=", stored_as="__utf-8_q_a_C3_A4.gif__")),
-    ("an extended parameter", *of(b"Content-Disposition: inline; filename*=utf-8''a%20b", disposition="inline", filename="a b", raw_filename=None, stored_as=PART)),
+                            raw_filename="=?utf-8?q?a=C3=A4.gif?=", stored_as="__utf-8_q_a_C3_A4.gif__", disposition_parameters={"filename": "a\u00e4.gif"})),
+    ("an extended parameter", *of(b"Content-Disposition: inline; filename*=utf-8''a%20b", disposition="inline", filename="a b", raw_filename=None, stored_as=PART, disposition_parameters={"filename": "a b"})),
     ("a long file name", *disposed(b"inline; filename=" + b"n" * 300, "n" * 300, "n" * 100)),
     ("an unclosed file name", *disposed(b'inline; filename="a; b', "a; b", "a__b")),
     ("a comment in a file name", *disposed(b"inline; filename=a(b)c", "ac", "ac")),
@@ -101,21 +115,50 @@ ROWS = [
     ("a message in base64", *of(b"Content-Type: message/rfc822\nContent-Transfer-Encoding: base64", type="message/rfc822", encoding="base64", stored_as=PART, size=None)),
     ("an unknown encoding", *of(b"Content-Transfer-Encoding: x", encoding="other", stored_as=PART, size=None)),
     ("a disposition in capitals", *of(b"Content-Disposition: ATTachment", disposition="attachment", stored_as=PART)),
-    ("a disposition between blanks", *of(b"Content-Disposition: \t inline \t; a=b", disposition="inline", stored_as=PART)),
-    ("a folded disposition", *of(b"Content-Disposition:\n inline\n ; a=b", disposition="inline", stored_as=PART)),
-    ("a disposition between comments", *of(b'Content-Disposition: (a; "(b)) inline (c); a=b', disposition="inline", stored_as=PART)),
+    ("a disposition between blanks", *of(b"Content-Disposition: \t inline \t; a=b", disposition="inline", stored_as=PART, disposition_parameters={"a": "b"})),
+    ("a folded disposition", *of(b"Content-Disposition:\n inline\n ; a=b", disposition="inline", stored_as=PART, disposition_parameters={"a": "b"})),
+    ("a disposition between comments", *of(b'Content-Disposition: (a; "(b)) inline (c); a=b', disposition="inline", stored_as=PART, disposition_parameters={"a": "b"})),
     ("a disposition with a comment in it", *of(b"Content-Disposition: in(a)line", disposition="inline", stored_as=PART)),
     ("a disposition of another name", *of(b"Content-Disposition: x-mine+a.b", disposition="x-mine+a.b", stored_as=PART)),
     ("a disposition in quotes", *of(b'Content-Disposition: "inline"', stored_as=PART)),
     ("a comment and a disposition in quotes", *of(b'Content-Disposition: (a)"inline"', stored_as=PART)),
     ("two words for a disposition", *of(b"Content-Disposition: inline attachment", stored_as=PART)),
-    ("an empty disposition", *of(b"Content-Disposition: ; a=b", stored_as=PART)),
+    ("an empty disposition", *of(b"Content-Disposition: ; a=b", stored_as=PART, disposition_parameters={"a": "b"})),
     ("a field without a disposition", *of(b"Content-Disposition:", stored_as=PART)),
     ("a disposition with a byte that isn't ASCII", *of(b"Content-Disposition: inl\xefne", stored_as=PART)),
     ("a comment that isn't closed", *of(b"Content-Disposition: (inline", stored_as=PART)),
     ("two dispositions", *of(b"Content-Disposition: inline\nContent-Disposition: attachment", disposition="inline", stored_as=PART)),
     ("a disposition of a multipart", multi(b"b", b"\nx", fields=b"Content-Disposition: inline\nContent-Type: multipart/mixed; boundary=b"), [
         {"kind": "multi", "boundary": "b", "disposition": "inline"}, leaf(stored_as="part-1.1")]),
+    ("parameters in their order", *parameters(b"; size=10; FileName=a.gif; creation-date=\"Wed, 12 Feb 1997 16:29:51 -0500\"",
+                                              size="10", filename="a.gif", **{"creation-date": "Wed, 12 Feb 1997 16:29:51 -0500"})),
+    ("a parameter given again", *parameters(b"; a=1; b=2; A=3", a="1", b="2")),
+    ("a parameter with a charset", *parameters(b"; a*=iso-8859-1'en'%A3%20rates; b=2", a="\u00a3 rates", b="2")),
+    ("a parameter in segments, out of order", *parameters(b"; a*1=d; b=2; a*0=c", a="cd", b="2")),
+    ("segments with a charset", *parameters(b"; a*0*=us-ascii'en'This%20is%20even%20more%20; a*1*=%2A%2A%2Afun%2A%2A%2A%20; a*2=\"isn't it!\"",
+                                            a="This is even more ***fun*** isn't it!")),
+    ("a value with a charset beside a plain one", *parameters(b"; a=x; a*=utf-8''%e2%82%ac", a="\u20ac")),
+    ("a charset that isn't known beside a plain value", *parameters(b"; a*=x-y''%e2; a=x", a="x")),
+    ("a charset that isn't known", *parameters(b"; a*=x-y''%e2", a="x-y''%e2")),
+    ("segments without the first", *parameters(b"; a*1=d; a*2=e", a="d")),
+    ("an asterisk in a name", *parameters(b"; a*b=1; a*01=2; a=3", **{"a*b": "1", "a*01": "2", "a": "3"})),
+    ("a parameter whose name isn't a token", *parameters(b"; a b=1; =2; *=3; \xe4=4; c=5", c="5")),
+    ("a parameter with a byte that isn't UTF-8", *parameters(b"; a=\"\xe4\"", a="\ufffd")),
+    ("a parameter without a value", *parameters(b"; a; b=", b="")),
+    ("parameters of a multipart", multi(b"b", b"\nx", fields=b"Content-Disposition: inline; a=1\nContent-Type: multipart/mixed; boundary=b"), [
+        {"kind": "multi", "boundary": "b", "disposition": "inline", "disposition_parameters": {"a": "1"}}, leaf(stored_as="part-1.1")]),
+    ("a Content-ID", *identified(b" <foo4*foo1@bar.net>", "foo4*foo1@bar.net")),
+    ("a folded Content-ID", *identified(b"\n <foo4@bar.net>", "foo4@bar.net")),
+    ("a Content-ID between comments", *identified(b" (<a@b> \\( (c)) <d@e> (f)", "d@e")),
+    ("a Content-ID with blanks", *identified(b"\t< a@b >", "a@b")),
+    ("a Content-ID without brackets", *identified(b" a@b ", "a@b")),
+    ("a Content-ID that isn't closed", *identified(b" <a@b", "a@b")),
+    ("an empty Content-ID", *identified(b" <>", None)),
+    ("a Content-ID without a value", *identified(b"", None)),
+    ("two Content-IDs", *identified(b" <a@b>\ncontent-id: <c@d>", "a@b")),
+    ("a Content-ID with quotes and a byte that isn't UTF-8", *identified(b' <"a\xff"@b>', '"a\ufffd"@b')),
+    ("a Content-ID of a multipart", multi(b"b", b"Content-ID: <c@d>\n\nx", fields=b"Content-ID: <a@b>\nContent-Type: multipart/mixed; boundary=b"), [
+        {"kind": "multi", "boundary": "b", "content_id": "a@b"}, leaf(stored_as="part-1.1", content_id="c@d")]),
     ("quoted-printable", b"Content-Transfer-Encoding: quoted-printable\n\na=3Db=\nc\n", [leaf(stored_as=PART, size=5)]),
     ("base64 on two lines", b"Content-Transfer-Encoding: base64\n\naGkA\naGk=\n", [leaf(stored_as=PART, size=5)]),
     ("base64 that isn't whole", b"Content-Transfer-Encoding: base64\n\naGkA\na\n", [leaf(stored_as=PART, size=None)]),
@@ -147,6 +190,45 @@ IN_UTF8 = [
 ]
 
 
+def mail(*fields, body=b"x", line=b"From a"):
+    """A message of a mailbox with these fields; it ends with an empty line."""
+    return b"".join(each + b"\n" for each in (line, *fields, b"", body, b""))
+
+
+# What a row shows, the mailbox, the options, and what the fields of each message say.
+MAILS = [
+    ("no message", b"", [], []),
+    ("a message without fields", b"\nx\n", [], [{}]),
+    ("all fields, in another order", mail(b"In-Reply-To: <a@b>", b"Message-ID: <c@d>", b"Date: Mon, 2 Nov 2026 09:00:00 +0000", b"Subject: s",
+                                          b"To: Bob <b@example.org>", b"From: Ann <a@example.org>"), [],
+     [{"from": "Ann <a@example.org>", "to": "Bob <b@example.org>", "subject": "s", "date": "Mon, 2 Nov 2026 09:00:00 +0000",
+       "message_id": "<c@d>", "in_reply_to": "<a@b>"}]),
+    ("a message without a From-line", b"Subject: s\n\nx\n", [], [{"subject": "s"}]),
+    ("two messages", mail(b"Subject: a") + mail(b"Subject: b"), [], [{"subject": "a"}, {"subject": "b"}]),
+    ("names of another case", mail(b"SUBJECT: s", b"from : a", b"message-id: <m>"), [], [{"from": "a", "subject": "s", "message_id": "<m>"}]),
+    ("the first of two fields", mail(b"Subject: a", b"Subject: b"), [], [{"subject": "a"}]),
+    ("fields of a body", mail(body=b"Subject: s"), [], [{}]),
+    ("a folded field", mail(b"Subject: a\n b\n\tc"), [], [{"subject": "a b\tc"}]),
+    ("CR LF", b"From a\r\nSubject: a\r\n b\r\n\r\nx\r\n", [], [{"subject": "a b"}]),
+    ("blanks at both ends", mail(b"Subject:\t a \t"), [], [{"subject": "a"}]),
+    ("fields without a value", mail(b"Subject:", b"To: "), [], [{"to": "", "subject": ""}]),
+    ("encoded words", mail(b"Subject: =?utf-8?q?caf=C3=A9?= =?iso-8859-1?Q?_=E9?= b", b"From: =?utf-8?b?SsO2cmc=?= <j@example.org>"), [],
+     [{"from": "J\u00f6rg <j@example.org>", "subject": "caf\u00e9 \u00e9 b"}]),
+    ("an encoded word with line breaks", mail(b"Subject: =?utf-8?q?a=0D=0Ab?="), [], [{"subject": "a  b"}]),
+    ("an encoded word of an unknown charset", mail(b"Subject: =?x-y?q?a?="), [], [{"subject": "=?x-y?q?a?="}]),
+    ("UTF-8 as it is", mail("Subject: \u20ac\U0001f600".encode()), [], [{"subject": "\u20ac\U0001f600"}]),
+    ("bytes that aren't UTF-8", mail(b"Subject: a\xe9b", b"To: \xff\xfe"), [], [{"to": "\ufffd\ufffd", "subject": "a\ufffdb"}]),
+    ("quotes, backslashes and control characters", mail(b'From: "A \\"B\\"" <a@b>', b"Subject: \x00\x01\x1f\x7f\x08\x0c/"), [],
+     [{"from": '"A \\"B\\"" <a@b>', "subject": "\x00\x01\x1f\x7f\x08\x0c/"}]),
+    ("angle brackets, with a comment", mail(b"Message-ID: (a) <c@d>", b"In-Reply-To: <a@b> <e@f>"), [], [{"message_id": "(a) <c@d>", "in_reply_to": "<a@b> <e@f>"}]),
+    ("From-lines without a date", mail(b"Subject: a") + mail(b"Subject: b", line=b"From here on"), ["--rfc4155"], [{"subject": "a"}]),
+    ("From-lines with dates", mail(b"Subject: a", line=b"From a Mon Nov  2 09:00:00 2026") + mail(line=b"From b")
+     + mail(b"Subject: b", line=b"From c Mon Nov  2 09:00:00 2026"), ["--rfc4155"], [{"subject": "a"}, {"subject": "b"}]),
+    ("From-lines before fields", mail(b"Subject: a") + b"From here on\n\n" + mail(b"Subject: b"), ["--mbox=field"], [{"subject": "a"}, {"subject": "b"}]),
+    ("the parts of a message", mail(b"Subject: s", b"Content-Type: multipart/mixed; boundary=b", body=b"--b\nSubject: t\n\n--b\n\n--b--"), [], [{"subject": "s"}]),
+]
+
+
 def broad(count):
     """A multipart of many parts, all of one name."""
     parts = [b"--b\nContent-Type: image/gif; name=n%d.gif\n\nx\n" % (number % (count // 2)) for number in range(count)]
@@ -156,6 +238,13 @@ def broad(count):
         name = f"n{number % (count // 2)}.gif"
         said.append(leaf(filename=name, stored_as=name if number < count // 2 else name + ".1"))
     return text, said
+
+
+def parametered(count):
+    """A leaf whose disposition has many parameters, each of a name of its own and in two segments."""
+    value = b"".join(b"; n%d*1=y; n%d*0=x" % (number, number) for number in range(count))
+    return of(b"Content-Disposition: inline" + value, disposition="inline", stored_as=PART,
+              disposition_parameters={f"n{number}": "xy" for number in range(count)})
 
 
 def deep(levels):

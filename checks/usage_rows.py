@@ -42,7 +42,7 @@ for command in IN_PLACE:
 
 FLAGS = {
     "sections": ["--json"], "extract": ["--raw", "--head", "--prefix"], "unpack": ["-f", "-t", "--silent", "--paths", "--utf8"],
-    "pack": ["--inline", "--utf8"], "field": ["-s"],
+    "pack": ["--inline", "--utf8"], "field": ["-s"], "messages": ["--json"],
 }
 for command in IN_PLACE:
     FLAGS[command] = [*FLAGS.get(command, []), "--tempfail"]

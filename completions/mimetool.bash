@@ -11,7 +11,7 @@ _mimetool_options() {
         unpack) options='--from -n --rfc4155 --mbox --unquote -f -t -s --silent --paths --utf8 -C --explain -h --help' ;;
         pack) options='-b -m --inline --charset --eol --forward --part --utf8 --explain -h --help' ;;
         field) options='--from --in-place --wait --tempfail -p --prepend --drop --rename -a -A -i -I -u -U -x -X --unfold --decode --encode --eol --refused-ok -s --rfc4155 --mbox --explain -h --help' ;;
-        messages) options='--from --rfc4155 --mbox -h --help' ;;
+        messages) options='--from --json --rfc4155 --mbox -h --help' ;;
         help) options='' ;;
         '') options='-h --help -V --version' ;;
     esac

@@ -25,6 +25,7 @@ complete -c mimetool -n '__fish_seen_subcommand_from edit sections extract unpac
 complete -c mimetool -n '__fish_seen_subcommand_from edit sections extract unpack field messages' -l rfc4155 -d 'Cut the mailbox only at From-lines with a date'
 complete -c mimetool -n '__fish_seen_subcommand_from edit sections extract unpack field messages' -l mbox -x -a 'any date field' -d 'Cut the mailbox at any From-line, or only before a date or a field'
 complete -c mimetool -n '__fish_seen_subcommand_from edit sections extract unpack' -l unquote -d 'Remove one > from lines that begin with >From'
+complete -c mimetool -n '__fish_seen_subcommand_from messages' -l json -d 'Print each message as a JSON object'
 complete -c mimetool -n '__fish_seen_subcommand_from sections' -l json -d 'Print each section as a JSON object'
 complete -c mimetool -n '__fish_seen_subcommand_from sections' -l utf8 -d 'With --json, give the names of unpack --utf8'
 complete -c mimetool -n '__fish_seen_subcommand_from edit' -l all -d 'Make all edits as one step, or none'

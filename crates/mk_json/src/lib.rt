@@ -1,4 +1,4 @@
-//! The listing of a message as JSON, for other programs.
+//! The listings of a message and of a mailbox as JSON, for other programs.
 //!
 //! ```
 //! let text = Vec::from_slice(alloc, b"A: b\n\nx\n")?;
@@ -10,9 +10,15 @@
 //!
 //! The example is run by `a_document_is_listed_as_json` in `mk_tool/src/tests/examples.rt`.
 //!
-//! Tests: `mk_tool/src/tests/commands.rt`; `checks/listing` compares it with the listing and with what is unpacked.
+//! Tests: `mk_tool/src/tests/commands.rt`, `mk_tool/src/tests/mailboxes.rt`; `checks/listing` compares it with the listings and
+//! with what is unpacked.
 #![tactic(auto)]
 
+mod content_ids;
 mod listing;
+mod messages;
+mod parameters;
+mod strings;
 
 pub use listing::{list, list_in};
+pub use messages::{ObjectLine, try_messages};

@@ -1,10 +1,12 @@
 //! A JSON object for each section of a document.
 
+use crate::content_ids::push_content_id;
+use crate::parameters::push_parameters;
+use crate::strings::{push_key, push_member, push_string};
 use mk_head::{content_type, is_token};
 use mk_line::leading_blanks;
 use mk_tree::{Children, Doc, Kind, Section};
 use mk_view::{Described, ExtractError, Leaf, NameForm, content_size, leaves_in};
-use serde_json::Value;
 use std::alloc::{AllocError, Global};
 
 const LINE_FEED: u8 = b'\n';
@@ -36,8 +38,8 @@ const WORDS: usize = 4;
 
 /// Lists the sections of a document as JSON, an object a line, in the order of `mk_view::list` and with its words and
 /// numbers. After those stand, where a section has them, its boundary, its charset, its disposition, the name that its fields
-/// say, as a text and as it stands there, the name that it would be stored under, and the size of its decoded content. Bytes
-/// that aren't UTF-8 become U+FFFD. Own format.
+/// say, as a text and as it stands there, the name that it would be stored under, the size of its decoded content, its
+/// Content-ID and the parameters of its disposition. Bytes that aren't UTF-8 become U+FFFD. Own format.
 pub fn list(alloc: Global, doc: &Doc) -> Result<Vec<u8>, AllocError> {
     list_in(alloc, doc, NameForm::Plain)
 }
@@ -106,13 +108,35 @@ fn push_object(
 ) -> Result<(), AllocError> {
     push_columns(alloc, text, line)?;
     push_member(alloc, text, "boundary", section.boundary())?;
-    push_described(alloc, text, &Described::read(alloc, section)?)?;
+    push_others(
+        alloc,
+        text,
+        section,
+        &Described::read(alloc, section)?,
+        leaf,
+    )?;
+    text.extend_from_slice(b"}\n")?;
+    Ok(())
+}
+
+// Writes the members after the boundary, where the header of a section is read.
+fn push_others(
+    alloc: Global,
+    text: &mut Vec<u8>,
+    section: &Section<'_>,
+    described: &Described,
+    leaf: Option<&Leaf<'_>>,
+) -> Result<(), AllocError> {
+    push_described(alloc, text, described)?;
     if let Some(leaf) = leaf {
         push_member(alloc, text, "stored_as", Some(&leaf.name))?;
         push_size(alloc, text, section)?;
     }
-    text.extend_from_slice(b"}\n")?;
-    Ok(())
+    push_content_id(alloc, text, section)?;
+    match &described.disposition {
+        Some(disposition) => push_parameters(alloc, text, &disposition.parameters.params),
+        None => Ok(()),
+    }
 }
 
 // Writes what the header of a section says: its charset, its disposition, and its name as a text, else as it stands there, and
@@ -196,43 +220,4 @@ fn push_columns(alloc: Global, text: &mut Vec<u8>, line: &[u8]) -> Result<(), Al
         before = b',';
     }
     Ok(())
-}
-
-// Writes a member after others, where there is a value.
-fn push_member(
-    alloc: Global,
-    text: &mut Vec<u8>,
-    key: &str,
-    value: Option<&[u8]>,
-) -> Result<(), AllocError> {
-    if let Some(value) = value {
-        text.push(b',')?;
-        push_key(text, key)?;
-        push_string(alloc, text, value)?;
-    }
-    Ok(())
-}
-
-fn push_key(text: &mut Vec<u8>, key: &str) -> Result<(), AllocError> {
-    text.push(b'"')?;
-    text.extend_from_slice(key.as_bytes())?;
-    text.extend_from_slice(b"\":")?;
-    Ok(())
-}
-
-// Writes bytes as a string. Most have nothing that JSON escapes.
-fn push_string(alloc: Global, text: &mut Vec<u8>, bytes: &[u8]) -> Result<(), AllocError> {
-    if bytes.iter().all(|byte| stands_for_itself(*byte)) {
-        text.push(b'"')?;
-        text.extend_from_slice(bytes)?;
-        text.push(b'"')?;
-        return Ok(());
-    }
-    let string = Value::String(String::from_utf8_lossy(alloc, bytes)?);
-    text.extend_from_slice(string.to_string(alloc)?.as_bytes())
-}
-
-// Whether a byte is written in a string as it is: printable ASCII, but for quotes and backslashes (RFC 8259, 7).
-fn stands_for_itself(byte: u8) -> bool {
-    byte >= b' ' && byte <= b'~' && byte != b'"' && byte != b'\\'
 }

@@ -25,7 +25,7 @@ pub message_sliced : (way : FromLines) (text : List ℕ) (before : List (List �
     → (mailbox_listing way text ≡ lines_from 1 0 before ++ (message_line (length before + 1) (start_after before) message ++ lines_from (length before + 2) (start_after before + length message) after))
     × (take (length message) (drop (start_after before) text) ≡ message)
 message_sliced way text before message after e = (
-  ap (lines_from 1 0) e ∙ (lines_append 1 0 before (message ∷ after) ∙ ap (λ x. lines_from 1 0 before ++ x) (λ i. message_line (number_is i) (start_is i) message ++ lines_from (next_is i) (end_is i) after)),
+  ap (lines_from 1 0) e ∙ (lines_append message_line 1 0 before (message ∷ after) ∙ ap (λ x. lines_from 1 0 before ++ x) (λ i. message_line (number_is i) (start_is i) message ++ lines_from (next_is i) (end_is i) after)),
   ap (λ t. take (length message) (drop (start_after before) t)) text_is
       ∙ (ap (take (length message)) (drop_at (flat_map (λ p. p) before) (message ++ flat_map (λ p. p) after) (start_after before) refl)
       ∙ take_at message (flat_map (λ p. p) after) (length message) refl),

@@ -14,11 +14,13 @@
 
 mod in_memory;
 pub mod laws;
+mod lines;
 mod listing;
 mod picking;
 mod taken_out;
 
 pub use in_memory::InMemory;
-pub use listing::try_messages;
+pub use lines::{MessageLine, PlainLine, count_sections};
+pub use listing::{try_lines, try_messages};
 pub use picking::{pick, report_missing};
 pub use taken_out::{unmarked, without_separator};

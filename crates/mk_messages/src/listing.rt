@@ -1,17 +1,15 @@
-//! The messages of a mailbox, listed.
-ghost use Rattle.std.specs.Prelude.{◌≡◌, ◌<◌, ◌+◌, ◌^◌, [], List, ℕ, length, true, false, IfErr, IfOk, MatchResult, OnErr, OnOk};
+//! The messages of a mailbox, listed by a line for each.
+ghost use Rattle.std.specs.Prelude.{◌≡◌, ◌<◌, ◌+◌, ◌^◌, [], List, ℕ, length, false, IfErr, IfOk, MatchResult, OnErr, OnOk};
 ghost use Rattle.std.specs.Io.KnownBytes.{Appends, Consumes, IsAtEnd};
 ghost use Rattle.mk_line.specs.Meters.{ticked};
 ghost use Rattle.mk_mailbox.specs.Devices.{AppendsFront};
-ghost use Rattle.mk_messages.specs.MessageLines.{mailbox_listing, message_line as line_of, section_count};
+ghost use Rattle.mk_messages.specs.MessageLines.{mailbox_lines, mailbox_listing};
 ghost use Rattle.mk_transfer.specs.RunClauses.{IsBlamed, SameFailures, Sends, counts};
 
-use mk_line::line_count;
+use crate::lines::{MessageLine, PlainLine};
 use mk_mailbox::{FromLines, MailFault, Mailbox, Sink, Source};
 use mk_transfer::{Cause, Stop, finish, send, writing};
-use mk_tree::Doc;
-use mk_view::list;
-use std::alloc::{AllocError, Global};
+use std::alloc::Global;
 
 /// Lists the messages of the mailbox that the input gives, one per line: its number from 1, where it begins and where it ends
 /// in bytes from 0, and how many sections it has. Each line goes out before the next message is read. Then the output is
@@ -36,7 +34,32 @@ pub fn try_messages<S: Source, O: Sink>(
     ensures finished { OnOk result (O.finishes out.new ≡ ticked (O.finishes out.old)) }
     ensures unfinished { OnErr result (O.finishes out.new ≡ O.finishes out.old) }
 {
-    list_each(alloc, input, out, from_lines)?;
+    try_lines(alloc, input, out, from_lines, &PlainLine)
+}
+
+/// The same with lines of another kind.
+pub fn try_lines<L: MessageLine, S: Source, O: Sink>(
+    alloc: Global,
+    input: &mut S,
+    out: &mut O,
+    from_lines: FromLines,
+    lines: &L,
+) -> Result<(), Cause>
+    ensures listed { (text : List ℕ) × Consumes (S.remaining input.old) (S.remaining input.new) text
+        × MatchResult result
+        (λ _. Appends (O.contents out.old) (O.contents out.new) (mailbox_lines (L.text lines.now) from_lines text))
+        (λ _. AppendsFront (O.contents out.old) (O.contents out.new) (mailbox_lines (L.text lines.now) from_lines text)) }
+    ensures ended { OnOk result (IsAtEnd (S.remaining input.new)) }
+    ensures blamed { IfErr result (λ cause. IsBlamed cause
+        (counts (S.failures input.old) (S.read_count input.old) (O.failures out.old) 0)
+        (counts (S.failures input.new) (S.read_count input.new) (O.failures out.new) 0)) }
+    ensures clean { OnOk result (SameFailures
+        (counts (S.failures input.old) (S.read_count input.old) (O.failures out.old) 0)
+        (counts (S.failures input.new) (S.read_count input.new) (O.failures out.new) 0)) }
+    ensures finished { OnOk result (O.finishes out.new ≡ ticked (O.finishes out.old)) }
+    ensures unfinished { OnErr result (O.finishes out.new ≡ O.finishes out.old) }
+{
+    list_each(alloc, input, out, from_lines, lines)?;
     match finish(out) {
         Ok(()) => Ok(()),
         Err(stop) => Err(writing(stop)),
@@ -44,16 +67,17 @@ pub fn try_messages<S: Source, O: Sink>(
 }
 
 // Lists the messages up to a cause to give up.
-fn list_each<S: Source, O: Sink>(
+fn list_each<L: MessageLine, S: Source, O: Sink>(
     alloc: Global,
     input: &mut S,
     out: &mut O,
     from_lines: FromLines,
+    lines: &L,
 ) -> Result<(), Cause>
     ensures listed { (text : List ℕ) × Consumes (S.remaining input.old) (S.remaining input.new) text
         × MatchResult result
-        (λ _. Appends (O.contents out.old) (O.contents out.new) (mailbox_listing from_lines text))
-        (λ _. AppendsFront (O.contents out.old) (O.contents out.new) (mailbox_listing from_lines text)) }
+        (λ _. Appends (O.contents out.old) (O.contents out.new) (mailbox_lines (L.text lines.now) from_lines text))
+        (λ _. AppendsFront (O.contents out.old) (O.contents out.new) (mailbox_lines (L.text lines.now) from_lines text)) }
     ensures ended { OnOk result (IsAtEnd (S.remaining input.new)) }
     ensures blamed { IfErr result (λ cause. IsBlamed cause
         (counts (S.failures input.old) (S.read_count input.old) (O.failures out.old) 0)
@@ -69,24 +93,26 @@ fn list_each<S: Source, O: Sink>(
         input,
         out,
         from_lines,
+        lines,
     )
 }
 
 // The same for a mailbox of which nothing was read.
-fn list_in<S: Source, O: Sink>(
+fn list_in<L: MessageLine, S: Source, O: Sink>(
     alloc: Global,
     mailbox: &mut Mailbox,
     input: &mut S,
     out: &mut O,
     from_lines: FromLines,
+    lines: &L,
 ) -> Result<(), Cause>
     requires kept { mailbox.old.kept ≡ [] }
     requires ended { mailbox.old.ended ≡ false }
     requires from_lines { mailbox.old.from_lines ≡ from_lines }
     ensures listed { (text : List ℕ) × Consumes (S.remaining input.old) (S.remaining input.new) text
         × MatchResult result
-        (λ _. Appends (O.contents out.old) (O.contents out.new) (mailbox_listing from_lines text))
-        (λ _. AppendsFront (O.contents out.old) (O.contents out.new) (mailbox_listing from_lines text)) }
+        (λ _. Appends (O.contents out.old) (O.contents out.new) (mailbox_lines (L.text lines.now) from_lines text))
+        (λ _. AppendsFront (O.contents out.old) (O.contents out.new) (mailbox_lines (L.text lines.now) from_lines text)) }
     ensures ended { OnOk result (IsAtEnd (S.remaining input.new)) }
     ensures blamed { IfErr result (λ cause. IsBlamed cause
         (counts (S.failures input.old) (S.read_count input.old) (O.failures out.old) 0)
@@ -103,7 +129,7 @@ fn list_in<S: Source, O: Sink>(
                 let Some(end) = start.checked_add(message.len() as u64) else {
                     return Err(Cause::Read);
                 };
-                match list_message(alloc, out, turn + 1, start, message) {
+                match list_message(alloc, out, lines, turn + 1, start, message) {
                     Ok(()) => start = end,
                     Err(stop) => return Err(writing(stop)),
                 }
@@ -117,45 +143,21 @@ fn list_in<S: Source, O: Sink>(
 }
 
 // Writes the line of a message that begins at a place.
-fn list_message<O: Sink>(
+fn list_message<L: MessageLine, O: Sink>(
     alloc: Global,
     out: &mut O,
+    lines: &L,
     number: u64,
     start: u64,
     message: Vec<u8>,
 ) -> Result<(), Stop>
     requires { start + length message.items < 2 ^ 64 }
-    ensures sends { Sends result (line_of number start message.items)
+    ensures sends { Sends result (L.text lines.now number start message.items)
         (O.contents out.old) (O.contents out.new) (O.failures out.old) (O.failures out.new) }
     ensures unfinished { O.finishes out.new ≡ O.finishes out.old }
 {
-    match message_line(alloc, number, start, message) {
+    match lines.line(alloc, number, start, message) {
         Ok(line) => send(out, &line),
         Err(_) => Err(Stop::Memory),
-    }
-}
-
-// The line of a message that begins at a place.
-fn message_line(
-    alloc: Global,
-    number: u64,
-    start: u64,
-    message: Vec<u8>,
-) -> Result<Vec<u8>, AllocError>
-    requires { start + length message.items < 2 ^ 64 }
-    ensures { IfOk result (λ line. line.items ≡ line_of number start message.items) }
-{
-    let end = start + message.len() as u64;
-    let sections = count_sections(alloc, message)?;
-    Ok(format!(in alloc; "{number} {start} {end} {sections}\n")?.into_bytes())
-}
-
-// How many sections a message has.
-fn count_sections(alloc: Global, message: Vec<u8>) -> Result<usize, AllocError>
-    ensures { IfOk result (λ count. count ≡ section_count message.items) }
-{
-    match Doc::read(alloc, message) {
-        Ok(doc) => Ok(line_count(&list(alloc, &doc)?)),
-        Err(_) => Err(AllocError),
     }
 }

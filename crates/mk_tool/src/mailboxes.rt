@@ -6,7 +6,7 @@ use mk_asked::{from_lines, message_number};
 use mk_mail::{FromLines, Sink, Source};
 use mk_messages::{pick, report_missing, try_messages, unmarked, without_separator};
 use mk_run::{Cause, Status, Stop};
-use mk_words::options::{NUMBER, UNQUOTE};
+use mk_words::options::{JSON, NUMBER, UNQUOTE};
 use std::alloc::{AllocError, Global};
 
 /// The message that a command works on.
@@ -27,12 +27,12 @@ pub fn messages<S: Source, O: Sink>(
     input: &mut S,
     out: &mut O,
 ) -> Result<Status, Problem> {
-    try_messages(
-        alloc,
-        input,
-        out,
-        from_lines(matches).unwrap_or(FromLines::Any),
-    )?;
+    let from_lines = from_lines(matches).unwrap_or(FromLines::Any);
+    if matches.get_flag(JSON) {
+        mk_json::try_messages(alloc, input, out, from_lines)?;
+    } else {
+        try_messages(alloc, input, out, from_lines)?;
+    }
     Ok(Status::Well)
 }
 

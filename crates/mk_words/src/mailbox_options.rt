@@ -1,15 +1,25 @@
 //! The words on mailboxes.
 
 use crate::arguments::{Argument, FLAG, OPTION, Subcommand};
-use crate::options::{MBOX, MESSAGES, NUMBER, RFC4155, UNQUOTE};
+use crate::options::{JSON, MBOX, MESSAGES, NUMBER, RFC4155, UNQUOTE};
 use crate::shared_options::FROM_OPTION;
 
-/// mimetool messages [--from FILE] [--rfc4155|--mbox HOW]
+/// mimetool messages [--from FILE] [--json] [--rfc4155|--mbox HOW]
 pub static MESSAGES_COMMAND: Subcommand = Subcommand {
     name: MESSAGES,
     about: "Lists the messages of a mailbox, one per line",
-    after_help: "Examples:\n  mimetool messages < mailbox\n  mimetool messages --mbox=date --from mailbox",
-    arguments: &[FROM_OPTION, RFC4155_OPTION, MBOX_OPTION],
+    after_help: "Examples:\n  mimetool messages < mailbox\n  mimetool messages --mbox=date --from mailbox\n  mimetool messages --json < mailbox",
+    arguments: &[
+        FROM_OPTION,
+        Argument {
+            id: JSON,
+            long: Some(JSON),
+            help: "Print a JSON object for each message",
+            ..FLAG
+        },
+        RFC4155_OPTION,
+        MBOX_OPTION,
+    ],
 };
 
 /// -n N

@@ -22,25 +22,31 @@ status: Well
 == names and charsets as JSON
 words: sections|--json
 message: Content-Type: multipart/mixed; boundary=b\n\n--b\nContent-Type: text/plain; charset="utf-8"; name="a\\"b"\n\none\n--b\nContent-Disposition: attachment; filename="n\xe9.txt"\nContent-Type: text/plain; name=other\n\ntwo\n--b\n\n--b--\n
-output: {"path":"1","kind":"multi","type":"multipart/mixed","encoding":"identity","start":0,"body":43,"end":215,"field_lines":1,"body_lines":12,"boundary":"b"}\n{"path":"1.1","kind":"leaf","type":"text/plain","encoding":"identity","start":47,"body":103,"end":107,"field_lines":1,"body_lines":1,"charset":"utf-8","filename":"a\\"b","raw_filename":"a\\"b","stored_as":"a_b","size":3}\n{"path":"1.2","kind":"leaf","type":"text/plain","encoding":"identity","start":111,"body":200,"end":204,"field_lines":2,"body_lines":1,"disposition":"attachment","filename":"other","raw_filename":"n\xef\xbf\xbd.txt","stored_as":"n_.txt","size":3}\n{"path":"1.3","kind":"leaf","type":"text/plain","encoding":"identity","start":208,"body":209,"end":209,"field_lines":0,"body_lines":0,"stored_as":"part-1.3","size":0}\n
+output: {"path":"1","kind":"multi","type":"multipart/mixed","encoding":"identity","start":0,"body":43,"end":215,"field_lines":1,"body_lines":12,"boundary":"b"}\n{"path":"1.1","kind":"leaf","type":"text/plain","encoding":"identity","start":47,"body":103,"end":107,"field_lines":1,"body_lines":1,"charset":"utf-8","filename":"a\\"b","raw_filename":"a\\"b","stored_as":"a_b","size":3}\n{"path":"1.2","kind":"leaf","type":"text/plain","encoding":"identity","start":111,"body":200,"end":204,"field_lines":2,"body_lines":1,"disposition":"attachment","filename":"other","raw_filename":"n\xef\xbf\xbd.txt","stored_as":"n_.txt","size":3,"disposition_parameters":{"filename":"n\xef\xbf\xbd.txt"}}\n{"path":"1.3","kind":"leaf","type":"text/plain","encoding":"identity","start":208,"body":209,"end":209,"field_lines":0,"body_lines":0,"stored_as":"part-1.3","size":0}\n
 status: Well
 
 == a name with a charset as JSON
 words: sections|--json
 message: Content-Disposition: inline; filename*=iso-8859-1''caf%E9%20.txt\n\nx\n
-output: {"path":"1","kind":"leaf","type":"text/plain","encoding":"identity","start":0,"body":66,"end":68,"field_lines":1,"body_lines":1,"disposition":"inline","filename":"caf\xc3\xa9 .txt","stored_as":"part-1","size":2}\n
+output: {"path":"1","kind":"leaf","type":"text/plain","encoding":"identity","start":0,"body":66,"end":68,"field_lines":1,"body_lines":1,"disposition":"inline","filename":"caf\xc3\xa9 .txt","stored_as":"part-1","size":2,"disposition_parameters":{"filename":"caf\xc3\xa9 .txt"}}\n
 status: Well
 
 == dispositions, and sizes where contents are decoded, as JSON
 words: sections|--json
 message: Content-Type: multipart/mixed; boundary=b\n\n--b\nContent-Disposition: (a;) INline (b) ; x=y\nContent-Transfer-Encoding: base64\n\naGk=\n--b\nContent-Disposition: "inline"\nContent-Transfer-Encoding: base64\n\na\n--b--\n
-output: {"path":"1","kind":"multi","type":"multipart/mixed","encoding":"identity","start":0,"body":43,"end":207,"field_lines":1,"body_lines":11,"boundary":"b"}\n{"path":"1.1","kind":"leaf","type":"text/plain","encoding":"base64","start":47,"body":125,"end":130,"field_lines":2,"body_lines":1,"disposition":"inline","stored_as":"part-1.1","size":2}\n{"path":"1.2","kind":"leaf","type":"text/plain","encoding":"base64","start":134,"body":199,"end":201,"field_lines":2,"body_lines":1,"stored_as":"part-1.2"}\n
+output: {"path":"1","kind":"multi","type":"multipart/mixed","encoding":"identity","start":0,"body":43,"end":207,"field_lines":1,"body_lines":11,"boundary":"b"}\n{"path":"1.1","kind":"leaf","type":"text/plain","encoding":"base64","start":47,"body":125,"end":130,"field_lines":2,"body_lines":1,"disposition":"inline","stored_as":"part-1.1","size":2,"disposition_parameters":{"x":"y"}}\n{"path":"1.2","kind":"leaf","type":"text/plain","encoding":"base64","start":134,"body":199,"end":201,"field_lines":2,"body_lines":1,"stored_as":"part-1.2"}\n
+status: Well
+
+== a Content-ID and parameters in segments as JSON
+words: sections|--json
+message: Content-ID: (a) <b@c>\nContent-Disposition: inline; size=2; x*0="a "; X*1*=%62\n\nx\n
+output: {"path":"1","kind":"leaf","type":"text/plain","encoding":"identity","start":0,"body":79,"end":81,"field_lines":2,"body_lines":1,"disposition":"inline","stored_as":"part-1","size":2,"content_id":"b@c","disposition_parameters":{"size":"2","x":"a b"}}\n
 status: Well
 
 == the name that it gets in UTF-8
 words: sections|--utf8|--json
 message: Content-Disposition: inline; filename*=iso-8859-1''caf%E9%20.txt\n\nx\n
-output: {"path":"1","kind":"leaf","type":"text/plain","encoding":"identity","start":0,"body":66,"end":68,"field_lines":1,"body_lines":1,"disposition":"inline","filename":"caf\xc3\xa9 .txt","stored_as":"caf\xc3\xa9_.txt","size":2}\n
+output: {"path":"1","kind":"leaf","type":"text/plain","encoding":"identity","start":0,"body":66,"end":68,"field_lines":1,"body_lines":1,"disposition":"inline","filename":"caf\xc3\xa9 .txt","stored_as":"caf\xc3\xa9_.txt","size":2,"disposition_parameters":{"filename":"caf\xc3\xa9 .txt"}}\n
 status: Well
 
 == edits one by one

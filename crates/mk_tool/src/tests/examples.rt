@@ -1,6 +1,7 @@
-//! The examples at the roots of mk_json, mk_words and mk_tool. Expected values are from docs/FORMATS.md and the help.
+//! The examples at the roots of mk_json, mk_words, mk_asked and mk_tool. Expected values are from docs/FORMATS.md and the help.
 
 use super::obeyed;
+use mk_asked::why_invalid;
 use mk_tree::Doc;
 use mk_words::options::{EXTRACT, PATH, command};
 use mk_words::reasons::told;
@@ -33,6 +34,18 @@ fn words_have_a_subcommand(rt: HostRuntime) -> Result<(), Fail> {
     let reason = told(EXTRACT, b"1.2: NoSuchSection");
     let (about, _) = reason.expect(&rt, "a reason");
     assert_eq!(rt; about, b"1.2: ".as_slice());
+    Ok(())
+}
+
+#[test]
+fn an_invalid_word_is_told(rt: HostRuntime) -> Result<(), Fail> {
+    let alloc = rt.alloc();
+    let words = ["mimetool", "extract", "-s", "1.x"];
+    let matches = command(alloc)?.try_get_matches_from(&words)?;
+    let (name, options) = matches.subcommand().expect(&rt, "a subcommand");
+    let sentence = why_invalid(alloc, name, options)?.expect(&rt, "a sentence");
+    let begun = "invalid value '1.x' for '-s <PATH>': ";
+    assert!(rt; sentence.as_str().starts_with(begun));
     Ok(())
 }
 

@@ -10,6 +10,18 @@ message: From a\nA: 1\n\nx\n\nFrom b\nContent-Type: message/rfc822\n\nA: b\n\ny\
 output: 1 0 16 1\n2 16 61 2\n
 status: Well
 
+== the messages as JSON
+words: messages|--json
+message: From a\nSUBJECT: =?iso-8859-1?Q?caf=E9?=\n "x"\nSubject: t\n\nx\n\nFrom b\nContent-Type: message/rfc822\nIn-Reply-To: <1@a> \xff\n\nTo: b\n\ny\n
+output: {"number":1,"start":0,"end":60,"sections":1,"subject":"caf\xc3\xa9 \\"x\\""}\n{"number":2,"start":60,"end":127,"sections":2,"in_reply_to":"<1@a> \xef\xbf\xbd"}\n
+status: Well
+
+== all that is said of a message as JSON
+words: messages|--rfc4155|--json
+message: In-Reply-To: <1@a>\nMessage-ID: <2@a>\nDate: Fri, 8 Jul 2011\nSubject:\nTo: b@a\nFrom: "C" <c@a>\n\nx\n\nFrom here on\n
+output: {"number":1,"start":0,"end":109,"sections":1,"from":"\\"C\\" <c@a>","to":"b@a","subject":"","date":"Fri, 8 Jul 2011","message_id":"<2@a>","in_reply_to":"<1@a>"}\n
+status: Well
+
 == none
 words: messages
 message:

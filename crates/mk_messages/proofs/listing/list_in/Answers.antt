@@ -22,7 +22,7 @@ pub returns-in_default-clause-listed : goal.returns-in_default-clause-listed
 returns-in_default-clause-listed g c =
     let t = c.loop-turn.invariant.told in
     let e = c.next.ensures.exact in
-    (t.0 ++ e.0, Consumes-trans _ _ _ t.0 e.0 t.2 e.1, stopped_between c.args.from_lines (t.0 ++ e.0) t.1 _ _ _ (taken_all c.args.from_lines t.0 e.0 t.1 c.loop-turn.mailbox t.3 e.2.over) t.6)
+    (t.0 ++ e.0, Consumes-trans _ _ _ t.0 e.0 t.2 e.1, stopped_between (g.L.MessageLine.text c.args.lines.now) c.args.from_lines (t.0 ++ e.0) t.1 _ _ _ (taken_all c.args.from_lines t.0 e.0 t.1 c.loop-turn.mailbox t.3 e.2.over) t.6)
 
 pub returns-in-Err-clause-listed : goal.returns-in-Err-clause-listed
 returns-in-Err-clause-listed g c =
@@ -32,7 +32,7 @@ returns-in-Err-clause-listed g c =
     let m = c.in-Ok-Some.message.items in (
       t.0 ++ e.0,
       Consumes-trans _ _ _ t.0 e.0 t.2 e.1,
-      stopped_within way c.loop-turn.turn c.loop-turn.start (t.0 ++ e.0) m t.1 (mailbox_pieces way (c.next.new.self.kept ++ [])) _ _ _ t.4 t.5
+      stopped_within (g.L.MessageLine.text c.args.lines.now) way c.loop-turn.turn c.loop-turn.start (t.0 ++ e.0) m t.1 (mailbox_pieces way (c.next.new.self.kept ++ [])) _ _ _ t.4 t.5
           (ap (mailbox_pieces way) (sym (append-nil (t.0 ++ e.0)))
           ∙ taken_next way t.0 e.0 m t.1 c.loop-turn.mailbox c.next.new.self t.3 e.2.over e.2.stays c.loop-turn.invariant.same e.2.reply [] (λ _. refl))
           t.6 c.in-Err.ensures.sends.front,
@@ -52,25 +52,25 @@ returns-in-Ok-None-clause-listed g c =
     let e = rw c.in-Ok-None.field-0-is at c.in-Ok-None.ensures.exact in (
       t.0 ++ e.0,
       Consumes-trans _ _ _ t.0 e.0 t.2 e.1,
-      listed_all c.args.from_lines (t.0 ++ e.0) t.1 _ _ (all_taken c.args.from_lines t.0 e.0 t.1 c.loop-turn.mailbox c.next.new.self t.3 e.2.over e.2.reply) t.6,
+      listed_all (g.L.MessageLine.text c.args.lines.now) c.args.from_lines (t.0 ++ e.0) t.1 _ _ (all_taken c.args.from_lines t.0 e.0 t.1 c.loop-turn.mailbox c.next.new.self t.3 e.2.over e.2.reply) t.6,
     )
 
 pub returns-in-Err-ReadFault-clause-listed : goal.returns-in-Err-ReadFault-clause-listed
 returns-in-Err-ReadFault-clause-listed g c =
     let t = c.loop-turn.invariant.told in
     let e = c.next.ensures.exact in
-    (t.0 ++ e.0, Consumes-trans _ _ _ t.0 e.0 t.2 e.1, stopped_between c.args.from_lines (t.0 ++ e.0) t.1 _ _ _ (taken_all c.args.from_lines t.0 e.0 t.1 c.loop-turn.mailbox t.3 e.2.over) t.6)
+    (t.0 ++ e.0, Consumes-trans _ _ _ t.0 e.0 t.2 e.1, stopped_between (g.L.MessageLine.text c.args.lines.now) c.args.from_lines (t.0 ++ e.0) t.1 _ _ _ (taken_all c.args.from_lines t.0 e.0 t.1 c.loop-turn.mailbox t.3 e.2.over) t.6)
 
 pub returns-in-Err-Memory-clause-listed : goal.returns-in-Err-Memory-clause-listed
 returns-in-Err-Memory-clause-listed g c =
     let t = c.loop-turn.invariant.told in
     let e = c.next.ensures.exact in
-    (t.0 ++ e.0, Consumes-trans _ _ _ t.0 e.0 t.2 e.1, stopped_between c.args.from_lines (t.0 ++ e.0) t.1 _ _ _ (taken_all c.args.from_lines t.0 e.0 t.1 c.loop-turn.mailbox t.3 e.2.over) t.6)
+    (t.0 ++ e.0, Consumes-trans _ _ _ t.0 e.0 t.2 e.1, stopped_between (g.L.MessageLine.text c.args.lines.now) c.args.from_lines (t.0 ++ e.0) t.1 _ _ _ (taken_all c.args.from_lines t.0 e.0 t.1 c.loop-turn.mailbox t.3 e.2.over) t.6)
 
 pub returns-clause-listed : goal.returns-clause-listed
 returns-clause-listed g c =
     let t = c.loop-turn.invariant.told in
-    (t.0, t.2, stopped_here c.args.from_lines t.0 t.1 c.loop-turn.mailbox _ _ t.3 t.6)
+    (t.0, t.2, stopped_here (g.L.MessageLine.text c.args.lines.now) c.args.from_lines t.0 t.1 c.loop-turn.mailbox _ _ t.3 t.6)
 
 pub loop-turn-preserved : goal.loop-turn-preserved
 loop-turn-preserved g c =
@@ -85,7 +85,7 @@ loop-turn-preserved g c =
         one_taken c.args.from_lines t.0 e.0 m t.1 c.loop-turn.mailbox c.next.new.self t.3 e.2.over e.2.stays c.loop-turn.invariant.same e.2.reply,
         omega (arith, t.4, length-append t.1 (m ∷ [])),
         omega (arith, t.5, size_more t.1 m, c.in-Some.ensures),
-        line_out c.loop-turn.turn c.loop-turn.start m t.1 _ _ _ t.4 t.5 t.6 c.in-Ok.ensures.sends.whole,
+        line_out (g.L.MessageLine.text c.args.lines.now) c.loop-turn.turn c.loop-turn.start m t.1 _ _ _ t.4 t.5 t.6 c.in-Ok.ensures.sends.whole,
       );
       ended = λ n. elim (c.next.ensures.ended n) [
         | inl old ↦ subst IsAtEnd (sym (c.next.ensures.idle old).0) (c.loop-turn.invariant.ended old)

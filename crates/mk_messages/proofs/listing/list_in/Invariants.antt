@@ -3,7 +3,7 @@ use Rattle.std.specs.Io.KnownBytes.{Appends, Consumes, IsAtEnd}
 use Rattle.mk_mailbox.specs.Devices.{IsFull}
 use Rattle.mk_mailbox.specs.Mailboxes.{read_limit}
 use Rattle.mk_transfer.specs.RunClauses.{SameFailures, counts}
-use Rattle.mk_messages.specs.MessageLines.{lines_from}
+use Rattle.mk_messages.specs.MessageLines.{lines_by}
 use Rattle.mk_messages.proofs.Taken.{AreTaken, size_of}
 use Rattle.mk_messages.proofs.listing.list_in.Given as goal
 
@@ -11,7 +11,7 @@ abbrev pub invariant-loop-turn : goal.invariant-loop-turn
 invariant-loop-turn g l = record {
   told : (text : List ℕ) × (done : List (List ℕ)) × Consumes (g.S.Source.remaining l.fn.input) (g.S.Source.remaining l.input) text
       × AreTaken l.fn.from_lines text done l.mailbox × (l.turn ≡ length done) × (l.start ≡ size_of done)
-      × Appends (g.O.Sink.contents l.fn.out) (g.O.Sink.contents l.out) (lines_from 1 0 done);
+      × Appends (g.O.Sink.contents l.fn.out) (g.O.Sink.contents l.out) (lines_by (g.L.MessageLine.text l.fn.lines) 1 0 done);
   ended : l.mailbox.ended ≡ true → IsAtEnd (g.S.Source.remaining l.input);
   same : l.mailbox.from_lines ≡ l.fn.from_lines;
   well : SameFailures

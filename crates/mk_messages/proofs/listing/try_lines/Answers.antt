@@ -1,15 +1,15 @@
 use Rattle.std.proofs.Common.{refl}
 use Rattle.mk_transfer.proofs.Fronts.{AppendsFront-whole}
 use Rattle.std.proofs.KnownBytes.{Appends-kept}
-use Rattle.mk_messages.specs.MessageLines.{mailbox_listing}
+use Rattle.mk_messages.specs.MessageLines.{mailbox_lines}
 use Rattle.mk_messages.proofs.Listed.{not_both_stops, sending_blamed}
 use Rattle.mk_transfer.specs.RunClauses.{counts}
-use Rattle.mk_messages.proofs.listing.try_messages.Goals as goal
+use Rattle.mk_messages.proofs.listing.try_lines.Goals as goal
 
 pub returns-in-Err-clause-listed : goal.returns-in-Err-clause-listed
 returns-in-Err-clause-listed g c =
     let left = c.in_ok-list_each.ensures.listed in
-    (left.0, left.1, AppendsFront-whole _ _ (mailbox_listing c.args.from_lines left.0) (Appends-kept _ _ _ (mailbox_listing c.args.from_lines left.0) left.2 c.in-Err.ensures.kept))
+    (left.0, left.1, AppendsFront-whole _ _ (mailbox_lines (g.L.MessageLine.text c.args.lines.now) c.args.from_lines left.0) (Appends-kept _ _ _ (mailbox_lines (g.L.MessageLine.text c.args.lines.now) c.args.from_lines left.0) left.2 c.in-Err.ensures.kept))
 
 pub returns-in-Err-clause-blamed : goal.returns-in-Err-clause-blamed
 returns-in-Err-clause-blamed g c =
