@@ -1,6 +1,6 @@
 //! A content as it is given: piece by piece, so that what is decoded is never in memory as a whole (RFC 2045, 6).
 
-ghost use Rattle.std.specs.Prelude.{◌≡◌, ◌<◌, [], List, ℕ, Ok, Some, length, true, IfErr, IfOk, OnOk};
+ghost use Rattle.std.specs.Prelude.{◌≡◌, ◌<◌, ◌↔◌, [], List, ℕ, Ok, Some, length, true, IfErr, IfOk, OnOk};
 ghost use Rattle.mk_code.specs.Contents.{IsContent};
 ghost use Rattle.mk_tree.specs.Sections.{content_text};
 ghost use Rattle.mk_view.specs.Extracts.{IsContentOf, IsExtract, IsExtractRefused};
@@ -46,15 +46,21 @@ impl<'a> Content<'a> {
         }
     }
 
-    /// Begins the content of a section in its place, if the section has one: it is judged, and nothing is decoded.
+    /// Begins the content of a section in its place, if the section has one. Nothing is decoded.
     pub fn begin(&mut self, alloc: Global, section: &Section<'a>) -> Result<(), ExtractError>
         ensures begun { OnOk result ((bytes : List ℕ) × IsExtract (Some section.now) bytes × IsLeft self.new bytes) }
         ensures refused { IfErr result (λ error. IsExtractRefused (Some section.now) error) }
     {
-        content_size(alloc, section)?;
         let Ok(encoding) = encoding_of(alloc, section) else {
             return Err(ExtractError::Memory);
         };
+        match encoding {
+            // Every text has a content.
+            Encoding::Identity | Encoding::Qp => {}
+            Encoding::Base64 | Encoding::Other => {
+                content_size(alloc, section)?;
+            }
+        }
         self.encoding = encoding;
         self.rest = section.content();
         self.plain = &[];
@@ -122,7 +128,7 @@ impl<'a> Content<'a> {
 
 // How the content of a section is encoded: only that of a leaf is.
 fn encoding_of(alloc: Global, section: &Section<'_>) -> Result<Encoding, AllocError>
-    ensures { IfOk result (λ encoding. (bytes : List ℕ) → IsContentOf section.now bytes → IsContent encoding (content_text section.now) bytes) }
+    ensures { IfOk result (λ encoding. (bytes : List ℕ) → IsContentOf section.now bytes ↔ IsContent encoding (content_text section.now) bytes) }
 {
     match section.kind() {
         Kind::Leaf => section.encoding(alloc),
