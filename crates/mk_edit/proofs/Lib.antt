@@ -15,6 +15,7 @@ pub mod Gaps
 pub mod PassedNames
 pub mod PassedFields
 pub mod RootEdits
+pub mod HeaderEdits
 pub mod GapFields
 pub mod Saved
 pub mod Loadings

@@ -53,13 +53,13 @@ use Rattle.mk_edit.proofs.PlacesKept.{names_stay, place_stays}
 some_is : (p q : Placed) → ◌≡◌ {A = Option Placed} (Some p) (Some q) → p ≡ q
 some_is p q e = cc
 
-root_placed : (t : Document) → root_of t ≡ placed t.envelope [] t.root
+pub root_placed : (t : Document) → root_of t ≡ placed t.envelope [] t.root
 root_placed t = some_is (root_of t) (placed t.envelope [] t.root) (sections_placed t [])
 
-root_well : (text : List ℕ) → IsWellRead levels false (tree text).root
+pub root_well : (text : List ℕ) → IsWellRead levels false (tree text).root
 root_well text = own_of levels false [] (tree text).root (stable_well (tree text).envelope [] (tree text).root (read_stable text))
 
-abbrev root_site : (text : List ℕ) → IsSite text (1 ∷ []) (root_in text)
+abbrev pub root_site : (text : List ℕ) → IsSite text (1 ∷ []) (root_in text)
 root_site text = record { numbers = []; around = []; path_is = refl; found = refl; placed_is = root_placed (tree text); whole = refl; well = root_well text }
 
 -- the section stays of its kind, and its parts of theirs
@@ -97,12 +97,12 @@ fits_root text edit q i e h c =
     (ends_separated _ _ (entity_head p.entity).separator (cut (body_text p)) e) (kinds_keep text edit q i h c)
 
 -- what is known where no open line would stand before another
-record RootPut (text : List ℕ) (edit : FieldEdit) (q : LinePut) : Type 0 where
-  closed : IsClosed text (1 ∷ []) (root_in text) (root_site text) q
-  fits : fits_at (tree text) [] (root_in text) (put_head (root_in text) q) ≡ true
-  stable : IsStable (put_document text (1 ∷ []) (root_in text) (root_site text) q)
+pub record RootPut (text : List ℕ) (edit : FieldEdit) (q : LinePut) : Type 0 where
+  pub closed : IsClosed text (1 ∷ []) (root_in text) (root_site text) q
+  pub fits : fits_at (tree text) [] (root_in text) (put_head (root_in text) q) ≡ true
+  pub stable : IsStable (put_document text (1 ∷ []) (root_in text) (root_site text) q)
 
-root_put : (text : List ℕ) (edit : FieldEdit) (q : LinePut) → NamesSilent edit → has_separator (entity_head (root_in text).entity).separator ≡ true → IsPutAt edit (root_in text) q
+pub root_put : (text : List ℕ) (edit : FieldEdit) (q : LinePut) → NamesSilent edit → has_separator (entity_head (root_in text).entity).separator ≡ true → IsPutAt edit (root_in text) q
     → opens_at text ((root_in text).start + size q.before) (size q.old) (text_of q.given) ≡ false → RootPut text edit q
 root_put text edit q i e h o =
     let p = root_in text in
@@ -117,7 +117,7 @@ root_put text edit q i e h o =
 answer_fits : (opens fits : Bool) (r : PlainSplice) → opens ≡ false → fits ≡ true → (if opens then Err OpenLine else unless_held None (unless_recut fits r)) ≡ Ok r
 answer_fits opens fits r o f = rw (o, f) refl
 
-answer_root : (text : List ℕ) (edit : FieldEdit) (q : LinePut) → IsPutAt edit (root_in text) q → opens_at text ((root_in text).start + size q.before) (size q.old) (text_of q.given) ≡ false
+pub answer_root : (text : List ℕ) (edit : FieldEdit) (q : LinePut) → IsPutAt edit (root_in text) q → opens_at text ((root_in text).start + size q.before) (size q.old) (text_of q.given) ≡ false
     → fits_at (tree text) [] (root_in text) (put_head (root_in text) q) ≡ true → answer text (1 ∷ []) edit ≡ Ok (put_splice (root_in text) q)
 answer_root text edit q h o f =
     let p = root_in text in
@@ -146,7 +146,7 @@ same_fields fields (multi h b pre ps t) = refl
 sizes : (b old given after kept gone new whole : ℕ) → whole ≡ b + (old + after) → old ≡ gone + kept → given ≡ new + kept → whole - (old - kept) + new ≡ b + (given + after)
 sizes b old given after kept gone new whole w o g = omega (arith, w, o, g)
 
-head_size : (text : List ℕ) (edit : FieldEdit) (q : LinePut) → IsPutAt edit (root_in text) q → length (head_text (root_in text)) ≡ size q.before + (size q.old + size q.after)
+pub head_size : (text : List ℕ) (edit : FieldEdit) (q : LinePut) → IsPutAt edit (root_in text) q → length (head_text (root_in text)) ≡ size q.before + (size q.old + size q.after)
 head_size text edit q h =
     let p = root_in text in
     let i = line_put edit p q h in
@@ -190,7 +190,7 @@ new_lines text edit q h k =
     let read = ap tree (printed_told text path p s q (line_put edit p q h)) ∙ k.stable in
     ap (λ t. cut (head_text (root_of t))) read ∙ (ap (λ ls. cut (text_of ls)) (same_fields (lines_put q) p.entity) ∙ cut_text (lines_put q) (put_are text path edit p s q h k.closed))
 
-replaces_put : (text : List ℕ) (edit : FieldEdit) (q : LinePut) → NamesSilent edit → has_separator (entity_head (root_in text).entity).separator ≡ true → IsPutAt edit (root_in text) q
+pub replaces_put : (text : List ℕ) (edit : FieldEdit) (q : LinePut) → NamesSilent edit → has_separator (entity_head (root_in text).entity).separator ≡ true → IsPutAt edit (root_in text) q
     → opens_at text ((root_in text).start + size q.before) (size q.old) (text_of q.given) ≡ false → IsReplaced text edit q (put_splice (root_in text) q)
 replaces_put text edit q i e h o =
     let k = root_put text edit q i e h o in

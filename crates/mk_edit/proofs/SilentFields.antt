@@ -1,11 +1,12 @@
--- Where a field goes that says nothing of the body, or gets another such name, the kind that the fields say stays.
-use Rattle.std.proofs.Common.{◌≡◌, ◌&&◌, ◌++◌, if◌then◌else◌, ℕ, zero, suc, Bool, true, false, not, Option, None, Some, Result, Ok, Err, List, [], ◌∷◌, refl, ap, sym, ◌∙◌, subst, codes, Bor, IfSome, inl, inr}
+-- Where a field that says nothing of the body comes, goes, is set or gets another such name, the kind that the fields say stays.
+use Rattle.std.proofs.Common.{◌≡◌, ◌&&◌, ◌++◌, append-nil, if◌then◌else◌, ℕ, zero, suc, Bool, true, false, not, Option, None, Some, Result, Ok, Err, List, [], ◌∷◌, refl, ap, sym, ◌∙◌, subst, codes, Bor, IfSome, inl, inr}
 use Rattle.std.proofs.lemmas.Bool.{cases_Bool}
 use Rattle.std.proofs.lemmas.Slice.Eq.{bytes_eq-Decides}
 use Rattle.std.specs.Str.{bytes_eq, str_to_ascii_lowercase}
-use Rattle.mk_line.specs.Lines.{TextLine}
+use Rattle.mk_line.specs.Lines.{TextLine, cut}
 use Rattle.mk_head.specs.Split.{is_start, is_more}
-use Rattle.mk_head.specs.Fields.{continuations, field_text, is_named, name_of, after_more}
+use Rattle.std.specs.List.{list_all}
+use Rattle.mk_head.specs.Fields.{continuations, field_text, is_named, is_one_field, name_of, after_more}
 use Rattle.mk_head.specs.Types.{field_value, type_by}
 use Rattle.std.specs.Option.{option_map_or}
 use Rattle.mk_head.specs.Unfolding.{value_in}
@@ -13,14 +14,15 @@ use Rattle.mk_head.proofs.FieldRuns.{more_start}
 use Rattle.mk_tree.specs.Kinds.{kind, kind_of}
 use Rattle.mk_decide.specs.declared.field_edits.FieldEdit.{FieldEdit}
 use Rattle.mk_decide.specs.declared.field_edits.FieldEdit.TheVariants.{Add, Remove, Rename, Set}
-use Rattle.mk_decide.specs.Edits.{Refusal, BadName}
+use Rattle.mk_decide.specs.Edits.{Refusal, BadField, BadName}
 use Rattle.mk_line.specs.Kinds.{is_name}
 use Rattle.mk_decide.specs.FieldEdits.{starts_named, Found, found_after, find, field_at, renamed}
-use Rattle.mk_decide.specs.FieldPuts.{LinePut, name_put, puts}
-use Rattle.mk_edit.proofs.PutNames.{removes, renames}
+use Rattle.mk_decide.specs.FieldPuts.{LinePut, add_put, name_put, puts, set_put}
+use Rattle.mk_edit.proofs.PutNames.{removes, renames, sets}
 use Rattle.mk_decide.proofs.PlanNames.{put_unless}
 use Rattle.mk_edit.specs.declared.silent_edits.SilentEdit.{SilentEdit}
-use Rattle.mk_edit.specs.SilentEdits.{are_same, is_silent, by_option, numbered, IsSilent}
+use Rattle.mk_edit.specs.HeaderEdits.{are_same, is_silent}
+use Rattle.mk_edit.specs.SilentEdits.{by_option, numbered, IsSilent}
 use Rattle.mk_decide.proofs.Counting.{names_lem}
 use Rattle.mk_decide.proofs.PutPlans.{lines_put}
 use Rattle.mk_decide.proofs.Renaming.{both, renamed_start}
@@ -126,6 +128,37 @@ value_renamed name to other ls f h n k e =
     (passed_over other new h.rest passed ∙ sym (passed_over other f.start h.rest (starts_other name other f.start h.named k)))
     ∙ ap (field_value other) h.whole)
 
+-- the name of a field that is given
+abbrev pub first_name : List TextLine → List ℕ
+first_name [] = []
+first_name (l ∷ ls) = name_of l
+
+value_continued : (name : List ℕ) (ms zs : List TextLine) → list_all is_more ms ≡ true → field_value name (ms ++ zs) ≡ field_value name zs
+value_continued name [] zs h = refl
+value_continued name (m ∷ ms) zs h = let p = both (is_more m) (list_all is_more ms) h in rw (more_start m p.0) (value_continued name ms zs p.1)
+
+value_given : (other : List ℕ) (given zs : List TextLine) → is_one_field given ≡ true → are_same (first_name given) other ≡ false → field_value other (given ++ zs) ≡ field_value other zs
+value_given other [] zs h n = cc
+value_given other (l ∷ ls) zs h n =
+    passed_over other l (ls ++ zs) (none_named (is_start l) (is_named other (field_text l [])) n) ∙ value_continued other ls zs (both (is_start l) (list_all is_more ls) h).1
+
+none_given : (given zs : List TextLine) → is_one_field given ≡ true → continuations (given ++ zs) ≡ []
+none_given [] zs h = cc
+none_given (l ∷ ls) zs h = none_before l (ls ++ zs) (both (is_start l) (list_all is_more ls) h).0
+
+-- it comes
+value_added : (top : Bool) (other : List ℕ) (given fields : List TextLine) → is_one_field given ≡ true → are_same (first_name given) other ≡ false → field_value other (lines_put (add_put top given fields)) ≡ field_value other fields
+value_added true other given fields h n = value_given other given fields h n
+value_added false other given fields h n = value_after_others other fields (given ++ []) [] (none_given given [] h) refl (value_given other given [] h n) ∙ ap (field_value other) (append-nil fields)
+
+-- it takes the place of a field
+value_set : (name other : List ℕ) (given ls : List TextLine) (f : Found) → IsNamedIn name ls f → is_one_field given ≡ true → are_same name other ≡ false → are_same (first_name given) other ≡ false → field_value other (f.before ++ (given ++ f.after)) ≡ field_value other ls
+value_set name other given ls f h g k n =
+    let start = (both (is_start f.start) (is_named name (field_text f.start [])) h.named).0 in
+    value_after_others other f.before (given ++ f.after) (f.start ∷ h.rest) (none_given given f.after g) (none_before f.start h.rest start)
+    (value_given other given f.after g n ∙ (ap (field_value other) h.after ∙ (value_left other h.rest ∙ sym (passed_over other f.start h.rest (starts_other name other f.start h.named k)))))
+    ∙ ap (field_value other) h.whole
+
 -- the kind that fields say
 kind_same : (xs ys : List TextLine) (digest : Bool) → field_value (codes "Content-Type") xs ≡ field_value (codes "Content-Type") ys → field_value (codes "Content-Transfer-Encoding") xs ≡ field_value (codes "Content-Transfer-Encoding") ys → kind xs digest ≡ kind ys digest
 unfolding kind
@@ -169,12 +202,35 @@ renaming_says : (name to : List ℕ) (digest : Bool) (fields : List TextLine) (o
 renaming_says name to digest fields None s r h = tt
 renaming_says name to digest fields (Some f) s r h = renamed_says name to digest fields f s r h (not (is_name to)) refl
 
--- a removal or a renaming, of and to names that say nothing of the body
+-- a field that is given says nothing of the body
+abbrev pub IsGivenSilent : List TextLine → Type 0
+IsGivenSilent given = is_one_field given ≡ true → is_silent (first_name given) ≡ true
+
+added_says : (top : Bool) (digest : Bool) (given fields : List TextLine) → IsGivenSilent given → (bad : Bool) → not (is_one_field given) ≡ bad → SaysKind digest fields (put_unless bad BadField (add_put top given fields))
+added_says top digest given fields s true e = tt
+added_says top digest given fields s false e =
+    let good : is_one_field given ≡ true = not_false (is_one_field given) e in
+    let new = silent (first_name given) (s good) in
+    kind_same (lines_put (add_put top given fields)) fields digest (value_added top (codes "Content-Type") given fields good new.0) (value_added top (codes "Content-Transfer-Encoding") given fields good new.1)
+
+set_says : (name : List ℕ) (digest : Bool) (given fields : List TextLine) (f : Found) → is_silent name ≡ true → IsGivenSilent given → IsNamedIn name fields f → (bad : Bool) → not (is_one_field given) ≡ bad → SaysKind digest fields (put_unless bad BadField (set_put given f))
+set_says name digest given fields f s r h true e = tt
+set_says name digest given fields f s r h false e =
+    let old = silent name s in
+    let good : is_one_field given ≡ true = not_false (is_one_field given) e in
+    let new = silent (first_name given) (r good) in
+    kind_same (f.before ++ (given ++ f.after)) fields digest (value_set name (codes "Content-Type") given fields f h good old.0 new.0) (value_set name (codes "Content-Transfer-Encoding") given fields f h good old.1 new.1)
+
+setting_says : (name : List ℕ) (digest : Bool) (given fields : List TextLine) (o : Option Found) → is_silent name ≡ true → IsGivenSilent given → NamedIn name fields o → SaysKind digest fields (sets given o)
+setting_says name digest given fields None s r h = tt
+setting_says name digest given fields (Some f) s r h = set_says name digest given fields f s r h (not (is_one_field given)) refl
+
+-- none of the names, old and new, says anything of the body
 abbrev pub NamesSilent : FieldEdit → Type 0
-NamesSilent (Add top text) = ⊥
+NamesSilent (Add top text) = IsGivenSilent (cut text.now)
 NamesSilent (Remove name k) = is_silent name.now ≡ true
 NamesSilent (Rename name k to) = (is_silent name.now ≡ true) × (is_silent to.now ≡ true)
-NamesSilent (Set name k text) = ⊥
+NamesSilent (Set name k text) = (is_silent name.now ≡ true) × IsGivenSilent (cut text.now)
 
 names_by : (name : Bor (List ℕ)) (k : ℕ) (o : Option (Bor (List ℕ))) → is_silent name.now ≡ true → IfSome o (λ to. is_silent to.now ≡ true) → NamesSilent (by_option o (Remove name k) (λ to. Rename name k to))
 names_by name k None s t = s
@@ -184,10 +240,10 @@ pub names_silent : (edit : SilentEdit) (k : ℕ) → IsSilent edit → NamesSile
 names_silent edit k s = names_by edit.name k edit.to s.0 s.1
 
 says : (edit : FieldEdit) (digest : Bool) (fields : List TextLine) → NamesSilent edit → SaysKind digest fields (puts edit fields)
-says (Add top text) digest fields s = absurd s
+says (Add top text) digest fields s = added_says top digest (cut text.now) fields s (not (is_one_field (cut text.now))) refl
 says (Remove name k) digest fields s = removal_says name.now digest fields (field_at name.now k fields) s (found_named name.now k fields)
 says (Rename name k to) digest fields s = renaming_says name.now to.now digest fields (field_at name.now k fields) s.0 s.1 (found_named name.now k fields)
-says (Set name k text) digest fields s = absurd s
+says (Set name k text) digest fields s = setting_says name.now digest (cut text.now) fields (field_at name.now k fields) s.0 s.1 (found_named name.now k fields)
 
 pub kind_stays : (edit : FieldEdit) (digest : Bool) (fields : List TextLine) (q : LinePut) → NamesSilent edit → puts edit fields ≡ Ok q → kind (lines_put q) digest ≡ kind fields digest
 kind_stays edit digest fields q s h = subst (SaysKind digest fields) h (says edit digest fields s)

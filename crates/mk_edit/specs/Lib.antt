@@ -4,6 +4,7 @@ pub mod History
 pub mod Histories
 pub mod Made
 pub mod Laws
+pub mod HeaderEdits
 pub mod SilentEdits
 pub mod RootFields
 pub mod Drafts

@@ -1,24 +1,10 @@
 -- Edits of the root's fields that say nothing of its body.
-use Rattle.std.specs.Prelude.{◌≡◌, ◌==◌, ◌&&◌, ℕ, Bool, true, false, not, Option, None, Some, List, [], ◌∷◌, codes, IfSome}
-use Rattle.std.specs.Str.{bytes_eq, str_to_ascii_lowercase}
-use Rattle.mk_line.specs.Lines.{is_nil}
+use Rattle.std.specs.Prelude.{◌≡◌, ◌&&◌, ℕ, Bool, true, false, Option, None, Some, IfSome}
 use Rattle.mk_decide.specs.declared.field_edits.FieldEdit.{FieldEdit}
 use Rattle.mk_decide.specs.declared.field_edits.FieldEdit.TheVariants.{Remove, Rename}
+use Rattle.mk_edit.specs.HeaderEdits.{is_silent, leads_to_root}
 use Rattle.mk_edit.specs.declared.silent_edits.SilentEdit.{SilentEdit}
 use Rattle.mk_decide.specs.Edits.{PlainEdit, AddField, RemoveField, RenameField, SetField, SetBody, SetSection, InsertPart, RemovePart, Wrap}
-
--- names are the same without regard to ASCII case (RFC 5322, 2.2)
-abbrev pub are_same : List ℕ → List ℕ → Bool
-are_same a b = bytes_eq (str_to_ascii_lowercase a) (str_to_ascii_lowercase b)
-
--- a field of this name says nothing of the body (RFC 2045, 5 and 6)
-abbrev pub is_silent : List ℕ → Bool
-is_silent name = not (are_same name (codes "Content-Type")) && not (are_same name (codes "Content-Transfer-Encoding"))
-
--- the path of the root
-abbrev pub leads_to_root : List ℕ → Bool
-leads_to_root [] = false
-leads_to_root (k ∷ ks) = k == 1 && is_nil ks
 
 -- none of the names says anything of it
 abbrev pub IsSilent : SilentEdit → Type 0

@@ -42,3 +42,4 @@ pub use errors::{GroupError, LoadError};
 pub use mk_decide::{Edit, EditError, edit_laws};
 pub use replies::Reply;
 pub use session::Session;
+pub use silent_edits::edits_header;

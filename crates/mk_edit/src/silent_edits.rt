@@ -1,10 +1,12 @@
 //! Edits of the root's fields that say nothing of its body.
 ghost use Rattle.std.specs.Prelude.{◌≡◌, ◌∷◌, [], false, IfNone, IfSome};
 ghost use Rattle.mk_decide.specs.FieldPuts.{plain_of};
-ghost use Rattle.mk_edit.specs.SilentEdits.{is_silent as says_nothing, is_silent_edit, leads_to_root, numbered, IsSilent};
+ghost use Rattle.mk_edit.specs.HeaderEdits.{are_silent as say_nothing, edits_header as edits_header_alone, is_silent as says_nothing, leads_to_root};
+ghost use Rattle.mk_edit.specs.SilentEdits.{is_silent_edit, numbered, IsSilent};
 ghost use Rattle.mk_decide.specs.Views.{edit_of};
 
 use mk_decide::{Edit, FieldEdit};
+use mk_head::each_field;
 
 /// The number of the root, the path to which it is.
 const ROOT: u32 = 1;
@@ -62,6 +64,28 @@ pub(crate) fn silent_edit(edit: &Edit) -> Option<SilentEdit<'_>>
     }
 }
 
+/// Whether an edit is one of the root's fields and no field that it names or gives says anything of the body: none is a
+/// Content-Type or a Content-Transfer-Encoding (RFC 2045, 5 and 6). Where a separator follows the fields, what such an edit is
+/// answered depends on the header alone.
+pub fn edits_header(edit: &Edit) -> bool
+    ensures { result ≡ edits_header_alone (edit_of edit.now) }
+{
+    match edit {
+        Edit::AddField { path, text, .. } => is_root(path) && are_silent(text),
+        Edit::RemoveField { path, name, .. } => is_root(path) && is_silent(name),
+        Edit::RenameField { path, name, to, .. } => is_root(path)
+            && is_silent(name)
+            && is_silent(to),
+        Edit::SetField {
+            path,
+            name,
+            text,
+            ..
+        } => is_root(path) && is_silent(name) && are_silent(text),
+        _ => false,
+    }
+}
+
 fn is_root(path: &[u32]) -> bool
     ensures { result ≡ leads_to_root path.now }
 {
@@ -77,4 +101,16 @@ fn is_silent(name: &[u8]) -> bool
 {
     !name.eq_ignore_ascii_case(b"Content-Type")
         && !name.eq_ignore_ascii_case(b"Content-Transfer-Encoding")
+}
+
+// Whether no field that a text begins with says anything of the body.
+fn are_silent(text: &[u8]) -> bool
+    ensures { result ≡ say_nothing text.now }
+{
+    for field in each_field(text) {
+        if !is_silent(field.name) {
+            return false;
+        }
+    }
+    true
 }

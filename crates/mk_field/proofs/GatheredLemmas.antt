@@ -1,11 +1,12 @@
 -- Text that is gathered: what went out of it, and what is lost where the output fails.
-use Rattle.std.proofs.Common.{◌≡◌, ◌++◌, ℕ, List, [], Option, Result, Ok, Err, IfErr, OnOk, OnErr, refl, ap, sym, ◌∙◌, subst, append_assoc, append-nil}
+use Rattle.std.proofs.Common.{◌≡◌, ◌++◌, arith, ℕ, List, [], Option, Result, Ok, Err, IfErr, OnOk, OnErr, refl, ap, sym, ◌∙◌, subst, append_assoc, append-nil}
 use Rattle.std.proofs.KnownBytes.{Appends-nil, Appends-trans}
 use Rattle.std.specs.Io.KnownBytes.{Appends}
 use Rattle.mk_mailbox.specs.Devices.{AppendsFront, Rose}
 use Rattle.mk_transfer.specs.declared.transfer.Stop.{Stop}
 use Rattle.mk_transfer.specs.declared.transfer.Stop.TheVariants.{Fault as Stopped}
-use Rattle.mk_transfer.specs.RunClauses.{Sends}
+use Rattle.mk_transfer.specs.RunClauses.{IsSent, IsStopped, Sends}
+use Rattle.mk_transfer.proofs.Fronts.{AppendsFront-following}
 use Rattle.mk_field.specs.inner.Telling.{Gathers, GathersFront}
 
 -- ---- texts one after another
@@ -85,6 +86,43 @@ front_more text more all old new out out_after e x = record {
   lost = x.lost ++ more;
   output = x.output;
   parts = ap (λ z. old ++ z) e ∙ (sym (append_assoc old text more) ∙ (ap (λ z. z ++ more) x.parts ∙ append_assoc (x.went ++ new) x.lost more));
+}
+
+-- a text in two pieces
+pub two_all : {X : Type 0} (r : Result X Stop) (a b all old mid new : List ℕ) (out out_mid out_after : Option (List ℕ)) → a ++ b ≡ all → Gathers a old mid out out_mid → OnOk r (Gathers b mid new out_mid out_after) → OnOk r (Gathers all old new out out_after)
+two_all (Ok x) a b all old mid new out out_mid out_after e g h = subst (λ t. Gathers t old new out out_after) e (gathers_on a b old mid new out out_mid out_after g h)
+two_all (Err stop) a b all old mid new out out_mid out_after e g h = tt
+
+pub two_some : {X : Type 0} (r : Result X Stop) (a b all old mid new : List ℕ) (out out_mid out_after : Option (List ℕ)) → a ++ b ≡ all → Gathers a old mid out out_mid → OnErr r (GathersFront b mid new out_mid out_after) → OnErr r (GathersFront all old new out out_after)
+two_some (Ok x) a b all old mid new out out_mid out_after e g h = tt
+two_some (Err stop) a b all old mid new out out_mid out_after e g h = subst (λ t. GathersFront t old new out out_after) e (front_on a b old mid new out out_mid out_after g h)
+
+pub two_fault : {X : Type 0} (r : Result X Stop) (before between after : ℕ) → between ≡ before → OnErr r (Rose between after) → OnErr r (Rose before after)
+two_fault (Ok x) before between after e h = tt
+two_fault (Err stop) before between after e h = subst (λ n. Rose n after) e h
+
+pub two_well : {X : Type 0} (r : Result X Stop) (before between after : ℕ) → between ≡ before → OnOk r (after ≡ between) → OnOk r (after ≡ before)
+two_well (Ok x) before between after e h = h ∙ e
+two_well (Err stop) before between after e h = tt
+
+pub two_sent : {X : Type 0} (r : Result X Stop) (a b all : List ℕ) (out out_mid out_after : Option (List ℕ)) (before between after : ℕ) → a ++ b ≡ all → IsSent a out out_mid before between → Sends r b out_mid out_after between after → Sends r all out out_after before after
+two_sent (Ok x) a b all out out_mid out_after before between after e g s = record {
+  whole = subst (Appends out out_after) e (Appends-trans out out_mid out_after a b g.whole s.whole);
+  well = s.well ∙ g.well;
+}
+two_sent (Err stop) a b all out out_mid out_after before between after e g s = record {
+  front = AppendsFront-following out out_mid out_after a b [] all g.whole s.front (sym e ∙ ap (λ xs. a ++ xs) (sym (append-nil b)));
+  fault = λ f. subst (λ n. Rose n after) g.well (s.fault f);
+  steady = λ w. s.steady w ∙ g.well;
+  counted = (let c = s.counted in let w = g.well in omega (arith, c, w));
+}
+
+pub one_stopped : (stop : Stop) (a b all : List ℕ) (out out_after : Option (List ℕ)) (before after : ℕ) → a ++ b ≡ all → IsStopped stop a out out_after before after → IsStopped stop all out out_after before after
+one_stopped stop a b all out out_after before after e s = record {
+  front = (let f = s.front in (f.0, f.1 ++ b, sym e ∙ (ap (λ xs. xs ++ b) f.2 ∙ append_assoc f.0 f.1 b), f.3));
+  fault = s.fault;
+  steady = s.steady;
+  counted = s.counted;
 }
 
 -- ---- what is gathered last goes out

@@ -6,3 +6,5 @@ pub mod WordsRead
 pub mod GatheredLemmas
 pub mod ToldLemmas
 pub mod TurnLemmas
+pub mod HeadersAlone
+pub mod HeaderRounds

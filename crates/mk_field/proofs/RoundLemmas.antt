@@ -23,7 +23,7 @@ use Rattle.mk_mail.specs.Filtered.{outcome_at}
 use Rattle.mk_mail.specs.Letters.{PlainLetters, edits_at}
 use Rattle.mk_mail.specs.Rounds.{Made, PlainRound, letters_for, made_text, rounds_made_at}
 use Rattle.mk_line.specs.Results.{made_of}
-use Rattle.mk_field.specs.FilterClauses.{IsEdited, IsFitted, IsReason, IsRoundMade, fitted}
+use Rattle.mk_field.specs.FilterClauses.{AreEditsMade, IsEdited, IsFitted, IsReason, IsRoundMade, fitted}
 use Rattle.mk_field.specs.FilterViews.{is_round, round_of}
 use Rattle.mk_field.specs.declared.filters.Round.{Round}
 
@@ -37,17 +37,19 @@ abbrev reason_by : Result History Refusal → Refusal
 reason_by (Ok h) = NothingToUndo
 reason_by (Err e) = member_of e
 
-pub letters_made : (path : List ℕ) (l : PlainLetters) (es : List PlainEdit) (old new : History) → es ≡ edits_at path (text_now old) l → step (Group es) old ≡ Ok new → IsRoundMade path l None old new
-letters_made path l es old new e h = ap (λ x. grouped_by old (together x (tree (text_now old)))) (sym e) ∙ h
+pub edits_made : (es : List PlainEdit) (old new : History) → step (Group es) old ≡ Ok new → AreEditsMade es None old new
+edits_made es old new h = h
 
 refused_by : (h : History) (r : Together) (index : ℕ) (reason : Refusal) (error : EditError) → grouped_by h r ≡ Err (Member index reason) → refusal_of error ≡ Some reason → IsReason (Some error) (made_text r)
 refused_by h (Ok p) index reason error e n = cc
 refused_by h (Err q) index reason error e n = n ∙ ap (λ x. Some x) (sym (ap reason_by e))
 
-pub letters_refused : (path : List ℕ) (l : PlainLetters) (es : List PlainEdit) (old new : History) (index : ℕ) (error : EditError) → es ≡ edits_at path (text_now old) l → new ≡ old
-    → IsGroupRefusedBy (MemberIn index error) (step (Group es) old) → IsRoundMade path l (Some error) old new
-letters_refused path l es old new index error e n r =
-    (n, refused_by old (outcome_at path l (text_now old)) index r.0 error (ap (λ x. grouped_by old (together x (tree (text_now old)))) (sym e) ∙ r.2) r.1)
+pub edits_refused : (es : List PlainEdit) (old new : History) (index : ℕ) (error : EditError) → new ≡ old → IsGroupRefusedBy (MemberIn index error) (step (Group es) old) → AreEditsMade es (Some error) old new
+edits_refused es old new index error n r = (n, refused_by old (together es (tree (text_now old))) index r.0 error r.2 r.1)
+
+-- they are those of letters
+pub letters_made : (path : List ℕ) (l : PlainLetters) (es : List PlainEdit) (refusal : Option EditError) (old new : History) → es ≡ edits_at path (text_now old) l → AreEditsMade es refusal old new → IsRoundMade path l refusal old new
+letters_made path l es refusal old new e h = subst (λ x. AreEditsMade x refusal old new) e h
 
 -- ---- rounds, one after another
 
@@ -72,23 +74,41 @@ front_text : (xs more : List (List ℕ)) (n : ℕ) → 0 < length xs → slice_i
 front_text [] more n h = absurd (omega (arith, h))
 front_text (x ∷ xs) more n h = let k : n + 1 ≡ suc n = omega arith in ap (λ j. slice_index_or (take j (x ∷ xs) ++ more) 0 []) k
 
-steps_on : (path : List ℕ) (all rest : List PlainRound) (r : PlainRound) (text : List ℕ) (h new : History) (o : Together) → o ≡ outcome_at path (letters_for r (text_now h)) (text_now h) → SoFar path all (r ∷ rest) text h → grouped_by h o ≡ Ok new → SoFar path all rest text new
-steps_on path all rest r text h new (Ok p) e s k =
+-- the text that edits made in a history stands in it
+pub record Stands (h new : History) (o : Together) : Type 0 where
+  pub text : made_text o ≡ Ok (text_now new)
+  pub first : first_text new ≡ first_text h
+  pub room : new.place < length new.texts
+
+pub group_stands : (h new : History) (o : Together) → h.place < length h.texts → grouped_by h o ≡ Ok new → Stands h new o
+group_stands h new (Ok p) room k =
     let same : with_step h (printed p.0) p.1 ≡ new = cc in
-    let size : length (take (h.place + 1) h.texts) ≡ h.place + 1 = length-take-le (h.place + 1) h.texts (omega (arith, s.room)) in
+    let size : length (take (h.place + 1) h.texts) ≡ h.place + 1 = length-take-le (h.place + 1) h.texts (omega (arith, room)) in
     let stands : text_now (with_step h (printed p.0) p.1) ≡ printed p.0 = last_text (take (h.place + 1) h.texts) (printed p.0) (h.place + 1) (sym size) in
-    subst (SoFar path all rest text) same (record {
-      made = s.made ∙ (ap (λ x. made_of (rounds_made_at path rest) (made_text x)) (sym e) ∙ ap (rounds_made_at path rest) (sym stands));
-      first = front_text h.texts (printed p.0 ∷ []) h.place (omega (arith, s.room)) ∙ s.first;
+    subst (λ n. Stands h n (Ok p)) same (record {
+      text = ap (λ (t : List ℕ). made_now t) (sym stands);
+      first = front_text h.texts (printed p.0 ∷ []) h.place (omega (arith, room));
       room = omega (arith, size, length-append (take (h.place + 1) h.texts) (printed p.0 ∷ []));
     })
-steps_on path all rest r text h new (Err q) e s k = cc
+  where
+    made_now : List ℕ → Made
+    made_now t = Ok t
+group_stands h new (Err q) room k = cc
+
+steps_on : (path : List ℕ) (all rest : List PlainRound) (r : PlainRound) (text : List ℕ) (h new : History) (o : Together) → o ≡ outcome_at path (letters_for r (text_now h)) (text_now h) → SoFar path all (r ∷ rest) text h → grouped_by h o ≡ Ok new → SoFar path all rest text new
+steps_on path all rest r text h new o e s k =
+    let g = group_stands h new o s.room k in
+    record {
+      made = s.made ∙ (ap (λ x. made_of (rounds_made_at path rest) (made_text x)) (sym e) ∙ ap (made_of (rounds_made_at path rest)) g.text);
+      first = g.first ∙ s.first;
+      room = g.room;
+    }
 
 -- one round more
 pub round_on : (path : List ℕ) (all rest : List PlainRound) (r : PlainRound) (l : PlainLetters) (text : List ℕ) (h new : History) → l ≡ letters_for r (text_now h) → SoFar path all (r ∷ rest) text h → IsRoundMade path l None h new → SoFar path all rest text new
 round_on path all rest r l text h new e s k = steps_on path all rest r text h new (outcome_at path l (text_now h)) (ap (λ x. outcome_at path x (text_now h)) e) s k
 
-refused_now : (m : Made) (error : EditError) (f : List ℕ → Made) → IsReason (Some error) m → IsReason (Some error) (made_of f m)
+pub refused_now : (m : Made) (error : EditError) (f : List ℕ → Made) → IsReason (Some error) m → IsReason (Some error) (made_of f m)
 refused_now (Ok made) error f h = absurd h
 refused_now (Err reason) error f h = h
 

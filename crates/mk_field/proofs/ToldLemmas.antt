@@ -1,18 +1,24 @@
 -- What is told of one message, and how it goes out.
-use Rattle.std.proofs.Common.{◌≡◌, ◌⊎◌, ℕ, Bool, not, Option, None, Some, Result, Ok, Err, IfOk, IfErr, OnOk, OnErr, List, refl, ap, inr}
+use Rattle.std.proofs.Common.{◌≡◌, ◌⊎◌, ◌∷◌, ℕ, Bool, true, false, not, Option, is_some, None, Some, Result, Ok, Err, IfOk, IfErr, OnOk, OnErr, List, [], refl, ap, sym, subst, ◌∙◌, inr}
 use Rattle.std.specs.Io.KnownBytes.{Appends}
 use Rattle.mk_line.specs.Lines.{is_nil}
 use Rattle.mk_decide.specs.declared.errors.EditError.{EditError}
-use Rattle.mk_mail.specs.Rounds.{Made}
+use Rattle.std.specs.Option.{option_map_or}
+use Rattle.mk_mailbox.specs.declared.places.Place.{Place}
+use Rattle.mk_mail.specs.Apart.{section_made}
+use Rattle.std.proofs.lemmas.Bool.{eqb-true}
+use Rattle.mk_mail.specs.Letters.{is_root, root_path}
+use Rattle.mk_mail.specs.Rounds.{Made, PlainRound, rounds_made}
 use Rattle.mk_mailbox.specs.Devices.{Rose}
 use Rattle.mk_transfer.specs.declared.transfer.Stop.{Stop}
 use Rattle.mk_transfer.specs.declared.transfer.Stop.TheVariants.{Fault as Stopped, Memory as Wanting}
 use Rattle.mk_transfer.specs.RunClauses.{Sends}
 use Rattle.mk_transfer.specs.Said.{Said}
 use Rattle.mk_transfer.proofs.Fronts.{AppendsFront-none, AppendsFront-whole}
-use Rattle.mk_field.specs.FilterClauses.{IsEdited, IsReason, SaysAll, SaysSome}
-use Rattle.mk_field.specs.Filtering.{report_of, said_of_made}
-use Rattle.mk_field.specs.inner.Telling.{Gathers, GathersAll, GathersFront, GathersSome, told_line, told_report}
+use Rattle.mk_field.specs.FilterClauses.{IsEdited, IsReason, SaysAll, SaysSome, fitted}
+use Rattle.mk_field.specs.Filtering.{PlainFilter, filter_made, given_of, given_said, missing_report, report_of, said_filtered, said_of_made}
+use Rattle.mk_field.specs.declared.telling.Told.{Told}
+use Rattle.mk_field.specs.inner.Telling.{Gathers, GathersAll, GathersFront, GathersSome, told_line, told_report, told_said}
 use Rattle.mk_field.proofs.GatheredLemmas.{front_whole}
 
 -- ---- what is told
@@ -26,6 +32,51 @@ reported_as path number (Some error) (Err reason) h = ap (told_line path number)
 
 pub told_edited : (path : List ℕ) (number : ℕ) (text left : List ℕ) (refusal : Option EditError) (m : Made) → IsEdited m text refusal left → record { output = left; errors = told_report path number refusal } ≡ said_of_made path number text m
 told_edited path number text left refusal m e = λ i. record { output = e.left_is i; errors = reported_as path number refusal m e.reason i }
+
+-- all edits were made, or one was refused
+pub edited_all : (m : Made) (text left : List ℕ) → m ≡ Ok left → IsEdited m text None left
+edited_all m text left e = subst (λ x. IsEdited x text None left) (sym e) (record { left_is = refl; reason = tt })
+
+pub edited_none : (m : Made) (text : List ℕ) (error : EditError) → IsReason (Some error) m → IsEdited m text (Some error) text
+edited_none (Ok made) text error h = absurd h
+edited_none (Err reason) text error h = record { left_is = refl; reason = h }
+
+-- a message of which nothing is given
+pub said_made : (each : Bool) (f : PlainFilter) (number : ℕ) (text : List ℕ) (m : Made) → given_of f.path f.form f.rounds text ≡ None → m ≡ filter_made each f text → said_of_made f.path number text m ≡ said_filtered each f number text
+said_made each f number text m n e =
+    ap (said_of_made f.path number text) e ∙ ap (λ o. option_map_or (given_said f.path number text) o (said_of_made f.path number text (filter_made each f text))) (sym n)
+
+-- one of which something is
+pub said_given : (each : Bool) (f : PlainFilter) (number : ℕ) (text given : List ℕ) → Some given ≡ given_of f.path f.form f.rounds text → missing_report f.path number text ≡ [] → record { output = given; errors = [] } ≡ said_filtered each f number text
+said_given each f number text given g m =
+    (λ i. record { output = given; errors = sym m i }) ∙ ap (λ o. option_map_or (given_said f.path number text) o (said_of_made f.path number text (filter_made each f text))) g
+
+-- the path of the root
+root_alone : (path : List ℕ) → is_root path ≡ true → path ≡ root_path
+root_alone [] h = cc
+root_alone (k ∷ []) h = ap (λ n. n ∷ []) (eqb-true k 1 h)
+root_alone (k ∷ n ∷ ks) h = cc
+
+-- at the root, where no place is kept
+pub made_there : (place : Option Place) (rs : List PlainRound) (text : List ℕ) → place ≡ None → rounds_made rs text ≡ fitted place (section_made root_path rs text)
+made_there place rs text e = unplaced (rounds_made rs text) ∙ ap (λ o. fitted o (section_made root_path rs text)) (sym e)
+  where
+    unplaced : (m : Made) → m ≡ fitted None m
+    unplaced (Ok made) = refl
+    unplaced (Err reason) = refl
+
+-- what the header tells of a message is what a filter says of it
+pub said_by_header : (each : Bool) (f : PlainFilter) (number : ℕ) (text : List ℕ) (place : Option Place) (t : Told) → is_root f.path ≡ true → given_of f.path f.form f.rounds text ≡ None → is_some place ≡ false
+    → fitted place (section_made f.path f.rounds text) ≡ filter_made each f text → told_said root_path number t ≡ said_of_made root_path number text (rounds_made f.rounds text) → told_said f.path number t ≡ said_filtered each f number text
+said_by_header each f number text place t r n p e told =
+    let root : f.path ≡ root_path = root_alone f.path r in
+    let made : rounds_made f.rounds text ≡ filter_made each f text =
+    subst (λ path. rounds_made f.rounds text ≡ fitted place (section_made path f.rounds text)) (sym root) (made_there place f.rounds text (none_there place p)) ∙ e in
+    subst (λ path. told_said path number t ≡ said_of_made path number text (rounds_made f.rounds text)) (sym root) told ∙ said_made each f number text (rounds_made f.rounds text) n made
+  where
+    none_there : (o : Option Place) → is_some o ≡ false → o ≡ None
+    none_there None h = refl
+    none_there (Some x) h = cc
 
 -- ---- how it goes out
 

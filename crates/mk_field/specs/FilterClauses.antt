@@ -4,7 +4,9 @@ use Rattle.std.specs.Io.KnownBytes.{Appends, Consumes, IsAtEnd, Keeps}
 use Rattle.mk_line.specs.Lines.{is_nil}
 use Rattle.mk_decide.specs.declared.errors.EditError.{EditError}
 use Rattle.mk_decide.specs.Answers.{refusal_of}
-use Rattle.mk_decide.specs.Edits.{Recut}
+use Rattle.mk_tree.specs.Documents.{tree}
+use Rattle.mk_decide.specs.Edits.{PlainEdit, Recut}
+use Rattle.mk_edit.specs.Groups.{together}
 use Rattle.mk_edit.specs.Histories.{first_text, grouped_by, text_now}
 use Rattle.mk_edit.specs.History.{History}
 use Rattle.mk_mailbox.specs.Devices.{AppendsFront}
@@ -12,8 +14,7 @@ use Rattle.mk_mailbox.specs.Mailboxes.{IsKnownWhole}
 use Rattle.mk_mailbox.specs.declared.places.Place.{Place}
 use Rattle.mk_mailbox.specs.Pieces.{mailbox_pieces}
 use Rattle.mk_mailbox.specs.Places.{fits_place}
-use Rattle.mk_mail.specs.Filtered.{outcome_at}
-use Rattle.mk_mail.specs.Letters.{PlainLetters}
+use Rattle.mk_mail.specs.Letters.{PlainLetters, edits_at}
 use Rattle.mk_mail.specs.Rounds.{Made, made_text}
 use Rattle.std.specs.Result.{result_unwrap_or}
 use Rattle.mk_transfer.specs.declared.status.Status.{Status}
@@ -90,10 +91,14 @@ IsReason None (Err reason) = ⊥
 IsReason (Some e) (Ok made) = ⊥
 IsReason (Some e) (Err reason) = refusal_of e ≡ Some reason
 
--- what the edits of letters at a path answered and left of a history: a step more, or the reason, and all as before
+-- what edits answered and left of a history: a step more, or the reason, and all as before
+abbrev pub AreEditsMade : List PlainEdit → Option EditError → History → History → Type 0
+AreEditsMade es None old new = grouped_by old (together es (tree (text_now old))) ≡ Ok new
+AreEditsMade es (Some e) old new = (new ≡ old) × IsReason (Some e) (made_text (together es (tree (text_now old))))
+
+-- what the edits of letters at a path answered and left of it
 abbrev pub IsRoundMade : List ℕ → PlainLetters → Option EditError → History → History → Type 0
-IsRoundMade path l None old new = grouped_by old (outcome_at path l (text_now old)) ≡ Ok new
-IsRoundMade path l (Some e) old new = (new ≡ old) × IsReason (Some e) (made_text (outcome_at path l (text_now old)))
+IsRoundMade path l refusal old new = AreEditsMade (edits_at path (text_now old) l) refusal old new
 
 -- a text fits a place, where one is to be kept
 abbrev pub fits : Option Place → List ℕ → Bool

@@ -1,1 +1,2 @@
+pub mod ByHeaders
 pub mod Telling

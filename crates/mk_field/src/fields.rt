@@ -3,20 +3,22 @@
 ghost use Rattle.std.specs.Prelude.{◌≡◌, ℕ, List, Some, true, false, map, IfOk, IfSome, OnOk};
 ghost use Rattle.std.specs.List.{list_all};
 ghost use Rattle.mk_decide.specs.Answers.{is_memory};
+ghost use Rattle.mk_decide.specs.Views.{edit_of};
 ghost use Rattle.mk_edit.specs.Histories.{first_text, started, text_now};
 ghost use Rattle.mk_mail.specs.Apart.{always_fits as fits_always, section_made};
 ghost use Rattle.mk_mail.specs.LetterViews.{letters_of};
 ghost use Rattle.mk_mail.specs.Letters.{are_allowed, is_root as is_root_path};
 ghost use Rattle.mk_mail.specs.Rounds.{rounds_made_at};
-ghost use Rattle.mk_field.specs.FilterClauses.{IsEdited, IsFitted, IsRoundMade, fitted};
+ghost use Rattle.mk_field.specs.FilterClauses.{AreEditsMade, IsEdited, IsFitted, IsRoundMade, fitted};
 ghost use Rattle.mk_field.specs.FilterViews.{filter_of, is_allowed, is_round, round_of};
 ghost use Rattle.mk_field.specs.Filtering.{filter_made, given_of, given_said, missing_report, rounds_ask as do_rounds_ask, said_alone, said_filtered, said_of, said_of_made};
 ghost use Rattle.mk_field.specs.inner.Telling.{told_report, told_said};
 
 use crate::filters::{FieldFilter, Round, ask};
 use crate::giving::given;
+use crate::headers::tell_header;
 use crate::telling::{Printed, Told};
-use mk_edit::{EditError, GroupError, Session};
+use mk_edit::{Edit, EditError, GroupError, Session};
 use mk_line::Meter;
 use mk_mail::{FromLines, Letters, Place, field_edits_at, head_at};
 use mk_tree::{Doc, after_envelope};
@@ -76,12 +78,49 @@ fn tell_message(
     ensures told { IfOk result (λ told. (number : ℕ) → told_said filter.now.path.now number told ≡ said_filtered each (filter_of filter.now) number message.items) }
     ensures named { IfOk result (λ told. IfSome told.refusal (λ error. is_memory error ≡ false)) }
 {
-    if let Some(text) = given_of_root(alloc, filter, &message)? {
+    if is_root(filter.path) {
+        tell_root(alloc, filter, each, message)
+    } else {
+        tell_section(alloc, filter, each, message)
+    }
+}
+
+// What it says where the section is the root. A message of which fields are asked for is read no further than these.
+fn tell_root(
+    alloc: Global,
+    filter: &FieldFilter<'_>,
+    each: bool,
+    message: Vec<u8>,
+) -> Result<Told, AllocError>
+    requires allowed { is_allowed (filter_of filter.now) ≡ true }
+    requires root { is_root_path filter.now.path.now ≡ true }
+    ensures told { IfOk result (λ told. (number : ℕ) → told_said filter.now.path.now number told ≡ said_filtered each (filter_of filter.now) number message.items) }
+    ensures named { IfOk result (λ told. IfSome told.refusal (λ error. is_memory error ≡ false)) }
+{
+    if let Some(text) = given(alloc, filter, &message, after_envelope(&message))? {
         return Ok(Told {
             text: Printed::Given(text),
             refusal: None,
         });
     }
+    let place = place_to_keep(filter, each, &message);
+    match tell_header(alloc, filter.rounds, place.is_some(), message)? {
+        Ok(told) => Ok(told),
+        Err(message) => tell_edits(alloc, filter, place, message),
+    }
+}
+
+// What it says where the section is any other.
+fn tell_section(
+    alloc: Global,
+    filter: &FieldFilter<'_>,
+    each: bool,
+    message: Vec<u8>,
+) -> Result<Told, AllocError>
+    requires { is_allowed (filter_of filter.now) ≡ true }
+    ensures told { IfOk result (λ told. (number : ℕ) → told_said filter.now.path.now number told ≡ said_filtered each (filter_of filter.now) number message.items) }
+    ensures named { IfOk result (λ told. IfSome told.refusal (λ error. is_memory error ≡ false)) }
+{
     let place = place_to_keep(filter, each, &message);
     let session = match Session::start(alloc, message) {
         Ok(session) => session,
@@ -95,19 +134,20 @@ fn tell_message(
     }
 }
 
-// What a filter gives that asks for fields of the root. The message is read no further than these.
-fn given_of_root(
+// What the edits of a filter leave of a message, and the reason where one is refused.
+fn tell_edits(
     alloc: Global,
     filter: &FieldFilter<'_>,
-    message: &[u8],
-) -> Result<Option<Vec<u8>>, AllocError>
-    ensures given { IfOk result (λ text. IfSome text (λ given. Some given.items ≡ given_of filter.now.path.now filter.now.form (map round_of filter.now.rounds.now) message.now)) }
-    ensures root { IfOk result (λ text. IfSome text (λ _. is_root_path filter.now.path.now ≡ true)) }
+    place: Option<Place>,
+    message: Vec<u8>,
+) -> Result<Told, AllocError>
+    requires { is_allowed (filter_of filter.now) ≡ true }
+    ensures told { IfOk result (λ told. (number : ℕ) → told_said filter.now.path.now number told ≡ said_of_made filter.now.path.now number message.items (fitted place (section_made filter.now.path.now (map round_of filter.now.rounds.now) message.items))) }
+    ensures named { IfOk result (λ told. IfSome told.refusal (λ error. is_memory error ≡ false)) }
 {
-    if is_root(filter.path) {
-        given(alloc, filter, message, after_envelope(message))
-    } else {
-        Ok(None)
+    match Session::start(alloc, message) {
+        Ok(session) => tell_edited(alloc, filter, place, session),
+        Err(_) => Err(AllocError),
     }
 }
 
@@ -271,7 +311,18 @@ fn edit(
     ensures named { IfOk result (λ refusal. IfSome refusal (λ error. is_memory error ≡ false)) }
 {
     let edits = field_edits_at(alloc, session.doc(), path, letters)?;
-    match session.group(&edits, &mut Meter::new()) {
+    make_edits(&edits, session)
+}
+
+/// Makes edits in a message, as one step. Answers the reason if one is refused; nothing is changed then.
+pub(crate) fn make_edits(
+    edits: &[Edit],
+    session: &mut Session,
+) -> Result<Option<EditError>, AllocError>
+    ensures made { IfOk result (λ refusal. AreEditsMade (map edit_of edits.now) refusal session.old session.new) }
+    ensures named { IfOk result (λ refusal. IfSome refusal (λ error. is_memory error ≡ false)) }
+{
+    match session.group(edits, &mut Meter::new()) {
         Ok(()) => Ok(None),
         Err(GroupError::Member { refusal, .. }) => Ok(Some(refusal)),
         Err(GroupError::Memory) => Err(AllocError),

@@ -107,7 +107,7 @@ pub(crate) fn ask(letters: &Letters) -> bool
 }
 
 /// The path of the root.
-const ROOT: &[u32] = &[1];
+pub(crate) const ROOT: &[u32] = &[1];
 
 /// What a run that filters fields is asked for.
 #[derive(Clone, Copy, Debug)]

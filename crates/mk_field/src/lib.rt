@@ -25,6 +25,7 @@ mod filtering;
 mod filters;
 mod forms;
 mod giving;
+mod headers;
 mod letters;
 mod telling;
 pub mod word_laws;

@@ -13,9 +13,54 @@ use mk_mail::Sink;
 use mk_report::report_message_at;
 use mk_transfer::{Stop, send};
 use std::alloc::Global;
+use std::marker::Model;
 
 /// How many bytes of output are gathered before they go out.
 const GATHERED_BYTES: usize = 65_536;
+
+/// A message whose header was edited beside it.
+#[derive(Drop)]
+pub(crate) struct Headed {
+    header: Session,
+    message: Vec<u8>,
+    /// How many bytes its old header takes.
+    size: usize,
+}
+
+impl Model for Headed {
+    ghost use Rattle.std.specs.Prelude.{◌≤◌, ◌++◌, ℕ, List, drop, length};
+    ghost use Rattle.mk_edit.specs.Histories.{text_now};
+
+    ghost Value = { List ℕ };
+
+    ghost view = { λ h. text_now h.header ++ drop h.size h.message.items };
+
+    ghost invariant = { λ h. h.size ≤ length h.message.items };
+}
+
+impl Headed {
+    ghost use Rattle.std.specs.Prelude.{◌≡◌, ◌≤◌, ◌++◌, drop, length};
+    ghost use Rattle.mk_edit.specs.Histories.{text_now};
+
+    /// A message, and what takes the place of the bytes of its old header.
+    pub(crate) fn new(header: Session, message: Vec<u8>, size: usize) -> Headed
+        requires { size ≤ length message.items }
+        ensures { result ≡ text_now header ++ drop size message.items }
+    {
+        Headed {
+            header,
+            message,
+            size,
+        }
+    }
+
+    // The header and what follows it.
+    fn parts(&self) -> (&[u8], &[u8])
+        ensures { result.0.now ++ result.1.now ≡ self.now }
+    {
+        (self.header.text(), &self.message[self.size..])
+    }
+}
 
 /// What is printed of a message.
 #[derive(Drop)]
@@ -24,18 +69,22 @@ pub(crate) enum Printed {
     Given(Vec<u8>),
     /// What edits leave of it.
     Left(Session),
+    /// The same, where the header alone was edited.
+    Headed(Headed),
 }
 
 impl Printed {
-    ghost use Rattle.std.specs.Prelude.{◌≡◌};
+    ghost use Rattle.std.specs.Prelude.{◌≡◌, ◌++◌};
     ghost use Rattle.mk_field.specs.inner.Telling.{printed_text};
 
-    fn bytes(&self) -> &[u8]
-        ensures { result.now ≡ printed_text self.now }
+    // Its bytes, in two pieces.
+    fn parts(&self) -> (&[u8], &[u8])
+        ensures { result.0.now ++ result.1.now ≡ printed_text self.now }
     {
         match self {
-            Printed::Given(text) => text,
-            Printed::Left(session) => session.text(),
+            Printed::Given(text) => (text, &[]),
+            Printed::Left(session) => (session.text(), &[]),
+            Printed::Headed(headed) => headed.parts(),
         }
     }
 }
@@ -94,6 +143,32 @@ fn put<O: Sink>(out: &mut O, gathered: &mut Vec<u8>, text: &[u8]) -> Result<(), 
     send(out, text)
 }
 
+// Prints what is printed of a message after what is gathered.
+fn put_printed<O: Sink>(out: &mut O, gathered: &mut Vec<u8>, text: &Printed) -> Result<(), Stop>
+    ensures all { OnOk result (Gathers (printed_text text.now) gathered.old.items gathered.new.items (O.contents out.old) (O.contents out.new)) }
+    ensures some { OnErr result (GathersFront (printed_text text.now) gathered.old.items gathered.new.items (O.contents out.old) (O.contents out.new)) }
+    ensures only { IfErr result (λ stop. stop ≡ Stop.Fault) }
+    ensures fault { OnErr result (Rose (O.failures out.old) (O.failures out.new)) }
+    ensures well { OnOk result (O.failures out.new ≡ O.failures out.old) }
+    ensures unfinished { O.finishes out.new ≡ O.finishes out.old }
+{
+    let (first, second) = text.parts();
+    put(out, gathered, first)?;
+    put(out, gathered, second)
+}
+
+// Prints it with nothing gathered.
+fn send_printed<O: Sink>(out: &mut O, text: &Printed) -> Result<(), Stop>
+    ensures sends { Sends result (printed_text text.now)
+        (O.contents out.old) (O.contents out.new) (O.failures out.old) (O.failures out.new) }
+    ensures only { IfErr result (λ stop. stop ≡ Stop.Fault) }
+    ensures unfinished { O.finishes out.new ≡ O.finishes out.old }
+{
+    let (first, second) = text.parts();
+    send(out, first)?;
+    send(out, second)
+}
+
 // Reports a message for which an edit at a path is refused. Answers whether it did.
 fn report<E: Sink>(
     alloc: Global,
@@ -141,7 +216,7 @@ pub(crate) fn say<O: Sink, E: Sink>(
     ensures counted { E.failures err.old ≤ E.failures err.new }
     ensures unfinished { O.finishes out.new ≡ O.finishes out.old }
 {
-    put(out, gathered, told.text.bytes())?;
+    put_printed(out, gathered, &told.text)?;
     if told.refusal.is_none() {
         return Ok(false);
     }
@@ -172,6 +247,6 @@ pub(crate) fn say_alone<O: Sink, E: Sink>(
     ensures counted { E.failures err.old ≤ E.failures err.new }
     ensures unfinished { O.finishes out.new ≡ O.finishes out.old }
 {
-    send(out, told.text.bytes())?;
+    send_printed(out, &told.text)?;
     report(alloc, path, number, told.refusal, err)
 }

@@ -14,7 +14,7 @@ use Rattle.mk_transfer.specs.declared.status.Cause.TheVariants.{Read}
 use Rattle.mk_transfer.specs.RunClauses.{Held}
 use Rattle.mk_transfer.specs.Said.{Said}
 use Rattle.mk_field.specs.declared.telling.Printed.{Printed}
-use Rattle.mk_field.specs.declared.telling.Printed.TheVariants.{Given, Left}
+use Rattle.mk_field.specs.declared.telling.Printed.TheVariants.{Given, Headed, Left}
 use Rattle.mk_field.specs.declared.telling.Told.{Told}
 use Rattle.mk_field.specs.FilterClauses.{GivesKnown}
 use Rattle.mk_field.specs.Filtering.{PlainFilter, said_from}
@@ -23,6 +23,7 @@ use Rattle.mk_field.specs.Filtering.{PlainFilter, said_from}
 abbrev pub printed_text : Printed → List ℕ
 printed_text (Given text) = text.items
 printed_text (Left history) = text_now history
+printed_text (Headed text) = text
 
 -- the line that names a refusal; none where no refusal is named
 abbrev pub told_line : List ℕ → ℕ → Option Refusal → List ℕ

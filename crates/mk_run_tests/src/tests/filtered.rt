@@ -57,21 +57,28 @@ status: Well
 
 == what follows the header stays as it is, in lines that end in CR LF
 only: A: 9
-message: From x\r\nA: 1\r\nB: 2\r\n\r\n--x\nA: 3
-output: From x\r\nB: 2\r\nA: 9\r\n\r\n--x\nA: 3
+message: From x\r\nA: 1\r\nB: 2\r\n\r\n--x\nA: 3\r\n\r\nA: 4\r\nWhat follows a header is no part of it, whatever it looks like and however long it is.
+output: From x\r\nB: 2\r\nA: 9\r\n\r\n--x\nA: 3\r\n\r\nA: 4\r\nWhat follows a header is no part of it, whatever it looks like and however long it is.
+status: Well
+
+== the same in lines that end in LF
+last: A
+message: A: 1\nB: 2\nA: 3\n\nA: 4\n\nWhat follows a header is no part of it, whatever it looks like and however long it is.
+output: B: 2\nA: 3\n\nA: 4\n\nWhat follows a header is no part of it, whatever it looks like and however long it is.
 status: Well
 
 == a body that no empty line separates from the fields
 only: A: 9
-message: A: 1\nbody\n\nA: 2\n
-output: A: 9\nbody\n\nA: 2\n
+message: A: 1\nbody\n\nA: 2\n\nWhat follows a header is no part of it, whatever it looks like and however long it is.
+output: A: 9\nbody\n\nA: 2\n\nWhat follows a header is no part of it, whatever it looks like and however long it is.
 status: Well
 
-== the type of the body is taken out
+== the type of a long body can't be taken out
 only: Content-Type:
-message: A: 1\nContent-Type: multipart/mixed; boundary=b\n\n--b\n\nx\n--b--\n
-output: A: 1\n\n--b\n\nx\n--b--\n
-status: Well
+message: A: 1\nContent-Type: multipart/mixed; boundary=b\n\n--b\n\nWhat follows a header is no part of it, whatever it looks like and however long it is.\nWhat follows a header is no part of it, whatever it looks like and however long it is.\n--b--\n
+output: A: 1\nContent-Type: multipart/mixed; boundary=b\n\n--b\n\nWhat follows a header is no part of it, whatever it looks like and however long it is.\nWhat follows a header is no part of it, whatever it looks like and however long it is.\n--b--\n
+errors: message 1: Recut\n
+status: Refused
 
 == all fields of a name get a prefix
 prefixed: A:
