@@ -12,6 +12,7 @@ _mimetool_options() {
         pack) options='-b -m --inline --charset --eol --forward --part --utf8 --explain -h --help' ;;
         field) options='--from --in-place --wait --tempfail -p --prepend --drop --rename -a -A -i -I -u -U -x -X --unfold --decode --encode --eol --refused-ok -s --rfc4155 --mbox --explain -h --help' ;;
         messages) options='--from --json --rfc4155 --mbox -h --help' ;;
+        split) options='--from --name -f --silent --bare --unquote -C --rfc4155 --mbox --explain -h --help' ;;
         help) options='' ;;
         '') options='-h --help -V --version' ;;
     esac
@@ -20,7 +21,7 @@ _mimetool_options() {
 
 _mimetool() {
     local cur=${COMP_WORDS[COMP_CWORD]} prev=${COMP_WORDS[COMP_CWORD - 1]} command='' word
-    local commands='edit undo redo sections extract unpack pack field messages help'
+    local commands='edit undo redo sections extract unpack pack field messages split help'
     COMPREPLY=()
     for word in "${COMP_WORDS[@]:1:COMP_CWORD-1}"; do
         case $word in
@@ -33,13 +34,13 @@ _mimetool() {
         edit:-j | undo:-j | redo:-j | *:--from | *:--in-place | pack:--forward)
             mapfile -t COMPREPLY < <(compgen -f -- "$cur")
             return ;;
-        unpack:-C)
+        unpack:-C | split:-C)
             mapfile -t COMPREPLY < <(compgen -d -- "$cur")
             return ;;
         *:--mbox)
             mapfile -t COMPREPLY < <(compgen -W 'any date field' -- "$cur")
             return ;;
-        edit:-e | *:-n | extract:-s | unpack:-s | pack:-b | pack:-m | pack:--charset | field:--prepend | field:--drop | field:--rename | field:-[aAiIpuUxX])
+        edit:-e | *:-n | extract:-s | unpack:-s | pack:-b | pack:-m | pack:--charset | split:--name | field:--prepend | field:--drop | field:--rename | field:-[aAiIpuUxX])
             return ;;
     esac
     if [[ $cur == -* ]]; then

@@ -3,10 +3,15 @@
 use clap::ArgMatches;
 use mk_field::{FieldForm, ValueForm};
 use mk_script::numbers;
-use mk_show::{Portion, Report};
+use mk_show::{MIXED, Portion, Report};
 use mk_view::NameForm;
-use mk_words::options::{DECODE, ENCODE, EOL, HEAD, PATHS, PREFIX, RAW, SILENT, UNFOLD, UTF8};
+use mk_words::options::{
+    DECODE, ENCODE, EOL, HEAD, PATHS, PREFIX, RAW, SILENT, SUBTYPE, TEMPLATE, UNFOLD, UTF8,
+};
 use std::alloc::{AllocError, Global};
+
+/// How `split` names files if the command line doesn't say.
+const USUAL_TEMPLATE: &str = "%04d.eml";
 
 /// What `extract` gives of the section.
 pub fn portion(matches: &ArgMatches<'_>) -> Portion {
@@ -71,5 +76,21 @@ pub fn value_form(matches: &ArgMatches<'_>) -> ValueForm {
         ValueForm::Unfolded
     } else {
         ValueForm::AsWritten
+    }
+}
+
+/// How `split` names files.
+pub fn template<'a>(matches: &'a ArgMatches<'_>) -> &'a str {
+    match matches.get_str(TEMPLATE) {
+        Some(word) => word,
+        None => USUAL_TEMPLATE,
+    }
+}
+
+/// The subtype of the multipart that `pack` builds.
+pub fn subtype<'a>(matches: &'a ArgMatches<'_>) -> &'a [u8] {
+    match matches.get_str(SUBTYPE) {
+        Some(word) => word.as_bytes(),
+        None => MIXED,
     }
 }

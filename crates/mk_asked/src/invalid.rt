@@ -1,13 +1,15 @@
 //! Words of the command line that clap takes as they are, and why some of them are refused.
 
+use crate::forms::template;
 use crate::letters::{placed_words, why_no_values, why_refused};
 use crate::mailboxes::{from_lines, message_number};
 use clap::ArgMatches;
 use mk_script::numbers;
 use mk_show::Spec;
+use mk_split::Template;
 use mk_words::options::{
     EACH, EDIT, EXTRACT, FIELD, JSON, LINE, MBOX, MESSAGES, NUMBER, PACK, PART, PATH, RFC4155,
-    SCRIPT, SECTIONS, SPEC, UNPACK, UNQUOTE, UTF8,
+    SCRIPT, SECTIONS, SPEC, SPLIT, UNPACK, UNQUOTE, UTF8,
 };
 use mk_words::waiting::why_no_seconds;
 use std::alloc::{AllocError, Global};
@@ -52,6 +54,8 @@ pub fn why_invalid(
         why_no_parts(alloc, matches)
     } else if name == FIELD {
         why_no_field(alloc, matches)
+    } else if name == SPLIT {
+        why_no_template(alloc, matches)
     } else {
         Ok(None)
     }
@@ -77,10 +81,10 @@ fn why_no_message(
         )?;
         return Ok(Some(sentence));
     }
-    if unquoted {
+    if unquoted && name != SPLIT {
         return Ok(Some(String::from_str(alloc, NO_MARKS)?));
     }
-    if name == MESSAGES || matches.get_flag(EACH) {
+    if name == MESSAGES || name == SPLIT || matches.get_flag(EACH) {
         return Ok(None);
     }
     let option = if matches.get_flag(RFC4155) {
@@ -177,6 +181,18 @@ fn why_no_paths(alloc: Global, matches: &ArgMatches<'_>) -> Result<Option<String
         }
     }
     Ok(None)
+}
+
+// Why the word of `--name` is no template, if it isn't one.
+fn why_no_template(alloc: Global, matches: &ArgMatches<'_>) -> Result<Option<String>, AllocError> {
+    let word = template(matches);
+    if Template::read(word.as_bytes()).is_some() {
+        return Ok(None);
+    }
+    let sentence = format!(in alloc;
+        "invalid value '{word}' for '--name <TEMPLATE>': write the name of a file in ASCII, with one %d or %04d for the number"
+    )?;
+    Ok(Some(sentence))
 }
 
 // Why a word of `pack` isn't a part, if there is one that isn't.

@@ -2,7 +2,7 @@
 
 use crate::editing::{edit, redo, undo};
 use crate::faults::{Problem, usage};
-use crate::mailboxes::{Picked, messages, pick_message};
+use crate::mailboxes::{Picked, messages, pick_message, split};
 use crate::packing::pack;
 use clap::ArgMatches;
 use mk_asked::{
@@ -18,13 +18,13 @@ use mk_script::numbers;
 use mk_system::Directory;
 use mk_words::options::{
     DIR, EACH, EDIT, EXTRACT, FIELD, JSON, MESSAGES, OVER, PACK, PATH, REDO, REFUSED_OK, SECTIONS,
-    TEXTS, UNDO, UNPACK,
+    SPLIT, TEXTS, UNDO, UNPACK,
 };
 use std::fs::File;
 use std::rt::{Clock, Files};
 
 /// The folder that files are written to if no folder is named.
-const WORKING_FOLDER: &str = ".";
+pub const WORKING_FOLDER: &str = ".";
 
 /// The path of the message itself, whose fields are filtered if no section is named.
 const ROOT: &str = "1";
@@ -50,6 +50,8 @@ pub fn run_command<R: Files<File = File> + Clock + AllocGlobal, S: Source, O: Si
         field(rt, matches, input, out, err)
     } else if name == MESSAGES {
         messages(rt.alloc(), matches, input, out)
+    } else if name == SPLIT {
+        split(rt, matches, input, out, err)
     } else {
         match pick_message(rt.alloc(), matches, input, err)? {
             Picked::Whole => show(rt, name, matches, input, out, err),
@@ -148,16 +150,9 @@ fn unpack<R: Files<File = File> + AllocGlobal, S: Source, O: Sink, E: Sink>(
     let mut dir = Directory::new(rt, path);
     let done = try_unpack(alloc, input, out, err, &mut dir, options);
     let unwritten = dir.close();
-    match (done, unwritten) {
-        (Ok(status), _) => Ok(status),
-        (Err(cause), None) => Err(Problem::Stopped(cause)),
-        (Err(cause), Some(unwritten)) => {
-            let file = match &unwritten.path {
-                Some(file) => file.as_str(),
-                None => path,
-            };
-            Err(Problem::from(cause).blamed(alloc, Cause::Write, file, Some(unwritten.error)))
-        }
+    match done {
+        Ok(status) => Ok(status),
+        Err(cause) => Err(Problem::in_folder(alloc, cause, path, unwritten)),
     }
 }
 

@@ -4,6 +4,7 @@ use clap::Error;
 use clap::error::ErrorKind;
 use mk_mail::Sink;
 use mk_run::{Cause, Status, give_up, write_all};
+use mk_system::Unwritten;
 use mk_words::options::subcommand;
 use std::alloc::{AllocError, AllocFailed, Global};
 use std::io;
@@ -51,6 +52,23 @@ impl Problem {
             }
             (problem, _) => problem,
         }
+    }
+
+    /// A run that stopped for this cause, and the file of a folder that couldn't be written, if there is one.
+    pub fn in_folder(
+        alloc: Global,
+        cause: Cause,
+        folder: &str,
+        unwritten: Option<Unwritten>,
+    ) -> Problem {
+        let Some(unwritten) = unwritten else {
+            return Problem::Stopped(cause);
+        };
+        let file = match &unwritten.path {
+            Some(file) => file.as_str(),
+            None => folder,
+        };
+        Problem::from(cause).blamed(alloc, Cause::Write, file, Some(unwritten.error))
     }
 }
 

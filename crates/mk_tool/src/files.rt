@@ -57,7 +57,10 @@ pub fn attachments<R: Files + AllocGlobal>(
     let mut parts = Vec::new(rt.alloc());
     for word in words {
         if let Some(spec) = Spec::of(word.as_bytes()) {
-            let path = path_in(*word);
+            let path = match word.split_once(':') {
+                Some((_, path)) => path,
+                None => *word,
+            };
             let text = read(rt, path)?;
             parts.push(if inline {
                 spec.inline(rt.alloc(), text)?
@@ -81,12 +84,4 @@ pub fn forwards<R: Files + AllocGlobal>(
         messages.push(Forward { text, inline })?;
     }
     Ok(messages)
-}
-
-// The path in a word TYPE:FILE.
-fn path_in(word: &str) -> &str {
-    match word.split_once(':') {
-        Some((_, path)) => path,
-        None => word,
-    }
 }

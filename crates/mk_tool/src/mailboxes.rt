@@ -1,13 +1,18 @@
-//! Mailboxes: their messages listed, or one of them in place of the input.
+//! Mailboxes: their messages listed, written to files, or one of them in place of the input.
 
-use crate::faults::Problem;
+use crate::commands::WORKING_FOLDER;
+use crate::faults::{Problem, usage};
 use clap::ArgMatches;
-use mk_asked::{from_lines, message_number};
+use mk_asked::{from_lines, message_number, template};
 use mk_mail::{FromLines, Sink, Source};
 use mk_messages::{pick, report_missing, try_messages, unmarked, without_separator};
 use mk_run::{Cause, Status, Stop};
-use mk_words::options::{JSON, NUMBER, UNQUOTE};
+use mk_split::{SplitOptions, Template, try_split};
+use mk_system::Directory;
+use mk_words::options::{BARE, DIR, JSON, NUMBER, OVER, SILENT, UNQUOTE};
 use std::alloc::{AllocError, Global};
+use std::fs::File;
+use std::rt::Files;
 
 /// The message that a command works on.
 #[derive(Drop)]
@@ -34,6 +39,36 @@ pub fn messages<S: Source, O: Sink>(
         try_messages(alloc, input, out, from_lines)?;
     }
     Ok(Status::Well)
+}
+
+/// mimetool split
+pub fn split<R: Files<File = File> + AllocGlobal, S: Source, O: Sink, E: Sink>(
+    rt: &R,
+    matches: &ArgMatches<'_>,
+    input: &mut S,
+    out: &mut O,
+    err: &mut E,
+) -> Result<Status, Problem> {
+    let alloc = rt.alloc();
+    let Some(names) = Template::read(template(matches).as_bytes()) else {
+        return Ok(usage(err));
+    };
+    let options = SplitOptions {
+        from_lines: from_lines(matches).unwrap_or(FromLines::Any),
+        names: &names,
+        over: matches.get_flag(OVER),
+        silent: matches.get_flag(SILENT),
+        bare: matches.get_flag(BARE),
+        unquote: matches.get_flag(UNQUOTE),
+    };
+    let path = matches.get_str(DIR).unwrap_or(WORKING_FOLDER);
+    let mut dir = Directory::new(rt, path);
+    let done = try_split(alloc, input, out, err, &mut dir, &options);
+    let unwritten = dir.close();
+    match done {
+        Ok(status) => Ok(status),
+        Err(cause) => Err(Problem::in_folder(alloc, cause, path, unwritten)),
+    }
 }
 
 /// Reads the message of `-n`, if the command line has one.

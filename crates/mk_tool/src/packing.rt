@@ -3,12 +3,12 @@
 use crate::faults::{Problem, usage};
 use crate::files::{attachments, forwards};
 use clap::ArgMatches;
-use mk_asked::name_form;
+use mk_asked::{name_form, subtype};
 use mk_line::Ending;
 use mk_mail::{NameForm, Sink, Source};
 use mk_run::Status;
-use mk_show::{AttachOptions, MIXED, PackOptions, try_pack, try_part, turned_parts};
-use mk_words::options::{BOUNDARY, CHARSET, EOL, FORWARD, INLINE, PART, SPEC, SUBTYPE};
+use mk_show::{AttachOptions, PackOptions, try_pack, try_part, turned_parts};
+use mk_words::options::{BOUNDARY, CHARSET, EOL, FORWARD, INLINE, PART, SPEC};
 use std::rt::Files;
 
 /// mimetool pack
@@ -48,12 +48,4 @@ pub fn pack<R: Files + AllocGlobal, S: Source, O: Sink, E: Sink>(
         turned,
     };
     Ok(try_pack(alloc, input, out, err, options, &parts, &messages)?)
-}
-
-// -m SUBTYPE
-fn subtype<'a>(matches: &'a ArgMatches<'_>) -> &'a [u8] {
-    match matches.get_str(SUBTYPE) {
-        Some(word) => word.as_bytes(),
-        None => MIXED,
-    }
 }

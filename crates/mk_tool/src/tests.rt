@@ -15,6 +15,7 @@ mod locks;
 mod mailboxes;
 mod prepends;
 mod section_fields;
+mod split;
 mod tips;
 mod usage;
 

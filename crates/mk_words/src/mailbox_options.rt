@@ -1,8 +1,10 @@
 //! The words on mailboxes.
 
 use crate::arguments::{Argument, FLAG, OPTION, Subcommand};
-use crate::options::{JSON, MBOX, MESSAGES, NUMBER, RFC4155, UNQUOTE};
-use crate::shared_options::FROM_OPTION;
+use crate::options::{
+    BARE, DIR, JSON, MBOX, MESSAGES, NUMBER, OVER, RFC4155, SILENT, SPLIT, TEMPLATE, UNQUOTE,
+};
+use crate::shared_options::{EXPLAIN_OPTION, FROM_OPTION};
 
 /// mimetool messages [--from FILE] [--json] [--rfc4155|--mbox HOW]
 pub static MESSAGES_COMMAND: Subcommand = Subcommand {
@@ -19,6 +21,54 @@ pub static MESSAGES_COMMAND: Subcommand = Subcommand {
         },
         RFC4155_OPTION,
         MBOX_OPTION,
+    ],
+};
+
+/// mimetool split [--from FILE] [--rfc4155|--mbox HOW] [--name TEMPLATE] [-f] [--silent] [--bare] [--unquote] [-C DIR]
+pub static SPLIT_COMMAND: Subcommand = Subcommand {
+    name: SPLIT,
+    about: "Writes each message of a mailbox to a file of its own, and prints the names",
+    after_help: "Examples:\n  mimetool split -C messages < mailbox\n  mimetool split --bare --unquote --name mail-%06d.eml --from mailbox",
+    arguments: &[
+        FROM_OPTION,
+        Argument {
+            id: TEMPLATE,
+            long: Some("name"),
+            value_name: Some("TEMPLATE"),
+            help: "Name the files so, with %d or %04d for the number of the message [default: %04d.eml]",
+            ..OPTION
+        },
+        Argument {
+            id: OVER,
+            short: Some('f'),
+            help: "Overwrite existing files",
+            ..FLAG
+        },
+        Argument {
+            id: SILENT,
+            long: Some(SILENT),
+            help: "Print no names",
+            ..FLAG
+        },
+        Argument {
+            id: BARE,
+            long: Some(BARE),
+            help: "Leave out the From-line that begins each message",
+            ..FLAG
+        },
+        Argument {
+            help: "Remove one > from lines that begin with >From, >>From and so on",
+            ..UNQUOTE_OPTION
+        },
+        Argument {
+            id: DIR,
+            short: Some('C'),
+            help: "The folder to write to; it is created if it doesn't exist",
+            ..OPTION
+        },
+        RFC4155_OPTION,
+        MBOX_OPTION,
+        EXPLAIN_OPTION,
     ],
 };
 

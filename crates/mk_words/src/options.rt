@@ -3,7 +3,7 @@
 use crate::arguments::Subcommand;
 use crate::edit_options::{EDIT_COMMAND, REDO_COMMAND, UNDO_COMMAND};
 use crate::field_options::FIELD_COMMAND;
-use crate::mailbox_options::MESSAGES_COMMAND;
+use crate::mailbox_options::{MESSAGES_COMMAND, SPLIT_COMMAND};
 use crate::pack_options::PACK_COMMAND;
 use crate::section_options::{EXTRACT_COMMAND, SECTIONS_COMMAND, UNPACK_COMMAND};
 use clap::Command;
@@ -174,6 +174,15 @@ pub const REFUSED_OK: &str = "refused-ok";
 /// The subcommand that lists the messages of a mailbox.
 pub const MESSAGES: &str = "messages";
 
+/// The subcommand that writes the messages of a mailbox to files.
+pub const SPLIT: &str = "split";
+
+/// `--name TEMPLATE`: how the files of messages are named.
+pub const TEMPLATE: &str = "TEMPLATE";
+
+/// `--bare`: messages without the From-line that begins them.
+pub const BARE: &str = "bare";
+
 /// `-n N`: the N-th message of a mailbox.
 pub const NUMBER: &str = "NUMBER";
 
@@ -187,8 +196,8 @@ pub const MBOX: &str = "mbox";
 pub const UNQUOTE: &str = "unquote";
 
 /// The subcommands, in the order in which help lists them.
-const SUBCOMMANDS: [&str; 9] = [
-    EDIT, UNDO, REDO, SECTIONS, EXTRACT, UNPACK, PACK, FIELD, MESSAGES,
+const SUBCOMMANDS: [&str; 10] = [
+    EDIT, UNDO, REDO, SECTIONS, EXTRACT, UNPACK, PACK, FIELD, MESSAGES, SPLIT,
 ];
 
 /// The command line of the program.
@@ -228,6 +237,8 @@ fn row(name: &str) -> &'static Subcommand {
         &PACK_COMMAND
     } else if name == MESSAGES {
         &MESSAGES_COMMAND
+    } else if name == SPLIT {
+        &SPLIT_COMMAND
     } else {
         &FIELD_COMMAND
     }

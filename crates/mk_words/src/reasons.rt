@@ -1,6 +1,6 @@
 //! What the reasons that are named in lines mean.
 
-use crate::options::PACK;
+use crate::options::{PACK, SPLIT};
 
 /// What separates what a line is about from the name of the reason.
 const COLON: &[u8] = b": ";
@@ -100,6 +100,12 @@ const PACK_REASONS: [(&str, &str); 4] = [
     ("BadCharset", "this isn't a token, such as utf-8"),
 ];
 
+/// The reason that means something else when a mailbox is split.
+const SPLIT_REASONS: [(&str, &str); 1] = [(
+    "exists",
+    "a file has this name, so the message isn't written; '-f' overwrites the file",
+)];
+
 /// What a line is about, with the colon after it, and what the reason that it names means. `None` if it doesn't name a reason.
 pub fn told<'a>(command: &str, line: &'a [u8]) -> Option<(&'a [u8], &'static str)> {
     let (about, name) = parts(line)?;
@@ -120,14 +126,23 @@ fn parts(line: &[u8]) -> Option<(&[u8], &[u8])> {
 
 // What a reason means.
 fn sentence(command: &str, name: &[u8]) -> Option<&'static str> {
-    let own = PACK_REASONS
-        .iter()
-        .find(|row| command == PACK && row.0.as_bytes() == name);
-    match own {
+    let own = own_reasons(command);
+    match own.iter().find(|row| row.0.as_bytes() == name) {
         Some(row) => Some(row.1),
         None => REASONS
             .iter()
             .find(|row| row.0.as_bytes() == name)
             .map(|row| row.1),
+    }
+}
+
+// The reasons that mean something else for a subcommand.
+fn own_reasons(command: &str) -> &'static [(&'static str, &'static str)] {
+    if command == PACK {
+        &PACK_REASONS
+    } else if command == SPLIT {
+        &SPLIT_REASONS
+    } else {
+        &[]
     }
 }

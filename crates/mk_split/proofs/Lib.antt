@@ -1,0 +1,2 @@
+pub mod SafeTemplates
+pub mod SplitLemmas

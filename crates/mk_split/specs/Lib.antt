@@ -1,0 +1,4 @@
+pub mod Templates
+pub mod Splitting
+pub mod SplitClauses
+pub mod inner
