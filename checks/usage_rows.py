@@ -8,17 +8,18 @@ A_NAME = "write a name and a colon, such as Subject:"
 A_NAME_OR_FRONT = A_NAME + ", or with an asterisk before the colon, such as X-*:"
 A_PATH = "write numbers from 1 with dots between them, such as 1.2"
 A_SPEC = "write TYPE:FILE, such as image/gif:dot.gif"
+A_TEMPLATE = "write the name of a file in ASCII, with one %d or %04d for the number"
 SECONDS = "write a whole number of seconds, from 0 to 4294967295"
 APART = "-x and -X print fields, so neither goes with another letter"
 
-COMMANDS = ["edit", "undo", "redo", "sections", "extract", "unpack", "pack", "field"]
+COMMANDS = ["edit", "undo", "redo", "sections", "extract", "unpack", "pack", "field", "messages", "split"]
 WITH_FROM = [command for command in COMMANDS if command != "pack"]
 IN_PLACE = ["edit", "undo", "redo", "field"]
 
 # What a command needs beside the words that a row is about.
 NEEDED = {
     "edit": ["-e", "undo"], "undo": ["-j", "j"], "redo": ["-j", "j"], "sections": [], "extract": ["-s", "1"], "unpack": [],
-    "pack": ["-b", "b", "text/plain:f"], "field": [],
+    "pack": ["-b", "b", "text/plain:f"], "field": [], "messages": [], "split": [],
 }
 
 # Each option that takes a value, with a value that it takes.
@@ -34,6 +35,8 @@ OPTIONS = {
         "--prepend <NAME:TEXT>": "A:b", "--drop <NAME:>": "A:", "--rename <OLD:NEW>": "A:B", "-a <FIELD>": "A: 1", "-A <FIELD>": "A: 1", "-i <FIELD>": "A: 1", "-I <FIELD>": "A: 1",
         "-u <NAME:>": "A:", "-U <NAME:>": "A:", "-x <NAME:>": "A:", "-X <NAME:>": "A:",
     },
+    "messages": {"--mbox <HOW>": "date"},
+    "split": {"--name <TEMPLATE>": "%d", "-C <DIR>": "d", "--mbox <HOW>": "date"},
 }
 for command in WITH_FROM:
     OPTIONS[command]["--from <FILE>"] = "f"
@@ -43,6 +46,7 @@ for command in IN_PLACE:
 FLAGS = {
     "sections": ["--json"], "extract": ["--raw", "--head", "--prefix"], "unpack": ["-f", "-t", "--silent", "--paths", "--utf8"],
     "pack": ["--inline", "--utf8"], "field": ["-s"], "messages": ["--json"],
+    "split": ["-f", "--silent", "--bare", "--unquote"],
 }
 for command in IN_PLACE:
     FLAGS[command] = [*FLAGS.get(command, []), "--tempfail"]
@@ -55,6 +59,8 @@ VALUES = [
     *[(["pack", "-b", "b", value], "<SPEC>...", value, A_SPEC) for value in ("text", "text/plain", "", "a b")],
     (["pack", "-b", "b", "text/plain:f", "n"], "<SPEC>...", "n", A_SPEC),
     *[(["pack", "--part", value], "--part <SPEC>", value, A_SPEC) for value in ("text", "text/plain", "", "a b")],
+    *[(["split", "--name", value], "--name <TEMPLATE>", value, A_TEMPLATE)
+      for value in ("", "m.eml", "%", "%%d", "%d%d", "%4d", "%0d", "%00d", "%s", "../%d", "a/%d", ".%d", "-%d", "%d\n", "\xe9%d")],
     *[(["field", "--rename", value], "--rename <OLD:NEW>", value, A_PAIR)
       for value in ("", "AB", ":", "A:", ":B", "A:B C", "A B:C", "A:B:C", "A: B")],
     *[(["field", letter, value], f"{letter} <FIELD>", value, A_FIELD)
@@ -124,7 +130,7 @@ SAID = [
 ]
 
 # Words that stand where none is taken.
-SUPERFLUOUS = {"undo": "w", "redo": "w", "sections": "1", "extract": "1", "unpack": "n", "field": "A: 1"}
+SUPERFLUOUS = {"undo": "w", "redo": "w", "sections": "1", "extract": "1", "unpack": "n", "field": "A: 1", "messages": "m", "split": "m"}
 
 # Options that exclude each other, of a command that has both.
 EXCLUDED = [
@@ -181,7 +187,7 @@ def said():
     for command in ("edit", "undo", "redo", "field"):
         for option in ("-f", "-t"):
             yield f"{option} of {command}", [command, *NEEDED[command], option], [f"unexpected argument '{option}' found", f"Usage: mimetool {command}"]
-    for command in ("sections", "extract", "unpack", "pack"):
+    for command in ("sections", "extract", "unpack", "pack", "messages", "split"):
         yield (f"--in-place of {command}", [command, *NEEDED[command], "--in-place", "f"],
                ["unexpected argument '--in-place' found", f"Usage: mimetool {command}"])
     for command in IN_PLACE:
