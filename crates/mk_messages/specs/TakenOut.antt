@@ -30,3 +30,7 @@ unmarked_line l = if is_marked l.content then text_line (drop 1 l.content) l.end
 -- a message without one mark of each line that a mailbox has marked
 abbrev pub unmarked : List ℕ → List ℕ
 unmarked text = text_of (map unmarked_line (cut text))
+
+-- a message as it was before it went in, without the marks of its lines where that is asked for
+abbrev pub taken_out : Bool → List ℕ → List ℕ
+taken_out unquote message = if unquote then unmarked (without_separator message) else without_separator message

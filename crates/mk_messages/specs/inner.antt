@@ -1,1 +1,2 @@
 pub mod Separators
+pub mod WorkSteps

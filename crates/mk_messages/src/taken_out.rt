@@ -1,13 +1,13 @@
 //! A message of a mailbox as it was before it went in.
 
-ghost use Rattle.std.specs.Prelude.{◌≡◌, ◌==◌, ◌<◌, ◌≤◌, length, true, IfOk};
+ghost use Rattle.std.specs.Prelude.{◌≡◌, ◌==◌, ◌<◌, ◌≤◌, length, take, true, IfOk};
 ghost use Rattle.std.specs.List.{prefix_len};
 ghost use Rattle.mk_line.specs.Lines.{cut as lines_of};
 ghost use Rattle.mk_line.specs.Views.{line_of};
 ghost use Rattle.mk_mailbox.specs.declared.from_lines.FromLines.TheVariants.{Any};
 ghost use Rattle.mk_mailbox.specs.Places.{begins_from as is_from_first};
 ghost use Rattle.mk_messages.specs.inner.Separators.{separator_length as length_of_separator};
-ghost use Rattle.mk_messages.specs.TakenOut.{is_marked as was_marked, mark, unmarked as unmarked_text, unmarked_line as line_unmarked, without_separator as text_alone};
+ghost use Rattle.mk_messages.specs.TakenOut.{is_marked as was_marked, mark, taken_out as text_taken_out, unmarked as unmarked_text, unmarked_line as line_unmarked, without_separator as text_alone};
 
 use mk_line::{Line, cut, is_from_line};
 use std::alloc::{AllocError, Global};
@@ -17,16 +17,46 @@ const MARK: u8 = b'>';
 
 const FROM: &[u8] = b"From ";
 
+/// What stands of a message before the empty line that ends it in a mailbox. A text that doesn't begin with a From-line stays as it
+/// is.
+pub fn before_separator(message: &[u8]) -> &[u8]
+    ensures { result.now ≡ text_alone message.now }
+{
+    &message[..alone_length(message)]
+}
+
 /// Removes the empty line that ends a message in a mailbox. A text that doesn't begin with a From-line stays as it is.
 pub fn without_separator(message: Vec<u8>) -> Vec<u8>
     ensures { result.items ≡ text_alone message.items }
 {
     let mut message = message;
-    if begins_from(&message) {
-        let length = message.len().saturating_sub(separator_length(&message));
-        message.truncate(length);
-    }
+    let length = alone_length(&message);
+    message.truncate(length);
     message
+}
+
+/// A message as it was before it went into the mailbox. Where `unquote` says so, its lines lose one mark, too.
+pub fn take_out(alloc: Global, message: Vec<u8>, unquote: bool) -> Result<Vec<u8>, AllocError>
+    ensures { IfOk result (λ text. text.items ≡ text_taken_out unquote message.items) }
+{
+    let alone = without_separator(message);
+    if unquote {
+        unmarked(alloc, &alone)
+    } else {
+        Ok(alone)
+    }
+}
+
+// How many bytes of a message stand before that line.
+fn alone_length(message: &[u8]) -> usize
+    ensures front { take result message.now ≡ text_alone message.now }
+    ensures within { result ≤ length message.now }
+{
+    if begins_from(message) {
+        message.len().saturating_sub(separator_length(message))
+    } else {
+        message.len()
+    }
 }
 
 fn begins_from(text: &[u8]) -> bool

@@ -1,4 +1,3 @@
 pub mod Templates
 pub mod Splitting
 pub mod SplitClauses
-pub mod inner

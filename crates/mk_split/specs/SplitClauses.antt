@@ -14,10 +14,14 @@ use Rattle.mk_split.specs.declared.splitting.SplitOptions.{SplitOptions}
 use Rattle.mk_split.specs.Splitting.{Splits, file_text}
 use Rattle.mk_split.specs.Templates.{template_name}
 
+-- of a message at most a front was put
+abbrev pub PutsPart : SplitOptions → ℕ → List ℕ → Option Files → Option Files → Type 0
+PutsPart o number message old new = (new ≡ old) ⊎ GetsFront old new (template_name o.names.now number) (file_text o message)
+
 -- of the first of some messages at most a front was put, and of the others nothing
 abbrev pub PutsNext : SplitOptions → ℕ → List (List ℕ) → Option Files → Option Files → Type 0
 PutsNext o number [] old new = new ≡ old
-PutsNext o number (m ∷ ms) old new = (new ≡ old) ⊎ GetsFront old new (template_name o.names.now number) (file_text o m)
+PutsNext o number (m ∷ ms) old new = PutsPart o number m old new
 
 -- a front of the messages was put, a front of what is said of them went out, and of the next message at most a front was put
 pub record SplitSome (o : SplitOptions) (number : ℕ) (ms : List (List ℕ)) (before after : Written) : Type 0 where

@@ -1,24 +1,7 @@
-use Rattle.std.proofs.Common.{◌≡◌, if◌then◌else◌, [], sym}
-use Rattle.std.proofs.lemmas.List.{append-nil}
-use Rattle.mk_mailbox.specs.Pieces.{mailbox_pieces}
-use Rattle.mk_transfer.specs.declared.status.Status.TheVariants.{Well, Refused}
-use Rattle.mk_split.proofs.SplitLemmas.{cut_between, ends_split, kept_split}
+use Rattle.mk_split.proofs.SplitLemmas.{leaves_split}
 use Rattle.mk_split.proofs.splitting.try_split.Goals as goal
-use Rattle.mk_split.proofs.splitting.try_split.Goals.{then-refused, else-refused}
-
-pub returns-in-Ok-clause-leaves : goal.returns-in-Ok-clause-leaves
-returns-in-Ok-clause-leaves g c =
-    let o = c.args.options.now in
-    let all = c.in_ok-refused.ensures.all in
-    let status_is : c.if-refused.result ≡ (if c.in_ok-refused.refused then Refused else Well) = elim c.if-refused.branch [
-      | then-refused w ↦ rw w.if-refused.true w.result-is
-      | else-refused w ↦ rw w.if-refused.false w.result-is
-    ] in
-    (all.0, all.1, ends_split o (mailbox_pieces o.from_lines all.0) c.in_ok-refused.refused c.if-refused.result _ _ _ _ _ _ _ _ _ all.2 c.in-Ok.ensures.kept status_is c.in_ok-refused.ensures.at_end)
 
 pub returns-clause-leaves : goal.returns-clause-leaves
 returns-clause-leaves g c =
-    let o = c.args.options.now in
-    let all = c.in_ok-refused.ensures.all in
-    let ms = mailbox_pieces o.from_lines all.0 in
-    (all.0, all.1, cut_between o 1 ms [] ms c.in_ok-refused.refused _ _ (kept_split o 1 ms c.in_ok-refused.refused _ _ _ _ _ _ _ all.2 c.in-Err.ensures.kept) (sym (append-nil ms)))
+    let left = c.try_each.ensures.leaves in
+    (left.0, left.1, leaves_split g.row.F.Denot g.F.Folder.files c.args.options.now c.try_each.result _ _ _ _ _ left.2)
