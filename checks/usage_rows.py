@@ -44,9 +44,9 @@ for command in IN_PLACE:
     OPTIONS[command]["--in-place <FILE>"] = "f"
 
 FLAGS = {
-    "sections": ["--json"], "extract": ["--raw", "--head", "--prefix"], "unpack": ["-f", "-t", "--silent", "--paths", "--utf8"],
-    "pack": ["--inline", "--utf8"], "field": ["-s"], "messages": ["--json"],
-    "split": ["-f", "--silent", "--bare", "--unquote"],
+    "edit": ["--each"], "sections": ["--json", "--each"], "extract": ["--raw", "--head", "--prefix", "--each"], "unpack": ["-f", "-t", "--silent", "--paths", "--utf8", "--each"],
+    "pack": ["--inline", "--utf8"], "field": ["--each"], "messages": ["--json"],
+    "split": ["-f", "--silent", "--maildir", "--bare", "--unquote"],
 }
 for command in IN_PLACE:
     FLAGS[command] = [*FLAGS.get(command, []), "--tempfail"]
@@ -142,6 +142,9 @@ EXCLUDED = [
     ("extract", ["--raw", "--head"], ["--raw", "--head"]),
     ("extract", ["--head", "--prefix"], ["--head", "--prefix"]),
     ("extract", ["--prefix", "--raw"], ["--raw", "--prefix"]),
+    *[(command, ["--each", "-n", "1"], ["--each", "-n <N>"]) for command in ("edit", "sections", "extract", "unpack")],
+    ("edit", ["--each", "-j", "j"], ["--each", "-j <JOURNAL>"]),
+    ("edit", ["--each", "--unquote"], ["--each", "--unquote"]),
 ]
 
 # Command lines of which a word isn't UTF-8.

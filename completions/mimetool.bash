@@ -3,16 +3,16 @@
 _mimetool_options() {
     local options=''
     case $1 in
-        edit) options='--from --in-place --wait --tempfail -n --rfc4155 --mbox --unquote -j --all --eol --explain -e -h --help' ;;
+        edit) options='--from --in-place --wait --tempfail -n --each --rfc4155 --mbox --unquote -j --all --eol --explain -e -h --help' ;;
         undo) options='--from --in-place --wait --tempfail -j --explain -h --help' ;;
         redo) options='--from --in-place --wait --tempfail -j --explain -h --help' ;;
-        sections) options='--from -n --rfc4155 --mbox --unquote --json --utf8 --explain -h --help' ;;
-        extract) options='--from -n --rfc4155 --mbox --unquote -s --raw --head --prefix --utf8 --explain -h --help' ;;
-        unpack) options='--from -n --rfc4155 --mbox --unquote -f -t -s --silent --paths --utf8 -C --explain -h --help' ;;
+        sections) options='--from -n --each --rfc4155 --mbox --unquote --json --utf8 --explain -h --help' ;;
+        extract) options='--from -n --each --rfc4155 --mbox --unquote -s --raw --head --prefix --utf8 --explain -h --help' ;;
+        unpack) options='--from -n --each --rfc4155 --mbox --unquote -f -t -s --silent --paths --utf8 -C --explain -h --help' ;;
         pack) options='-b -m --inline --charset --eol --forward --part --utf8 --explain -h --help' ;;
-        field) options='--from --in-place --wait --tempfail -p --prepend --drop --rename -a -A -i -I -u -U -x -X --unfold --decode --encode --eol --refused-ok -s --rfc4155 --mbox --explain -h --help' ;;
+        field) options='--from --in-place --wait --tempfail -p --prepend --drop --rename -a -A -i -I -u -U -x -X --unfold --decode --encode --eol --refused-ok -s --each --rfc4155 --mbox --explain -h --help' ;;
         messages) options='--from --json --rfc4155 --mbox -h --help' ;;
-        split) options='--from --name -f --silent --bare --unquote -C --rfc4155 --mbox --explain -h --help' ;;
+        split) options='--from --name -f --silent --maildir --bare --unquote -C --rfc4155 --mbox --explain -h --help' ;;
         help) options='' ;;
         '') options='-h --help -V --version' ;;
     esac

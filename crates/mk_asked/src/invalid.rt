@@ -21,8 +21,10 @@ const NO_SCRIPT: &str = "give a SCRIPT, or its lines, each with -e";
 const NO_JSON: &str = "--utf8 goes only with --json: the plain listing has no names";
 
 /// What is said of marks if no message of a mailbox is read.
-const NO_MARKS: &str =
-    "--unquote goes only with -n: it removes the > that a mailbox puts before lines";
+const NO_MARKS: &str = "it removes the > that a mailbox puts before lines";
+
+/// What is said of the way a mailbox is cut if none is read.
+const NO_CUTS: &str = "it says how a mailbox is cut";
 
 /// The options that take a path, as help writes them.
 const SECTION: &str = "-s <PATH>";
@@ -71,7 +73,6 @@ fn why_no_message(
     if let Some(sentence) = why_no_cuts(alloc, matches)? {
         return Ok(Some(sentence));
     }
-    let unquoted = matches.get_flag(UNQUOTE);
     if let Some(word) = matches.get_str(NUMBER) {
         if message_number(alloc, word)?.is_some() {
             return Ok(None);
@@ -81,24 +82,33 @@ fn why_no_message(
         )?;
         return Ok(Some(sentence));
     }
-    if unquoted && name != SPLIT {
-        return Ok(Some(String::from_str(alloc, NO_MARKS)?));
-    }
     if name == MESSAGES || name == SPLIT || matches.get_flag(EACH) {
         return Ok(None);
     }
-    let option = if matches.get_flag(RFC4155) {
-        "--rfc4155"
+    let unquoted = matches.get_flag(UNQUOTE);
+    let (option, reason) = if unquoted {
+        ("--unquote", NO_MARKS)
+    } else if matches.get_flag(RFC4155) {
+        ("--rfc4155", NO_CUTS)
     } else if matches.get_str(MBOX).is_some() {
-        "--mbox"
+        ("--mbox", NO_CUTS)
     } else {
         return Ok(None);
     };
-    let other = if name == FIELD { "-s" } else { "-n" };
-    let sentence = format!(in alloc;
-        "{option} goes only with {other}: it says how a mailbox is cut"
-    )?;
+    let others = ways_to_read_a_mailbox(name, unquoted);
+    let sentence = format!(in alloc; "{option} goes only with {others}: {reason}")?;
     Ok(Some(sentence))
+}
+
+// The options of a subcommand with which it reads a mailbox, as help writes them.
+fn ways_to_read_a_mailbox(name: &str, unquoted: bool) -> &'static str {
+    if name == FIELD {
+        "-s"
+    } else if name == EDIT && unquoted {
+        "-n"
+    } else {
+        "-n or --each"
+    }
 }
 
 // Why the word of `--mbox` names no From-lines, if it doesn't.

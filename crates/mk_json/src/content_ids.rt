@@ -17,8 +17,8 @@ const CLOSING: u8 = b')';
 
 const BACKSLASH: u8 = b'\\';
 
-/// Writes the id that the first Content-ID of a section says, without the angle brackets, as a URL has it (RFC 2392). An empty
-/// one is none.
+/// Writes the id that the first Content-ID of a section says, without the angle brackets, as a URL has it (RFC 2392). An empty id
+/// isn't written.
 pub(crate) fn push_content_id(
     alloc: Global,
     text: &mut Vec<u8>,

@@ -15,10 +15,12 @@
 #![tactic(auto)]
 
 mod content_ids;
+mod each;
 mod listing;
 mod messages;
 mod parameters;
 mod strings;
 
+pub use each::SectionObjects;
 pub use listing::{list, list_in};
 pub use messages::{ObjectLine, try_messages};

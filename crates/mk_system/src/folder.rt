@@ -15,6 +15,13 @@ use std::{fs, io};
 /// What is said of an empty path.
 const NAMELESS: &str = "a folder needs a name";
 
+/// The folders of a Maildir: of new messages, of those that were seen, and of those that aren't whole yet.
+const NEW: &str = "new";
+
+const CURRENT: &str = "cur";
+
+const TEMPORARY: &str = "tmp";
+
 /// Why a file wasn't written.
 #[derive(Drop)]
 pub struct Unwritten {
@@ -61,6 +68,7 @@ impl From<AllocError> for Halt {
 pub struct Directory<'r, 'p, R: Files<File = File> + AllocGlobal> {
     rt: &'r R,
     path: &'p str,
+    is_maildir: bool,
     is_made: bool,
     unwritten: Option<Unwritten>,
     faults: u64,
@@ -74,6 +82,21 @@ impl<'r, 'p, R: Files<File = File> + AllocGlobal> Directory<'r, 'p, R> {
         Directory {
             rt,
             path,
+            is_maildir: false,
+            is_made: false,
+            unwritten: None,
+            faults: 0,
+        }
+    }
+
+    /// The Maildir at a path. A file is whole before it gets its name in `new`.
+    pub fn maildir(rt: &'r R, path: &'p str) -> Self
+        ensures { ⟦<Directory<'r, 'p, R> as Folder>⟧.failures result ≡ 0 }
+    {
+        Directory {
+            rt,
+            path,
+            is_maildir: true,
             is_made: false,
             unwritten: None,
             faults: 0,
@@ -93,10 +116,36 @@ impl<'r, 'p, R: Files<File = File> + AllocGlobal> Directory<'r, 'p, R> {
             if self.path.is_empty() {
                 return Err(Error::new(ErrorKind::InvalidInput, NAMELESS));
             }
-            fs::create_dir_all(self.rt, self.path)?;
+            if self.is_maildir {
+                self.make_maildir()?;
+            } else {
+                fs::create_dir_all(self.rt, self.path)?;
+            }
             self.is_made = true;
         }
         Ok(())
+    }
+
+    // Makes the folders of a Maildir that don't exist.
+    fn make_maildir(&self) -> io::Result<()> {
+        for name in [TEMPORARY, NEW, CURRENT] {
+            fs::create_dir_all(self.rt, self.within(name)?.as_str())?;
+        }
+        Ok(())
+    }
+
+    // The path of a name in the folder.
+    fn within(&self, name: &str) -> Result<PathBuf, AllocError> {
+        let mut path = PathBuf::from_str(self.rt.alloc(), self.path)?;
+        path.push(name)?;
+        Ok(path)
+    }
+
+    // The path of a file in one of the folders of a Maildir.
+    fn delivered(&self, folder: &str, name: &str) -> Result<PathBuf, AllocError> {
+        let mut path = self.within(folder)?;
+        path.push(name)?;
+        Ok(path)
     }
 
     // Writes a file. `false` if there is one of the name, and it may not be overwritten.
@@ -109,17 +158,18 @@ impl<'r, 'p, R: Files<File = File> + AllocGlobal> Directory<'r, 'p, R> {
         let Ok(name) = std::str::from_utf8(name) else {
             return Err(Halt::from(Error::from(ErrorKind::InvalidFilename)));
         };
-        let mut path = PathBuf::from_str(self.rt.alloc(), self.path)?;
-        path.push(name)?;
+        if self.is_maildir {
+            let path = self.delivered(NEW, name)?;
+            let temporary = self.delivered(TEMPORARY, name)?;
+            return told_at(deliver(self.rt, &temporary, &path, content, over), path);
+        }
+        let path = self.within(name)?;
         let written = if over {
-            write_over(self.rt, &path, content)
+            deliver(self.rt, &path, &path, content, over)
         } else {
             write_new(self.rt, &path, content)
         };
-        match written {
-            Ok(is_written) => Ok(is_written),
-            Err(halt) => Err(halt.at(path)),
-        }
+        told_at(written, path)
     }
 
     // Counts a failure.
@@ -133,17 +183,34 @@ impl<'r, 'p, R: Files<File = File> + AllocGlobal> Directory<'r, 'p, R> {
     }
 }
 
-// Puts a new file in the place of the one at a path, if there is one. So no link is followed, and a file that also has
-// another name stays as it is.
-fn write_over<R: Files<File = File> + AllocGlobal>(
+// The same, where the file at a path was to be written.
+fn told_at(written: Result<bool, Halt>, path: PathBuf) -> Result<bool, Halt>
+    ensures { IfOk result (λ is_written. written ≡ Ok is_written) }
+{
+    match written {
+        Ok(is_written) => Ok(is_written),
+        Err(halt) => Err(halt.at(path)),
+    }
+}
+
+// Writes a file beside a temporary path, and gives it its own path once it is whole. Where files may be overwritten it takes the
+// place of the one there: no link is followed, and a file that also has another name stays as it is. Else nothing is written if
+// something has the path, even a link that leads nowhere.
+fn deliver<R: Files<File = File> + AllocGlobal>(
     rt: &R,
+    temporary: &PathBuf,
     path: &PathBuf,
     content: &mut Content<'_>,
+    over: bool,
 ) -> Result<bool, Halt>
-    ensures { IfOk result (λ written. written ≡ true) }
+    ensures kept { result ≡ Ok false → over ≡ false }
+    ensures untaken { result ≡ Ok false → content.new ≡ content.old }
 {
-    let mut new = Replacement::beside(rt, path)?;
-    match write_replacement(rt, path, &mut new, content) {
+    if !over && fs::symlink_metadata(rt, path.as_str()).is_ok() {
+        return Ok(false);
+    }
+    let mut new = Replacement::beside(rt, temporary)?;
+    match fill(rt, path, &mut new, content, over) {
         Ok(()) => Ok(true),
         Err(halt) => {
             new.remove(rt);
@@ -152,14 +219,20 @@ fn write_over<R: Files<File = File> + AllocGlobal>(
     }
 }
 
-fn write_replacement<R: Files<File = File> + AllocGlobal>(
+// Writes a new file, and gives it its path.
+fn fill<R: Files<File = File> + AllocGlobal>(
     rt: &R,
     path: &PathBuf,
     new: &mut Replacement,
     content: &mut Content<'_>,
+    over: bool,
 ) -> Result<(), Halt> {
     write_pieces(new.file(), content)?;
-    Ok(new.replace(rt, path)?)
+    if over {
+        Ok(new.replace(rt, path)?)
+    } else {
+        Ok(new.take_name(rt, path)?)
+    }
 }
 
 // Writes a new file, or nothing if something has the path, even a link that leads nowhere.

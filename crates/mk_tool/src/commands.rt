@@ -1,5 +1,6 @@
 //! The subcommands, over any devices.
 
+use crate::each::{show_each, unpack_each};
 use crate::editing::{edit, redo, undo};
 use crate::faults::{Problem, usage};
 use crate::mailboxes::{Picked, messages, pick_message, split};
@@ -52,6 +53,10 @@ pub fn run_command<R: Files<File = File> + Clock + AllocGlobal, S: Source, O: Si
         messages(rt.alloc(), matches, input, out)
     } else if name == SPLIT {
         split(rt, matches, input, out, err)
+    } else if name == UNPACK && matches.get_flag(EACH) {
+        unpack_each(rt, matches, input, out, err)
+    } else if matches.get_flag(EACH) {
+        show_each(rt.alloc(), name, matches, input, out, err)
     } else {
         match pick_message(rt.alloc(), matches, input, err)? {
             Picked::Whole => show(rt, name, matches, input, out, err),
@@ -137,22 +142,26 @@ fn unpack<R: Files<File = File> + AllocGlobal, S: Source, O: Sink, E: Sink>(
     let Some(sections) = paths(alloc, matches.get_strs(PATH).unwrap_or(&[]))? else {
         return Ok(usage(err));
     };
-    let manner = Manner {
-        over: matches.get_flag(OVER),
-        report: report(matches),
-    };
-    let options = UnpackOptions {
-        manner,
-        form: name_form(matches),
-        texts: matches.get_flag(TEXTS),
-        sections: (!sections.is_empty()).then_some(sections.as_slice()),
-    };
+    let options = unpack_options(matches, &sections);
     let mut dir = Directory::new(rt, path);
     let done = try_unpack(alloc, input, out, err, &mut dir, options);
     let unwritten = dir.close();
     match done {
         Ok(status) => Ok(status),
         Err(cause) => Err(Problem::in_folder(alloc, cause, path, unwritten)),
+    }
+}
+
+/// What is unpacked, and how: all leaves where no path is given.
+pub fn unpack_options<'a>(matches: &ArgMatches<'_>, sections: &'a [Vec<u32>]) -> UnpackOptions<'a> {
+    UnpackOptions {
+        manner: Manner {
+            over: matches.get_flag(OVER),
+            report: report(matches),
+        },
+        form: name_form(matches),
+        texts: matches.get_flag(TEXTS),
+        sections: (!sections.is_empty()).then_some(sections),
     }
 }
 

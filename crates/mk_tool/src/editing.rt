@@ -1,5 +1,6 @@
 //! `edit`, `undo` and `redo`, over any devices.
 
+use crate::each::edit_each;
 use crate::faults::{Problem, usage};
 use crate::files::{read, read_files};
 use crate::mailboxes::{Picked, pick_message};
@@ -10,7 +11,7 @@ use mk_messages::InMemory;
 use mk_run::{Cause, Journal, Pieces, Script, Status, Stop, read_all, report_invalid, try_edit};
 use mk_script::first_invalid;
 use mk_system::{JournalFile, Output, is_one_file};
-use mk_words::options::{ALL, EOL, EXPLAIN, IN_PLACE, JOURNAL, LINE, PIECE, SCRIPT, WAIT};
+use mk_words::options::{ALL, EACH, EOL, EXPLAIN, IN_PLACE, JOURNAL, LINE, PIECE, SCRIPT, WAIT};
 use mk_words::waiting::limit;
 use std::alloc::{AllocError, Global};
 use std::fs::File;
@@ -126,7 +127,7 @@ fn joined(alloc: Global, lines: &[&str]) -> Result<Vec<u8>, AllocError> {
     Ok(script)
 }
 
-// Edits by a script the input, or the message of it that the command line names.
+// Edits by a script the input, or the messages of it that the command line names.
 fn edit_by<R: Files<File = File> + Clock + AllocGlobal, S: Source, O: Sink, E: Sink>(
     rt: &R,
     matches: &ArgMatches<'_>,
@@ -136,6 +137,17 @@ fn edit_by<R: Files<File = File> + Clock + AllocGlobal, S: Source, O: Sink, E: S
     script: Script<'_>,
     pieces: &[Vec<u8>],
 ) -> Result<Status, Problem> {
+    if matches.get_flag(EACH) {
+        let alloc = rt.alloc();
+        return match first_invalid(alloc, script.text, pieces.len(), script.as_one)? {
+            None => edit_each(alloc, matches, input, out, err, script, pieces),
+            Some(_) => {
+                // It is reported as for one message, of which nothing is read.
+                let mut none = InMemory::new(b"");
+                edit_message(rt, matches, &mut none, out, err, script, pieces)
+            }
+        };
+    }
     match pick_message(rt.alloc(), matches, input, err)? {
         Picked::Whole => edit_message(rt, matches, input, out, err, script, pieces),
         Picked::Message(message) => {

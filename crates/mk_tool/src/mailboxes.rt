@@ -5,14 +5,15 @@ use crate::faults::{Problem, usage};
 use clap::ArgMatches;
 use mk_asked::{from_lines, message_number, template};
 use mk_mail::{FromLines, Sink, Source};
-use mk_messages::{pick, report_missing, try_messages, unmarked, without_separator};
+use mk_messages::{pick, report_missing, take_out, try_messages};
 use mk_run::{Cause, Status, Stop};
 use mk_split::{SplitOptions, Template, try_split};
 use mk_system::Directory;
-use mk_words::options::{BARE, DIR, JSON, NUMBER, OVER, SILENT, UNQUOTE};
+use mk_words::options::{BARE, DIR, JSON, MAILDIR, NUMBER, OVER, SILENT, TEMPLATE, UNQUOTE};
 use std::alloc::{AllocError, Global};
 use std::fs::File;
-use std::rt::Files;
+use std::rt::{Clock, Files};
+use std::time::{Duration, SystemTime, UNIX_EPOCH};
 
 /// The message that a command works on.
 #[derive(Drop)]
@@ -42,7 +43,7 @@ pub fn messages<S: Source, O: Sink>(
 }
 
 /// mimetool split
-pub fn split<R: Files<File = File> + AllocGlobal, S: Source, O: Sink, E: Sink>(
+pub fn split<R: Files<File = File> + Clock + AllocGlobal, S: Source, O: Sink, E: Sink>(
     rt: &R,
     matches: &ArgMatches<'_>,
     input: &mut S,
@@ -50,7 +51,9 @@ pub fn split<R: Files<File = File> + AllocGlobal, S: Source, O: Sink, E: Sink>(
     err: &mut E,
 ) -> Result<Status, Problem> {
     let alloc = rt.alloc();
-    let Some(names) = Template::read(template(matches).as_bytes()) else {
+    let is_maildir = matches.get_flag(MAILDIR);
+    let word = file_names(rt, matches)?;
+    let Some(names) = Template::read(word.as_bytes()) else {
         return Ok(usage(err));
     };
     let options = SplitOptions {
@@ -58,16 +61,41 @@ pub fn split<R: Files<File = File> + AllocGlobal, S: Source, O: Sink, E: Sink>(
         names: &names,
         over: matches.get_flag(OVER),
         silent: matches.get_flag(SILENT),
-        bare: matches.get_flag(BARE),
+        bare: is_maildir || matches.get_flag(BARE),
         unquote: matches.get_flag(UNQUOTE),
     };
     let path = matches.get_str(DIR).unwrap_or(WORKING_FOLDER);
-    let mut dir = Directory::new(rt, path);
+    let mut dir = if is_maildir {
+        Directory::maildir(rt, path)
+    } else {
+        Directory::new(rt, path)
+    };
     let done = try_split(alloc, input, out, err, &mut dir, &options);
     let unwritten = dir.close();
     match done {
         Ok(status) => Ok(status),
         Err(cause) => Err(Problem::in_folder(alloc, cause, path, unwritten)),
+    }
+}
+
+// How the files are named. In a Maildir no other message ever has the name: it has the time, to the microsecond.
+fn file_names<R: Clock + AllocGlobal>(
+    rt: &R,
+    matches: &ArgMatches<'_>,
+) -> Result<String, AllocError> {
+    if !matches.get_flag(MAILDIR) || matches.get_str(TEMPLATE).is_some() {
+        return String::from_str(rt.alloc(), template(matches));
+    }
+    let now = time_now(rt);
+    let (seconds, micros) = (now.as_secs(), now.subsec_micros());
+    format!(in rt.alloc(); "{seconds}.M{micros}Q%d.mimetool")
+}
+
+// The time since 1970. A clock that is set before that has none.
+fn time_now<R: Clock>(rt: &R) -> Duration {
+    match SystemTime::now(rt) {
+        Ok(now) => now.duration_since(UNIX_EPOCH).unwrap_or(Duration::ZERO),
+        Err(_) => Duration::ZERO,
     }
 }
 
@@ -90,22 +118,15 @@ pub fn pick_message<S: Source, E: Sink>(
         from_lines(matches).unwrap_or(FromLines::Any),
         number,
     ) {
-        Ok(Some(message)) => Ok(Picked::Message(alone(alloc, matches, message)?)),
+        Ok(Some(message)) => {
+            let message = take_out(alloc, message, matches.get_flag(UNQUOTE))?;
+            Ok(Picked::Message(message))
+        }
         Ok(None) => match report_missing(alloc, err, number) {
             Ok(()) => Ok(Picked::Missing),
             Err(stop) => Err(stopped(stop, Cause::Write)),
         },
         Err(stop) => Err(stopped(stop, Cause::Read)),
-    }
-}
-
-// A message as it was before it went into the mailbox; its lines lose their marks if that is asked for.
-fn alone(alloc: Global, matches: &ArgMatches<'_>, message: Vec<u8>) -> Result<Vec<u8>, AllocError> {
-    let message = without_separator(message);
-    if matches.get_flag(UNQUOTE) {
-        unmarked(alloc, &message)
-    } else {
-        Ok(message)
     }
 }
 

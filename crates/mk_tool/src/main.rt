@@ -19,6 +19,7 @@
 #![tactic(auto)]
 
 mod commands;
+mod each;
 mod editing;
 mod endings;
 mod explaining;

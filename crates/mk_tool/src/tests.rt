@@ -3,6 +3,7 @@
 mod commands;
 mod devices;
 mod directory;
+mod each;
 mod examples;
 mod explained;
 mod faults;

@@ -1,9 +1,11 @@
 //! The words of `edit`, `undo` and `redo`.
 
 use crate::arguments::{Argument, FLAG, OPTION, OPTION_AGAIN, Subcommand};
-use crate::mailbox_options::{MBOX_OPTION, NUMBER_OPTION, RFC4155_OPTION, UNQUOTE_OPTION};
+use crate::mailbox_options::{
+    EACH_OPTION, MBOX_OPTION, NUMBER_OPTION, RFC4155_OPTION, UNQUOTE_OPTION,
+};
 use crate::options::{
-    ALL, EDIT, EOL, EXPLAIN, FROM, JOURNAL, LINE, NUMBER, PIECE, REDO, SCRIPT, UNDO,
+    ALL, EDIT, EOL, EXPLAIN, FROM, JOURNAL, LINE, NUMBER, PIECE, REDO, SCRIPT, UNDO, UNQUOTE,
 };
 use crate::script_words::EDIT_HELP;
 use crate::shared_options::{
@@ -48,7 +50,7 @@ const JOURNAL_OPTION: Argument = Argument {
     ..OPTION
 };
 
-/// mimetool edit [--from FILE|--in-place FILE] [--wait[=SECONDS]] [--tempfail] [-n N [--rfc4155|--mbox HOW] [--unquote]] [-j JOURNAL] [--all] [--eol] [--explain] [-e LINE].. [SCRIPT] [PIECE..]
+/// mimetool edit [--from FILE|--in-place FILE] [--wait[=SECONDS]] [--tempfail] [-n N|--each [--rfc4155|--mbox HOW] [--unquote]] [-j JOURNAL] [--all] [--eol] [--explain] [-e LINE].. [SCRIPT] [PIECE..]
 pub static EDIT_COMMAND: Subcommand = Subcommand {
     name: EDIT,
     about: "Edits the message by the lines of a script, and prints it",
@@ -60,9 +62,17 @@ pub static EDIT_COMMAND: Subcommand = Subcommand {
             ..IN_PLACE_OPTION
         },
         NUMBER_OPTION,
+        Argument {
+            help: "Treat the input as a mailbox, edit each of its messages, and print the mailbox",
+            conflicts: &[JOURNAL, NUMBER, UNQUOTE],
+            ..EACH_OPTION
+        },
         RFC4155_OPTION,
         MBOX_OPTION,
-        UNQUOTE_OPTION,
+        Argument {
+            help: "With -n, remove one > from lines that begin with >From, >>From and so on",
+            ..UNQUOTE_OPTION
+        },
         JOURNAL_OPTION,
         Argument {
             id: ALL,

@@ -22,7 +22,7 @@ const WITH_NAME: Argument = Argument {
     ..OPTION_AGAIN
 };
 
-/// mimetool field [--from FILE|--in-place FILE] [--wait[=SECONDS]] [--tempfail] [-p PATH] [--prepend NAME:TEXT] [--drop NAME:] [-a FIELD] [-A FIELD] [-i FIELD] [-I FIELD] [-u NAME:] [-U NAME:] [-x NAME:] [-X NAME:] [--rename OLD:NEW] [--unfold] [--decode] [--encode] [--eol] [--refused-ok] [-s [--rfc4155|--mbox HOW]]
+/// mimetool field [--from FILE|--in-place FILE] [--wait[=SECONDS]] [--tempfail] [-p PATH] [--prepend NAME:TEXT] [--drop NAME:] [-a FIELD] [-A FIELD] [-i FIELD] [-I FIELD] [-u NAME:] [-U NAME:] [-x NAME:] [-X NAME:] [--rename OLD:NEW] [--unfold] [--decode] [--encode] [--eol] [--refused-ok] [-s|--each [--rfc4155|--mbox HOW]]
 pub static FIELD_COMMAND: Subcommand = Subcommand {
     name: FIELD,
     about: "Adds, renames and removes fields of a message, or prints those of a name",
@@ -143,6 +143,7 @@ pub static FIELD_COMMAND: Subcommand = Subcommand {
         Argument {
             id: EACH,
             short: Some('s'),
+            long: Some("each"),
             help: "Treat the input as a mailbox, message by message",
             ..FLAG
         },

@@ -2,7 +2,8 @@
 
 use crate::arguments::{Argument, FLAG, OPTION, Subcommand};
 use crate::options::{
-    BARE, DIR, JSON, MBOX, MESSAGES, NUMBER, OVER, RFC4155, SILENT, SPLIT, TEMPLATE, UNQUOTE,
+    BARE, DIR, EACH, JSON, MAILDIR, MBOX, MESSAGES, NUMBER, OVER, RFC4155, SILENT, SPLIT, TEMPLATE,
+    UNQUOTE,
 };
 use crate::shared_options::{EXPLAIN_OPTION, FROM_OPTION};
 
@@ -24,11 +25,11 @@ pub static MESSAGES_COMMAND: Subcommand = Subcommand {
     ],
 };
 
-/// mimetool split [--from FILE] [--rfc4155|--mbox HOW] [--name TEMPLATE] [-f] [--silent] [--bare] [--unquote] [-C DIR]
+/// mimetool split [--from FILE] [--rfc4155|--mbox HOW] [--name TEMPLATE] [-f] [--silent] [--maildir] [--bare] [--unquote] [-C DIR]
 pub static SPLIT_COMMAND: Subcommand = Subcommand {
     name: SPLIT,
     about: "Writes each message of a mailbox to a file of its own, and prints the names",
-    after_help: "Examples:\n  mimetool split -C messages < mailbox\n  mimetool split --bare --unquote --name mail-%06d.eml --from mailbox",
+    after_help: "Examples:\n  mimetool split -C messages < mailbox\n  mimetool split --bare --unquote --name mail-%06d.eml --from mailbox\n  mimetool split --maildir -C Maildir < mailbox",
     arguments: &[
         FROM_OPTION,
         Argument {
@@ -48,6 +49,12 @@ pub static SPLIT_COMMAND: Subcommand = Subcommand {
             id: SILENT,
             long: Some(SILENT),
             help: "Print no names",
+            ..FLAG
+        },
+        Argument {
+            id: MAILDIR,
+            long: Some(MAILDIR),
+            help: "Write to new/ of the Maildir DIR, each file whole at once, without the From-lines that begin messages; they are named by the time unless --name is there",
             ..FLAG
         },
         Argument {
@@ -81,6 +88,15 @@ pub const NUMBER_OPTION: Argument = Argument {
     ..OPTION
 };
 
+/// --each
+pub const EACH_OPTION: Argument = Argument {
+    id: EACH,
+    long: Some("each"),
+    help: "Treat the input as a mailbox, and do so with each of its messages",
+    conflicts: &[NUMBER],
+    ..FLAG
+};
+
 /// --rfc4155
 pub const RFC4155_OPTION: Argument = Argument {
     id: RFC4155,
@@ -103,6 +119,6 @@ pub const MBOX_OPTION: Argument = Argument {
 pub const UNQUOTE_OPTION: Argument = Argument {
     id: UNQUOTE,
     long: Some(UNQUOTE),
-    help: "With -n, remove one > from lines that begin with >From, >>From and so on",
+    help: "With -n or --each, remove one > from lines that begin with >From, >>From and so on",
     ..FLAG
 };

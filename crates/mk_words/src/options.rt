@@ -156,7 +156,7 @@ pub const TAKE: &str = "take";
 /// `-X NAME:`
 pub const WHOLE: &str = "whole";
 
-/// `-s`: the input is a mailbox.
+/// `--each`, and `-s` of `field`: the input is a mailbox, and each of its messages is meant.
 pub const EACH: &str = "each";
 
 /// `--decode`: values with their encoded words decoded.
@@ -179,6 +179,9 @@ pub const SPLIT: &str = "split";
 
 /// `--name TEMPLATE`: how the files of messages are named.
 pub const TEMPLATE: &str = "TEMPLATE";
+
+/// `--maildir`: the folder is a Maildir.
+pub const MAILDIR: &str = "maildir";
 
 /// `--bare`: messages without the From-line that begins them.
 pub const BARE: &str = "bare";

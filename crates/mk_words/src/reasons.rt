@@ -114,7 +114,7 @@ pub fn told<'a>(command: &str, line: &'a [u8]) -> Option<(&'a [u8], &'static str
 
 // What a line is about, with the colon after it, and the name that follows.
 fn parts(line: &[u8]) -> Option<(&[u8], &[u8])> {
-    let place = line.windows(COLON.len()).position(|pair| pair == COLON)?;
+    let place = line.windows(COLON.len()).rposition(|pair| pair == COLON)?;
     let (about, rest) = line.split_at_checked(place.saturating_add(COLON.len()))?;
     let end = rest
         .iter()

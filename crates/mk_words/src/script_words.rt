@@ -33,4 +33,5 @@ PATH is the path of a section, such as 1 or 1.2. PIECE and K are numbers from 1,
 
 Examples:
   mimetool edit -e 'add 1 X-Seen: yes' < message > edited
-  mimetool edit -j journal script part --in-place message";
+  mimetool edit -j journal script part --in-place message
+  mimetool edit --each -e 'drop 1 X-Spam' --in-place mailbox";

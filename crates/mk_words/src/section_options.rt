@@ -1,17 +1,19 @@
 //! The words of `sections`, `extract` and `unpack`.
 
 use crate::arguments::{Argument, FLAG, OPTION, OPTION_AGAIN, Subcommand};
-use crate::mailbox_options::{MBOX_OPTION, NUMBER_OPTION, RFC4155_OPTION, UNQUOTE_OPTION};
+use crate::mailbox_options::{
+    EACH_OPTION, MBOX_OPTION, NUMBER_OPTION, RFC4155_OPTION, UNQUOTE_OPTION,
+};
 use crate::options::{
     DIR, EXTRACT, HEAD, JSON, OVER, PATH, PATHS, PREFIX, RAW, SECTIONS, SILENT, TEXTS, UNPACK,
 };
 use crate::shared_options::{EXPLAIN_OPTION, FROM_OPTION, UTF8_OPTION};
 
-/// mimetool sections [-n N [--rfc4155|--mbox HOW] [--unquote]] [--json [--utf8]] [--explain]
+/// mimetool sections [-n N|--each [--rfc4155|--mbox HOW] [--unquote]] [--json [--utf8]] [--explain]
 pub static SECTIONS_COMMAND: Subcommand = Subcommand {
     name: SECTIONS,
     about: "Lists the sections of the message, one per line",
-    after_help: "Examples:\n  mimetool sections < message\n  mimetool sections --json --from message",
+    after_help: "Examples:\n  mimetool sections < message\n  mimetool sections --json --from message\n  mimetool sections --each < mailbox",
     arguments: &[
         FROM_OPTION,
         Argument {
@@ -26,13 +28,17 @@ pub static SECTIONS_COMMAND: Subcommand = Subcommand {
         },
         EXPLAIN_OPTION,
         NUMBER_OPTION,
+        Argument {
+            help: "Treat the input as a mailbox, and list the sections of each message, after its number",
+            ..EACH_OPTION
+        },
         RFC4155_OPTION,
         MBOX_OPTION,
         UNQUOTE_OPTION,
     ],
 };
 
-/// mimetool extract [-n N [--rfc4155|--mbox HOW] [--unquote]] -s PATH [--raw|--head|--prefix|--utf8]
+/// mimetool extract [-n N|--each [--rfc4155|--mbox HOW] [--unquote]] -s PATH [--raw|--head|--prefix|--utf8]
 pub static EXTRACT_COMMAND: Subcommand = Subcommand {
     name: EXTRACT,
     about: "Prints the content of a section, decoded if no sections are below it",
@@ -73,13 +79,17 @@ pub static EXTRACT_COMMAND: Subcommand = Subcommand {
         },
         EXPLAIN_OPTION,
         NUMBER_OPTION,
+        Argument {
+            help: "Treat the input as a mailbox, and print this of each message, one after another",
+            ..EACH_OPTION
+        },
         RFC4155_OPTION,
         MBOX_OPTION,
         UNQUOTE_OPTION,
     ],
 };
 
-/// mimetool unpack [-n N [--rfc4155|--mbox HOW] [--unquote]] [-f] [-t] [-s PATH].. [--silent|--paths] [--utf8] [-C DIR]
+/// mimetool unpack [-n N|--each [--rfc4155|--mbox HOW] [--unquote]] [-f] [-t] [-s PATH].. [--silent|--paths] [--utf8] [-C DIR]
 pub static UNPACK_COMMAND: Subcommand = Subcommand {
     name: UNPACK,
     about: "Writes the contents of the leaves to files, and prints their names and types",
@@ -129,6 +139,10 @@ pub static UNPACK_COMMAND: Subcommand = Subcommand {
         },
         EXPLAIN_OPTION,
         NUMBER_OPTION,
+        Argument {
+            help: "Treat the input as a mailbox, and write those of each message, with its number before what is printed",
+            ..EACH_OPTION
+        },
         RFC4155_OPTION,
         MBOX_OPTION,
         UNQUOTE_OPTION,

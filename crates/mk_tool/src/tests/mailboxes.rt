@@ -184,24 +184,27 @@ begins: error: invalid value '4294967296' for '-n <N>': write the number of a me
 words: edit|-n|1.2|-e|undo
 begins: error: invalid value '1.2' for '-n <N>': write the number of a message, from 1 to 4294967295\n\nUsage: mimetool edit\x20
 
-== --rfc4155 without -n
+== --rfc4155 without -n or --each
 words: sections|--rfc4155
 words: extract|--rfc4155|-s|1
 words: unpack|--rfc4155
 words: edit|--rfc4155|-e|undo
-begins: error: --rfc4155 goes only with -n: it says how a mailbox is cut\n\nUsage: mimetool\x20
+begins: error: --rfc4155 goes only with -n or --each: it says how a mailbox is cut\n\nUsage: mimetool\x20
 
-== --mbox without -n
+== --mbox without -n or --each
 words: sections|--mbox=field
 words: extract|--mbox|any|-s|1
 words: unpack|--mbox=date
 words: edit|--mbox=field|-e|undo
-begins: error: --mbox goes only with -n: it says how a mailbox is cut\n\nUsage: mimetool\x20
+begins: error: --mbox goes only with -n or --each: it says how a mailbox is cut\n\nUsage: mimetool\x20
 
-== --unquote without -n
+== --unquote without -n or --each
 words: sections|--unquote
 words: extract|--unquote|-s|1
 words: unpack|--unquote
+begins: error: --unquote goes only with -n or --each: it removes the > that a mailbox puts before lines\n\nUsage: mimetool\x20
+
+== --unquote without -n, where --each needs the marks
 words: edit|--unquote|-e|undo
 begins: error: --unquote goes only with -n: it removes the > that a mailbox puts before lines\n\nUsage: mimetool\x20
 

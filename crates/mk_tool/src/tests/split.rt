@@ -196,6 +196,39 @@ fn each_option_of_split_does_its_own(rt: HostRuntime) -> Result<(), Fail> {
 }
 
 #[test]
+fn a_maildir_gets_whole_files(rt: HostRuntime) -> Result<(), Fail> {
+    let folder = "mimetool_split_maildir_test";
+    let first = "mimetool_split_maildir_test/new/m-1";
+    let _ = fs::remove_dir_all(&rt, folder);
+    let words = ["split", "--maildir", "--name", "m-%d", "-C", folder];
+    prints(&rt, &words, MAILBOX, b"m-1\nm-2\n")?;
+    holds(&rt, first, "A: 1\n\n>From x\n")?;
+    check_entries(&rt, folder, 3)?;
+    check_entries(&rt, "mimetool_split_maildir_test/new", 2)?;
+    check_entries(&rt, "mimetool_split_maildir_test/tmp", 0)?;
+    let taken = b"m-1: exists\nm-2: exists\n";
+    gives(&rt, &words, MAILBOX, b"", taken, Status::Refused)?;
+    let words = ["split", "--maildir", "-f", "--name", "m-%d", "-C", folder];
+    prints(&rt, &words, b"From c\n\nz\n", b"m-1\n")?;
+    holds(&rt, first, "\nz\n")?;
+    check_entries(&rt, "mimetool_split_maildir_test/tmp", 0)?;
+    fs::remove_dir_all(&rt, folder)?;
+    Ok(())
+}
+
+#[test]
+fn a_maildir_gets_names_of_its_own(rt: HostRuntime) -> Result<(), Fail> {
+    let folder = "mimetool_split_names_test";
+    let _ = fs::remove_dir_all(&rt, folder);
+    let words = ["split", "--maildir", "--silent", "-C", folder];
+    prints(&rt, &words, MAILBOX, b"")?;
+    prints(&rt, &words, MAILBOX, b"")?;
+    check_entries(&rt, "mimetool_split_names_test/new", 4)?;
+    fs::remove_dir_all(&rt, folder)?;
+    Ok(())
+}
+
+#[test]
 fn what_is_no_folder_is_named(rt: HostRuntime) -> Result<(), Fail> {
     let file = "mimetool_split_file_test";
     let _ = fs::remove_dir_all(&rt, file);

@@ -1,0 +1,2 @@
+pub mod EditedApart
+pub mod UnpackedAlone

@@ -1,0 +1,5 @@
+pub mod Labels
+pub mod EachListed
+pub mod EachExtracted
+pub mod EachUnpacked
+pub mod EachEdited
