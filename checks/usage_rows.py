@@ -12,14 +12,14 @@ A_TEMPLATE = "write the name of a file in ASCII, with one %d or %04d for the num
 SECONDS = "write a whole number of seconds, from 0 to 4294967295"
 APART = "-x and -X print fields, so neither goes with another letter"
 
-COMMANDS = ["edit", "undo", "redo", "sections", "extract", "unpack", "pack", "field", "messages", "split"]
+COMMANDS = ["edit", "undo", "redo", "sections", "extract", "unpack", "pack", "field", "reply", "messages", "split"]
 WITH_FROM = [command for command in COMMANDS if command != "pack"]
 IN_PLACE = ["edit", "undo", "redo", "field"]
 
 # What a command needs beside the words that a row is about.
 NEEDED = {
     "edit": ["-e", "undo"], "undo": ["-j", "j"], "redo": ["-j", "j"], "sections": [], "extract": ["-s", "1"], "unpack": [],
-    "pack": ["-b", "b", "text/plain:f"], "field": [], "messages": [], "split": [],
+    "pack": ["-b", "b", "text/plain:f"], "field": [], "reply": [], "messages": [], "split": [],
 }
 
 # Each option that takes a value, with a value that it takes.
@@ -35,6 +35,7 @@ OPTIONS = {
         "--prepend <NAME:TEXT>": "A:b", "--drop <NAME:>": "A:", "--rename <OLD:NEW>": "A:B", "-a <FIELD>": "A: 1", "-A <FIELD>": "A: 1", "-i <FIELD>": "A: 1", "-I <FIELD>": "A: 1",
         "-u <NAME:>": "A:", "-U <NAME:>": "A:", "-x <NAME:>": "A:", "-X <NAME:>": "A:",
     },
+    "reply": {},
     "messages": {"--mbox <HOW>": "date"},
     "split": {"--name <TEMPLATE>": "%d", "-C <DIR>": "d", "--mbox <HOW>": "date"},
 }
@@ -125,12 +126,12 @@ SAID = [
     ("a file for redo", ["redo", "-j", "j", "f"], ["unexpected argument 'f' found", "'--from f'", "'--in-place f'", "Usage: mimetool redo"]),
     *[(f"{words[0]} of formail", ["field", *words], [f"unexpected argument '{words[0]}' found", tip, "Usage: mimetool field"]) for words, tip in (
         (["-R", "A", "B"], "write '--rename OLD:NEW'"), (["-c", "-x", "A:"], "write '--unfold' with -x"), (["-z"], "'--unfold' with -x"),
-        (["-k"], "the body is always kept"), (["-r"], "mimetool writes no replies"), (["-D", "99", "f"], "no Message-IDs are kept"))],
+        (["-k"], "the body is always kept"), (["-r"], "write 'mimetool reply'"), (["-D", "99", "f"], "no Message-IDs are kept"))],
     ("a letter in capitals", ["field", "--Rename", "A:B"], ["unexpected argument '--Rename' found", "Usage: mimetool field"]),
 ]
 
 # Words that stand where none is taken.
-SUPERFLUOUS = {"undo": "w", "redo": "w", "sections": "1", "extract": "1", "unpack": "n", "field": "A: 1", "messages": "m", "split": "m"}
+SUPERFLUOUS = {"undo": "w", "redo": "w", "sections": "1", "extract": "1", "unpack": "n", "field": "A: 1", "reply": "m", "messages": "m", "split": "m"}
 
 # Options that exclude each other, of a command that has both.
 EXCLUDED = [
@@ -190,7 +191,7 @@ def said():
     for command in ("edit", "undo", "redo", "field"):
         for option in ("-f", "-t"):
             yield f"{option} of {command}", [command, *NEEDED[command], option], [f"unexpected argument '{option}' found", f"Usage: mimetool {command}"]
-    for command in ("sections", "extract", "unpack", "pack", "messages", "split"):
+    for command in ("sections", "extract", "unpack", "pack", "reply", "messages", "split"):
         yield (f"--in-place of {command}", [command, *NEEDED[command], "--in-place", "f"],
                ["unexpected argument '--in-place' found", f"Usage: mimetool {command}"])
     for command in IN_PLACE:

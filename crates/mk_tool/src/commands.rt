@@ -11,6 +11,7 @@ use mk_asked::{
 };
 use mk_mail::{FromLines, Sink, Source};
 use mk_messages::InMemory;
+use mk_reply::try_reply;
 use mk_run::{
     Cause, FieldFilter, Manner, Status, Stop, UnpackOptions, letters_of_rounds, read_doc, rounds,
     rounds_of_words, try_extract, try_field, try_sections, try_unpack, write_all,
@@ -18,8 +19,8 @@ use mk_run::{
 use mk_script::numbers;
 use mk_system::Directory;
 use mk_words::options::{
-    DIR, EACH, EDIT, EXTRACT, FIELD, JSON, MESSAGES, OVER, PACK, PATH, REDO, REFUSED_OK, SECTIONS,
-    SPLIT, TEXTS, UNDO, UNPACK,
+    DIR, EACH, EDIT, EXTRACT, FIELD, JSON, MESSAGES, OVER, PACK, PATH, REDO, REFUSED_OK, REPLY,
+    SECTIONS, SPLIT, TEXTS, UNDO, UNPACK,
 };
 use std::fs::File;
 use std::rt::{Clock, Files};
@@ -83,6 +84,8 @@ fn show<R: Files<File = File> + AllocGlobal, S: Source, O: Sink, E: Sink>(
         unpack(rt, matches, input, out, err)
     } else if name == SECTIONS {
         sections(rt, matches, input, out, err)
+    } else if name == REPLY {
+        Ok(try_reply(rt.alloc(), input, out, err)?)
     } else {
         Ok(usage(err))
     }

@@ -78,7 +78,7 @@ pub fn split<R: Files<File = File> + Clock + AllocGlobal, S: Source, O: Sink, E:
     }
 }
 
-// How the files are named. In a Maildir no other message ever has the name: it has the time, to the microsecond.
+// How the files are named. In a Maildir the name has the time to the microsecond, so that two runs rarely make the same one.
 fn file_names<R: Clock + AllocGlobal>(
     rt: &R,
     matches: &ArgMatches<'_>,

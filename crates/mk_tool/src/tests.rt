@@ -15,6 +15,7 @@ mod letters;
 mod locks;
 mod mailboxes;
 mod prepends;
+mod replies;
 mod section_fields;
 mod split;
 mod tips;

@@ -19,6 +19,9 @@ const WAIT_OPTION: &str = "--wait";
 /// What a word with a colon is taken for.
 const A_FIELD: &str = "to add a field, write a letter before it, such as -A";
 
+/// What to write in place of formail's letters for answers.
+const REPLY_HINT: &str = "to print the header of an answer, write 'mimetool reply'";
+
 /// Letters of formail that `field` doesn't have, and what to write here.
 const LETTERS: [(&str, &str); 14] = [
     ("-R", "to rename fields, write '--rename OLD:NEW'"),
@@ -34,8 +37,8 @@ const LETTERS: [(&str, &str); 14] = [
         "-k",
         "the body is always kept; to print it alone, write 'mimetool extract -s 1'",
     ),
-    ("-r", "mimetool writes no replies, so no option replaces it"),
-    ("-t", "mimetool writes no replies, so no option replaces it"),
+    ("-r", REPLY_HINT),
+    ("-t", REPLY_HINT),
     (
         "-D",
         "no Message-IDs are kept between runs, so no option replaces it",

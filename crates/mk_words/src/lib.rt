@@ -25,6 +25,7 @@ mod mailbox_options;
 pub mod options;
 mod pack_options;
 pub mod reasons;
+mod reply_options;
 mod script_words;
 mod section_options;
 mod shared_options;

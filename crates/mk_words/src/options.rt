@@ -5,6 +5,7 @@ use crate::edit_options::{EDIT_COMMAND, REDO_COMMAND, UNDO_COMMAND};
 use crate::field_options::FIELD_COMMAND;
 use crate::mailbox_options::{MESSAGES_COMMAND, SPLIT_COMMAND};
 use crate::pack_options::PACK_COMMAND;
+use crate::reply_options::REPLY_COMMAND;
 use crate::section_options::{EXTRACT_COMMAND, SECTIONS_COMMAND, UNPACK_COMMAND};
 use clap::Command;
 use std::alloc::{AllocError, Global};
@@ -171,6 +172,9 @@ pub const UNFOLD: &str = "unfold";
 /// `--refused-ok`: a refused edit leaves the status 0.
 pub const REFUSED_OK: &str = "refused-ok";
 
+/// The subcommand that prints the header of an answer.
+pub const REPLY: &str = "reply";
+
 /// The subcommand that lists the messages of a mailbox.
 pub const MESSAGES: &str = "messages";
 
@@ -199,8 +203,8 @@ pub const MBOX: &str = "mbox";
 pub const UNQUOTE: &str = "unquote";
 
 /// The subcommands, in the order in which help lists them.
-const SUBCOMMANDS: [&str; 10] = [
-    EDIT, UNDO, REDO, SECTIONS, EXTRACT, UNPACK, PACK, FIELD, MESSAGES, SPLIT,
+const SUBCOMMANDS: [&str; 11] = [
+    EDIT, UNDO, REDO, SECTIONS, EXTRACT, UNPACK, PACK, FIELD, REPLY, MESSAGES, SPLIT,
 ];
 
 /// The command line of the program.
@@ -238,6 +242,8 @@ fn row(name: &str) -> &'static Subcommand {
         &UNPACK_COMMAND
     } else if name == PACK {
         &PACK_COMMAND
+    } else if name == REPLY {
+        &REPLY_COMMAND
     } else if name == MESSAGES {
         &MESSAGES_COMMAND
     } else if name == SPLIT {

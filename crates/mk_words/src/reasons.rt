@@ -6,7 +6,7 @@ use crate::options::{PACK, SPLIT};
 const COLON: &[u8] = b": ";
 
 /// The names of reasons, and each in words.
-const REASONS: [(&str, &str); 26] = [
+const REASONS: [(&str, &str); 27] = [
     (
         "NoSuchSection",
         "there is no section at this path; 'sections' lists the paths",
@@ -68,6 +68,10 @@ const REASONS: [(&str, &str); 26] = [
         "the content has a NUL or a line of more than 998 bytes; encode it as qp or base64",
     ),
     ("NoSuchMessage", "the mailbox has fewer messages than that"),
+    (
+        "NoAddress",
+        "nobody can be answered: neither Reply-To nor From says anything",
+    ),
     ("JournalSyntax", "this file isn't a journal"),
     (
         "JournalOther",

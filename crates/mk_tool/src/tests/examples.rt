@@ -1,7 +1,8 @@
-//! The examples at the roots of mk_json, mk_words, mk_asked and mk_tool. Expected values are from docs/FORMATS.md and the help.
+//! The examples at the roots of mk_json, mk_reply, mk_words, mk_asked and mk_tool. Expected values are from docs/FORMATS.md and the help.
 
 use super::obeyed;
 use mk_asked::why_invalid;
+use mk_reply::reply_header;
 use mk_tree::Doc;
 use mk_words::options::{EXTRACT, PATH, command};
 use mk_words::reasons::told;
@@ -20,6 +21,17 @@ fn a_document_is_listed_as_json(rt: HostRuntime) -> Result<(), Fail> {
     assert!(rt; lines.starts_with(b"{\"path\":\"1\",\"kind\":\"leaf\","));
     assert!(rt; lines.ends_with(b",\"stored_as\":\"part-1\",\"size\":2}\n"));
     assert_eq!(rt; lines.as_slice(), LISTED);
+    Ok(())
+}
+
+#[test]
+fn a_message_is_answered(rt: HostRuntime) -> Result<(), Fail> {
+    let alloc = rt.alloc();
+    let text = b"From: a@b.org\nSubject: Hi\nMessage-ID: <1@b.org>\n\nx\n";
+    let header = reply_header(alloc, text)?.expect(&rt, "an address");
+    let first = b"To: a@b.org\nSubject: Re: Hi\nIn-Reply-To: <1@b.org>\n";
+    assert!(rt; header.starts_with(first));
+    assert!(rt; header.ends_with(b"\nReferences: <1@b.org>\n\n"));
     Ok(())
 }
 

@@ -384,7 +384,7 @@ begins: error: unexpected argument '-k' found\n\n  tip: the body is always kept;
 == -r
 words: field|-r
 words: field|-rk
-begins: error: unexpected argument '-r' found\n\n  tip: mimetool writes no replies, so no option replaces it\n
+begins: error: unexpected argument '-r' found\n\n  tip: to print the header of an answer, write 'mimetool reply'\n
 
 == -D
 words: field|-D|8192|cache

@@ -1,0 +1,4 @@
+pub mod SpaceAround
+pub mod Replies
+pub mod ReplyRuns
+pub mod ReplyLaws
