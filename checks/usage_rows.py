@@ -12,14 +12,14 @@ A_TEMPLATE = "write the name of a file in ASCII, with one %d or %04d for the num
 SECONDS = "write a whole number of seconds, from 0 to 4294967295"
 APART = "-x and -X print fields, so neither goes with another letter"
 
-COMMANDS = ["edit", "undo", "redo", "sections", "extract", "unpack", "pack", "field", "reply", "messages", "split"]
+COMMANDS = ["edit", "undo", "redo", "sections", "extract", "unpack", "pack", "field", "reply", "check", "messages", "split"]
 WITH_FROM = [command for command in COMMANDS if command != "pack"]
 IN_PLACE = ["edit", "undo", "redo", "field"]
 
 # What a command needs beside the words that a row is about.
 NEEDED = {
     "edit": ["-e", "undo"], "undo": ["-j", "j"], "redo": ["-j", "j"], "sections": [], "extract": ["-s", "1"], "unpack": [],
-    "pack": ["-b", "b", "text/plain:f"], "field": [], "reply": [], "messages": [], "split": [],
+    "pack": ["-b", "b", "text/plain:f"], "field": [], "reply": [], "check": [], "messages": [], "split": [],
 }
 
 # Each option that takes a value, with a value that it takes.
@@ -36,6 +36,7 @@ OPTIONS = {
         "-u <NAME:>": "A:", "-U <NAME:>": "A:", "-x <NAME:>": "A:", "-X <NAME:>": "A:",
     },
     "reply": {},
+    "check": {},
     "messages": {"--mbox <HOW>": "date"},
     "split": {"--name <TEMPLATE>": "%d", "-C <DIR>": "d", "--mbox <HOW>": "date"},
 }
@@ -46,7 +47,7 @@ for command in IN_PLACE:
 
 FLAGS = {
     "edit": ["--each"], "sections": ["--json", "--each"], "extract": ["--raw", "--head", "--prefix", "--each"], "unpack": ["-f", "-t", "--silent", "--paths", "--utf8", "--each"],
-    "pack": ["--inline", "--utf8"], "field": ["--each"], "messages": ["--json"],
+    "pack": ["--inline", "--utf8"], "field": ["--each"], "check": ["--json"], "messages": ["--json"],
     "split": ["-f", "--silent", "--maildir", "--bare", "--unquote"],
 }
 for command in IN_PLACE:
@@ -131,7 +132,7 @@ SAID = [
 ]
 
 # Words that stand where none is taken.
-SUPERFLUOUS = {"undo": "w", "redo": "w", "sections": "1", "extract": "1", "unpack": "n", "field": "A: 1", "reply": "m", "messages": "m", "split": "m"}
+SUPERFLUOUS = {"undo": "w", "redo": "w", "sections": "1", "extract": "1", "unpack": "n", "field": "A: 1", "reply": "m", "check": "m", "messages": "m", "split": "m"}
 
 # Options that exclude each other, of a command that has both.
 EXCLUDED = [
@@ -191,7 +192,7 @@ def said():
     for command in ("edit", "undo", "redo", "field"):
         for option in ("-f", "-t"):
             yield f"{option} of {command}", [command, *NEEDED[command], option], [f"unexpected argument '{option}' found", f"Usage: mimetool {command}"]
-    for command in ("sections", "extract", "unpack", "pack", "reply", "messages", "split"):
+    for command in ("sections", "extract", "unpack", "pack", "reply", "check", "messages", "split"):
         yield (f"--in-place of {command}", [command, *NEEDED[command], "--in-place", "f"],
                ["unexpected argument '--in-place' found", f"Usage: mimetool {command}"])
     for command in IN_PLACE:

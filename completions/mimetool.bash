@@ -12,6 +12,7 @@ _mimetool_options() {
         pack) options='-b -m --inline --charset --eol --forward --part --utf8 --explain -h --help' ;;
         field) options='--from --in-place --wait --tempfail -p --prepend --drop --rename -a -A -i -I -u -U -x -X --unfold --decode --encode --eol --refused-ok -s --each --rfc4155 --mbox --explain -h --help' ;;
         reply) options='--from -n --rfc4155 --mbox --explain -h --help' ;;
+        check) options='--from --json -n --rfc4155 --mbox --explain -h --help' ;;
         messages) options='--from --json --rfc4155 --mbox -h --help' ;;
         split) options='--from --name -f --silent --maildir --bare --unquote -C --rfc4155 --mbox --explain -h --help' ;;
         help) options='' ;;
@@ -22,7 +23,7 @@ _mimetool_options() {
 
 _mimetool() {
     local cur=${COMP_WORDS[COMP_CWORD]} prev=${COMP_WORDS[COMP_CWORD - 1]} command='' word
-    local commands='edit undo redo sections extract unpack pack field reply messages split help'
+    local commands='edit undo redo sections extract unpack pack field reply check messages split help'
     COMPREPLY=()
     for word in "${COMP_WORDS[@]:1:COMP_CWORD-1}"; do
         case $word in

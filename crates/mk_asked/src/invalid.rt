@@ -8,8 +8,8 @@ use mk_script::numbers;
 use mk_show::Spec;
 use mk_split::Template;
 use mk_words::options::{
-    EACH, EDIT, EXTRACT, FIELD, JSON, LINE, MBOX, MESSAGES, NUMBER, PACK, PART, PATH, REPLY, RFC4155,
-    SCRIPT, SECTIONS, SPEC, SPLIT, UNPACK, UNQUOTE, UTF8,
+    CHECK, EACH, EDIT, EXTRACT, FIELD, JSON, LINE, MBOX, MESSAGES, NUMBER, PACK, PART, PATH, REPLY,
+    RFC4155, SCRIPT, SECTIONS, SPEC, SPLIT, UNPACK, UNQUOTE, UTF8,
 };
 use mk_words::waiting::why_no_seconds;
 use std::alloc::{AllocError, Global};
@@ -104,7 +104,7 @@ fn why_no_message(
 fn ways_to_read_a_mailbox(name: &str, unquoted: bool) -> &'static str {
     if name == FIELD {
         "-s"
-    } else if name == REPLY || (name == EDIT && unquoted) {
+    } else if name == REPLY || name == CHECK || (name == EDIT && unquoted) {
         "-n"
     } else {
         "-n or --each"

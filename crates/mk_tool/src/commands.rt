@@ -9,6 +9,7 @@ use clap::ArgMatches;
 use mk_asked::{
     field_form, from_lines, letter_words, name_form, paths, portion, report, value_form,
 };
+use mk_check::{FindingForm, try_check};
 use mk_mail::{FromLines, Sink, Source};
 use mk_messages::InMemory;
 use mk_reply::try_reply;
@@ -19,8 +20,8 @@ use mk_run::{
 use mk_script::numbers;
 use mk_system::Directory;
 use mk_words::options::{
-    DIR, EACH, EDIT, EXTRACT, FIELD, JSON, MESSAGES, OVER, PACK, PATH, REDO, REFUSED_OK, REPLY,
-    SECTIONS, SPLIT, TEXTS, UNDO, UNPACK,
+    CHECK, DIR, EACH, EDIT, EXTRACT, FIELD, JSON, MESSAGES, OVER, PACK, PATH, REDO, REFUSED_OK,
+    REPLY, SECTIONS, SPLIT, TEXTS, UNDO, UNPACK,
 };
 use std::fs::File;
 use std::rt::{Clock, Files};
@@ -86,8 +87,20 @@ fn show<R: Files<File = File> + AllocGlobal, S: Source, O: Sink, E: Sink>(
         sections(rt, matches, input, out, err)
     } else if name == REPLY {
         Ok(try_reply(rt.alloc(), input, out, err)?)
+    } else if name == CHECK {
+        let form = finding_form(matches);
+        Ok(try_check(rt.alloc(), input, out, err, form)?)
     } else {
         Ok(usage(err))
+    }
+}
+
+// How findings are written.
+fn finding_form(matches: &ArgMatches<'_>) -> FindingForm {
+    if matches.get_flag(JSON) {
+        FindingForm::Json
+    } else {
+        FindingForm::Plain
     }
 }
 

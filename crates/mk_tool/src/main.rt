@@ -14,8 +14,9 @@
 //! Tests: `mk_tool/src/tests/commands.rt`, `mk_tool/src/tests/usage.rt`, `mk_tool/src/tests/files.rt`,
 //! `mk_tool/src/tests/in_place.rt`, `mk_tool/src/tests/journals.rt`, `mk_tool/src/tests/locks.rt`,
 //! `mk_tool/src/tests/letters.rt`, `mk_tool/src/tests/prepends.rt`, `mk_tool/src/tests/section_fields.rt`,
-//! `mk_tool/src/tests/mailboxes.rt`, `mk_tool/src/tests/replies.rt`, `mk_tool/src/tests/forwarded.rt`,
-//! `mk_tool/src/tests/faults.rt`, `mk_tool/src/tests/tips.rt`, `mk_tool/src/tests/explained.rt`; the scripts in `checks/` on the built program.
+//! `mk_tool/src/tests/mailboxes.rt`, `mk_tool/src/tests/replies.rt`, `mk_tool/src/tests/checks.rt`,
+//! `mk_tool/src/tests/forwarded.rt`, `mk_tool/src/tests/faults.rt`, `mk_tool/src/tests/tips.rt`,
+//! `mk_tool/src/tests/explained.rt`; the scripts in `checks/` on the built program.
 #![tactic(auto)]
 
 mod commands;

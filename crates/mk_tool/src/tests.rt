@@ -1,5 +1,6 @@
 //! Runs of the program through the words of its command line. The expected bytes are worked out by hand.
 
+mod checks;
 mod commands;
 mod devices;
 mod directory;

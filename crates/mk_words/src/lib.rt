@@ -18,6 +18,7 @@
 #![tactic(auto)]
 
 mod arguments;
+mod check_options;
 mod edit_options;
 mod field_options;
 pub mod hints;

@@ -1,6 +1,7 @@
 //! The command line.
 
 use crate::arguments::Subcommand;
+use crate::check_options::CHECK_COMMAND;
 use crate::edit_options::{EDIT_COMMAND, REDO_COMMAND, UNDO_COMMAND};
 use crate::field_options::FIELD_COMMAND;
 use crate::mailbox_options::{MESSAGES_COMMAND, SPLIT_COMMAND};
@@ -175,6 +176,9 @@ pub const REFUSED_OK: &str = "refused-ok";
 /// The subcommand that prints the header of an answer.
 pub const REPLY: &str = "reply";
 
+/// The subcommand that says what is wrong with a message.
+pub const CHECK: &str = "check";
+
 /// The subcommand that lists the messages of a mailbox.
 pub const MESSAGES: &str = "messages";
 
@@ -203,8 +207,8 @@ pub const MBOX: &str = "mbox";
 pub const UNQUOTE: &str = "unquote";
 
 /// The subcommands, in the order in which help lists them.
-const SUBCOMMANDS: [&str; 11] = [
-    EDIT, UNDO, REDO, SECTIONS, EXTRACT, UNPACK, PACK, FIELD, REPLY, MESSAGES, SPLIT,
+const SUBCOMMANDS: [&str; 12] = [
+    EDIT, UNDO, REDO, SECTIONS, EXTRACT, UNPACK, PACK, FIELD, REPLY, CHECK, MESSAGES, SPLIT,
 ];
 
 /// The command line of the program.
@@ -244,6 +248,8 @@ fn row(name: &str) -> &'static Subcommand {
         &PACK_COMMAND
     } else if name == REPLY {
         &REPLY_COMMAND
+    } else if name == CHECK {
+        &CHECK_COMMAND
     } else if name == MESSAGES {
         &MESSAGES_COMMAND
     } else if name == SPLIT {

@@ -1,7 +1,8 @@
-//! The examples at the roots of mk_json, mk_reply, mk_words, mk_asked and mk_tool. Expected values are from docs/FORMATS.md and the help.
+//! The examples at the roots of mk_json, mk_reply, mk_check, mk_words, mk_asked and mk_tool. Expected values are from docs/FORMATS.md and the help.
 
 use super::obeyed;
 use mk_asked::why_invalid;
+use mk_check::{FindingForm, findings};
 use mk_reply::reply_header;
 use mk_tree::Doc;
 use mk_words::options::{EXTRACT, PATH, command};
@@ -32,6 +33,17 @@ fn a_message_is_answered(rt: HostRuntime) -> Result<(), Fail> {
     let first = b"To: a@b.org\nSubject: Re: Hi\nIn-Reply-To: <1@b.org>\n";
     assert!(rt; header.starts_with(first));
     assert!(rt; header.ends_with(b"\nReferences: <1@b.org>\n\n"));
+    Ok(())
+}
+
+#[test]
+fn a_message_is_checked(rt: HostRuntime) -> Result<(), Fail> {
+    let alloc = rt.alloc();
+    let text = b"To: a@b.org\nTo: c@b.org\nContent-Transfer-Encoding: base64\n\ne\n";
+    let doc = Doc::read(alloc, Vec::from_slice(alloc, text)?).map_err(|(_, error)| error)?;
+    let lines = findings(alloc, &doc, FindingForm::Plain)?;
+    let found = b"1 12 Repeated To\n1 59 BadBase64\n";
+    assert_eq!(rt; lines.as_slice(), found.as_slice());
     Ok(())
 }
 
