@@ -12,13 +12,13 @@ A_TEMPLATE = "write the name of a file in ASCII, with one %d or %04d for the num
 SECONDS = "write a whole number of seconds, from 0 to 4294967295"
 APART = "-x and -X print fields, so neither goes with another letter"
 
-COMMANDS = ["edit", "undo", "redo", "sections", "extract", "unpack", "pack", "field", "reply", "check", "messages", "split"]
-WITH_FROM = [command for command in COMMANDS if command != "pack"]
+COMMANDS = ["edit", "undo", "redo", "journal", "sections", "extract", "unpack", "pack", "field", "reply", "check", "messages", "split"]
+WITH_FROM = [command for command in COMMANDS if command not in ("journal", "pack")]
 IN_PLACE = ["edit", "undo", "redo", "field"]
 
 # What a command needs beside the words that a row is about.
 NEEDED = {
-    "edit": ["-e", "undo"], "undo": ["-j", "j"], "redo": ["-j", "j"], "sections": [], "extract": ["-s", "1"], "unpack": [],
+    "edit": ["-e", "undo"], "undo": ["-j", "j"], "redo": ["-j", "j"], "journal": ["-j", "j"], "sections": [], "extract": ["-s", "1"], "unpack": [],
     "pack": ["-b", "b", "text/plain:f"], "field": [], "reply": [], "check": [], "messages": [], "split": [],
 }
 
@@ -27,6 +27,7 @@ OPTIONS = {
     "edit": {"-j <JOURNAL>": "j", "-e <LINE>": "undo"},
     "undo": {"-j <JOURNAL>": "j"},
     "redo": {"-j <JOURNAL>": "j"},
+    "journal": {"-j <JOURNAL>": "j"},
     "sections": {},
     "extract": {"-s <PATH>": "1"},
     "unpack": {"-C <DIR>": "d", "-s <PATH>": "1"},
@@ -46,7 +47,7 @@ for command in IN_PLACE:
     OPTIONS[command]["--in-place <FILE>"] = "f"
 
 FLAGS = {
-    "edit": ["--each"], "sections": ["--json", "--each"], "extract": ["--raw", "--head", "--prefix", "--each"], "unpack": ["-f", "-t", "--silent", "--paths", "--utf8", "--each"],
+    "edit": ["--each"], "undo": ["--all"], "redo": ["--all"], "sections": ["--json", "--each"], "extract": ["--raw", "--head", "--prefix", "--each"], "unpack": ["-f", "-t", "--silent", "--paths", "--utf8", "--each"],
     "pack": ["--inline", "--utf8"], "field": ["--each"], "check": ["--json"], "messages": ["--json"],
     "split": ["-f", "--silent", "--maildir", "--bare", "--unquote"],
 }
@@ -107,6 +108,8 @@ SAID = [
     ("edit --in-place alone", ["edit", "--in-place", "f"], ["SCRIPT", "-e", "Usage: mimetool edit"]),
     ("undo without a journal", ["undo"], ["required arguments were not provided", "-j <JOURNAL>", "Usage: mimetool undo"]),
     ("redo without a journal", ["redo"], ["required arguments were not provided", "-j <JOURNAL>", "Usage: mimetool redo"]),
+    ("journal without a journal", ["journal"], ["required arguments were not provided", "-j <JOURNAL>", "Usage: mimetool journal"]),
+    ("a message beside a journal", ["journal", "-j", "j", "--from", "f"], ["unexpected argument '--from' found", "Usage: mimetool journal"]),
     ("extract without a path", ["extract"], ["required arguments were not provided", "-s <PATH>", "Usage: mimetool extract"]),
     ("pack without all", ["pack"], ["required arguments were not provided", "<SPEC>...", "Usage: mimetool pack"]),
     ("pack without parts", ["pack", "-b", "b"], ["required arguments were not provided", "<SPEC>...", "Usage: mimetool pack"]),
@@ -132,7 +135,7 @@ SAID = [
 ]
 
 # Words that stand where none is taken.
-SUPERFLUOUS = {"undo": "w", "redo": "w", "sections": "1", "extract": "1", "unpack": "n", "field": "A: 1", "reply": "m", "check": "m", "messages": "m", "split": "m"}
+SUPERFLUOUS = {"undo": "w", "redo": "w", "journal": "w", "sections": "1", "extract": "1", "unpack": "n", "field": "A: 1", "reply": "m", "check": "m", "messages": "m", "split": "m"}
 
 # Options that exclude each other, of a command that has both.
 EXCLUDED = [
@@ -192,7 +195,7 @@ def said():
     for command in ("edit", "undo", "redo", "field"):
         for option in ("-f", "-t"):
             yield f"{option} of {command}", [command, *NEEDED[command], option], [f"unexpected argument '{option}' found", f"Usage: mimetool {command}"]
-    for command in ("sections", "extract", "unpack", "pack", "reply", "check", "messages", "split"):
+    for command in ("journal", "sections", "extract", "unpack", "pack", "reply", "check", "messages", "split"):
         yield (f"--in-place of {command}", [command, *NEEDED[command], "--in-place", "f"],
                ["unexpected argument '--in-place' found", f"Usage: mimetool {command}"])
     for command in IN_PLACE:

@@ -4,8 +4,9 @@ _mimetool_options() {
     local options=''
     case $1 in
         edit) options='--from --in-place --wait --tempfail -n --each --rfc4155 --mbox --unquote -j --all --eol --explain -e -h --help' ;;
-        undo) options='--from --in-place --wait --tempfail -j --explain -h --help' ;;
-        redo) options='--from --in-place --wait --tempfail -j --explain -h --help' ;;
+        undo) options='--from --in-place --wait --tempfail -j --all --explain -h --help' ;;
+        redo) options='--from --in-place --wait --tempfail -j --all --explain -h --help' ;;
+        journal) options='-j --explain -h --help' ;;
         sections) options='--from -n --each --rfc4155 --mbox --unquote --json --utf8 --explain -h --help' ;;
         extract) options='--from -n --each --rfc4155 --mbox --unquote -s --raw --head --prefix --utf8 --explain -h --help' ;;
         unpack) options='--from -n --each --rfc4155 --mbox --unquote -f -t -s --silent --paths --utf8 -C --explain -h --help' ;;
@@ -23,7 +24,7 @@ _mimetool_options() {
 
 _mimetool() {
     local cur=${COMP_WORDS[COMP_CWORD]} prev=${COMP_WORDS[COMP_CWORD - 1]} command='' word
-    local commands='edit undo redo sections extract unpack pack field reply check messages split help'
+    local commands='edit undo redo journal sections extract unpack pack field reply check messages split help'
     COMPREPLY=()
     for word in "${COMP_WORDS[@]:1:COMP_CWORD-1}"; do
         case $word in
@@ -33,7 +34,7 @@ _mimetool() {
     done
     compopt -o filenames 2>/dev/null
     case $command:$prev in
-        edit:-j | undo:-j | redo:-j | *:--from | *:--in-place | pack:--forward)
+        edit:-j | undo:-j | redo:-j | journal:-j | *:--from | *:--in-place | pack:--forward)
             mapfile -t COMPREPLY < <(compgen -f -- "$cur")
             return ;;
         unpack:-C | split:-C)

@@ -10,6 +10,7 @@ use mk_asked::{
     field_form, from_lines, letter_words, name_form, paths, portion, report, value_form,
 };
 use mk_check::{FindingForm, try_check};
+use mk_journal::try_journal;
 use mk_mail::{FromLines, Sink, Source};
 use mk_messages::InMemory;
 use mk_reply::try_reply;
@@ -21,7 +22,7 @@ use mk_script::numbers;
 use mk_system::Directory;
 use mk_words::options::{
     CHECK, DIR, EACH, EDIT, EXTRACT, FIELD, JSON, MESSAGES, OVER, PACK, PATH, REDO, REFUSED_OK,
-    REPLY, SECTIONS, SPLIT, TEXTS, UNDO, UNPACK,
+    REPLY, SECTIONS, SPLIT, STEPS, TEXTS, UNDO, UNPACK,
 };
 use std::fs::File;
 use std::rt::{Clock, Files};
@@ -47,6 +48,8 @@ pub fn run_command<R: Files<File = File> + Clock + AllocGlobal, S: Source, O: Si
         undo(rt, matches, input, out, err)
     } else if name == REDO {
         redo(rt, matches, input, out, err)
+    } else if name == STEPS {
+        Ok(try_journal(rt.alloc(), input, out, err)?)
     } else if name == PACK {
         pack(rt, matches, input, out, err)
     } else if name == FIELD {

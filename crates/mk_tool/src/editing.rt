@@ -6,12 +6,15 @@ use crate::files::{read, read_files};
 use crate::mailboxes::{Picked, pick_message};
 use crate::tips::tell_of_fields;
 use clap::ArgMatches;
+use mk_journal::{redo_all, undo_all};
 use mk_mail::{Sink, Source};
 use mk_messages::InMemory;
 use mk_run::{Cause, Journal, Pieces, Script, Status, Stop, read_all, report_invalid, try_edit};
 use mk_script::first_invalid;
 use mk_system::{JournalFile, Output, is_one_file};
-use mk_words::options::{ALL, EACH, EOL, EXPLAIN, IN_PLACE, JOURNAL, LINE, PIECE, SCRIPT, WAIT};
+use mk_words::options::{
+    ALL, EACH, EOL, EVERY, EXPLAIN, IN_PLACE, JOURNAL, LINE, PIECE, SCRIPT, WAIT,
+};
 use mk_words::waiting::limit;
 use std::alloc::{AllocError, Global};
 use std::fs::File;
@@ -26,6 +29,36 @@ const REDO_SCRIPT: &[u8] = b"redo\n";
 
 /// What is said of a journal that is also the file of `--in-place`.
 const OWN_JOURNAL: &str = "the file of --in-place can't also be its journal";
+
+/// The steps of a run.
+#[derive(Clone, Copy)]
+enum Steps<'a> {
+    /// Those of a script.
+    Of(Script<'a>),
+    /// All that are done in the journal are taken back.
+    UndoAll,
+    /// All that are undone in it are made again.
+    RedoAll,
+}
+
+impl<'a> Steps<'a> {
+    // The text of the script for all steps of a journal; none where a script was given.
+    fn text(self, alloc: Global, journal: &[u8]) -> Result<Vec<u8>, AllocError> {
+        match self {
+            Steps::Of(_) => Ok(Vec::new(alloc)),
+            Steps::UndoAll => undo_all(alloc, journal),
+            Steps::RedoAll => redo_all(alloc, journal),
+        }
+    }
+
+    // The script: the one that was given, or this text.
+    fn script(self, text: &'a [u8]) -> Script<'a> {
+        match self {
+            Steps::Of(script) => script,
+            Steps::UndoAll | Steps::RedoAll => alone(text),
+        }
+    }
+}
 
 /// mimetool edit
 pub fn edit<R: Files<File = File> + Clock + AllocGlobal, S: Source, O: Sink, E: Sink>(
@@ -95,7 +128,12 @@ pub fn undo<R: Files<File = File> + Clock + AllocGlobal, S: Source, O: Sink, E: 
     out: &mut O,
     err: &mut E,
 ) -> Result<Status, Problem> {
-    edit_by(rt, matches, input, out, err, alone(UNDO_SCRIPT), &[])
+    let steps = if matches.get_flag(EVERY) {
+        Steps::UndoAll
+    } else {
+        Steps::Of(alone(UNDO_SCRIPT))
+    };
+    edit_message(rt, matches, input, out, err, steps, &[])
 }
 
 /// mimetool redo
@@ -106,7 +144,12 @@ pub fn redo<R: Files<File = File> + Clock + AllocGlobal, S: Source, O: Sink, E: 
     out: &mut O,
     err: &mut E,
 ) -> Result<Status, Problem> {
-    edit_by(rt, matches, input, out, err, alone(REDO_SCRIPT), &[])
+    let steps = if matches.get_flag(EVERY) {
+        Steps::RedoAll
+    } else {
+        Steps::Of(alone(REDO_SCRIPT))
+    };
+    edit_message(rt, matches, input, out, err, steps, &[])
 }
 
 // A script that is done line by line.
@@ -144,28 +187,29 @@ fn edit_by<R: Files<File = File> + Clock + AllocGlobal, S: Source, O: Sink, E: S
             Some(_) => {
                 // It is reported as for one message, of which nothing is read.
                 let mut none = InMemory::new(b"");
-                edit_message(rt, matches, &mut none, out, err, script, pieces)
+                edit_message(rt, matches, &mut none, out, err, Steps::Of(script), pieces)
             }
         };
     }
+    let steps = Steps::Of(script);
     match pick_message(rt.alloc(), matches, input, err)? {
-        Picked::Whole => edit_message(rt, matches, input, out, err, script, pieces),
+        Picked::Whole => edit_message(rt, matches, input, out, err, steps, pieces),
         Picked::Message(message) => {
             let mut input = InMemory::new(&message);
-            edit_message(rt, matches, &mut input, out, err, script, pieces)
+            edit_message(rt, matches, &mut input, out, err, steps, pieces)
         }
         Picked::Missing => Ok(Status::Refused),
     }
 }
 
-// Edits by a script, with the journal that the command line names, if it names one. The journal is read last.
+// Makes the steps of a run, with the journal that the command line names, if it names one. The journal is read last.
 fn edit_message<R: Files<File = File> + Clock + AllocGlobal, S: Source, O: Sink, E: Sink>(
     rt: &R,
     matches: &ArgMatches<'_>,
     input: &mut S,
     out: &mut O,
     err: &mut E,
-    script: Script<'_>,
+    steps: Steps<'_>,
     pieces: &[Vec<u8>],
 ) -> Result<Status, Problem> {
     let alloc = rt.alloc();
@@ -177,6 +221,7 @@ fn edit_message<R: Files<File = File> + Clock + AllocGlobal, S: Source, O: Sink,
         None => {
             let mut none = Output::new(io::sink());
             let journal = Journal::Off;
+            let script = steps.script(b"");
             let done = try_edit(alloc, input, out, err, script, pieces, journal, &mut none);
             Ok(done?)
         }
@@ -189,13 +234,13 @@ fn edit_message<R: Files<File = File> + Clock + AllocGlobal, S: Source, O: Sink,
                 Err(Stop::Memory) => return Err(Problem::Stopped(Cause::Memory)),
             };
             let mut input = InMemory::new(&message);
-            edit_with_journal(rt, matches, path, &mut input, out, err, script, pieces)
+            edit_with_journal(rt, matches, path, &mut input, out, err, steps, pieces)
         }
-        Some(path) => edit_with_journal(rt, matches, path, input, out, err, script, pieces),
+        Some(path) => edit_with_journal(rt, matches, path, input, out, err, steps, pieces),
     }
 }
 
-// Edits by a script, with the journal at a path.
+// Makes the steps of a run, with the journal at a path.
 fn edit_with_journal<R: Files<File = File> + Clock + AllocGlobal, S: Source, O: Sink, E: Sink>(
     rt: &R,
     matches: &ArgMatches<'_>,
@@ -203,7 +248,7 @@ fn edit_with_journal<R: Files<File = File> + Clock + AllocGlobal, S: Source, O: 
     input: &mut S,
     out: &mut O,
     err: &mut E,
-    script: Script<'_>,
+    steps: Steps<'_>,
     pieces: Pieces<'_>,
 ) -> Result<Status, Problem> {
     let alloc = rt.alloc();
@@ -221,6 +266,8 @@ fn edit_with_journal<R: Files<File = File> + Clock + AllocGlobal, S: Source, O: 
         Some(text) => Journal::Old(text),
         None => Journal::New,
     };
+    let text = steps.text(alloc, old.as_deref().unwrap_or(b""))?;
+    let script = steps.script(&text);
     let done = try_edit(alloc, input, out, err, script, pieces, journal, &mut jout);
     let unwritten = jout.close();
     match done {

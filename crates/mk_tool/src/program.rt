@@ -12,7 +12,7 @@ use mk_mail::{Sink, Source};
 use mk_run::{Cause, Status, give_up, write_all};
 use mk_system::{EditedFile, Input, MaybePipe, size_in};
 use mk_words::hints::with_hint;
-use mk_words::options::{EXPLAIN, FROM, IN_PLACE, command};
+use mk_words::options::{EXPLAIN, FROM, IN_PLACE, JOURNAL, STEPS, command};
 use mk_words::waiting::{is_temporary, limit};
 use std::alloc::{AllocError, Global};
 use std::fs::File;
@@ -145,8 +145,8 @@ fn refuse<E: Sink>(
     }
 }
 
-// Runs a subcommand on the message of `--in-place` or `--from`, or on the standard input. All its words are looked at before a
-// file is opened.
+// Runs a subcommand on the message of `--in-place` or `--from`, or on the standard input; `journal` on its journal. All its words
+// are looked at before a file is opened.
 fn start<R: Files<File = File> + Clock + AllocGlobal, S: Source, O: Sink, E: Sink>(
     rt: &R,
     name: &str,
@@ -161,7 +161,8 @@ fn start<R: Files<File = File> + Clock + AllocGlobal, S: Source, O: Sink, E: Sin
     if let Some(path) = matches.get_str(IN_PLACE) {
         return run_in_place(rt, name, matches, path, err);
     }
-    match matches.get_str(FROM) {
+    let file = if name == STEPS { JOURNAL } else { FROM };
+    match matches.get_str(file) {
         Some(path) => run_from(rt, name, matches, path, out, err),
         None => run_command(rt, name, matches, input, out, err),
     }

@@ -19,6 +19,7 @@ mod prepends;
 mod replies;
 mod section_fields;
 mod split;
+mod steps;
 mod tips;
 mod usage;
 

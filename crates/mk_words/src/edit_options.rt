@@ -1,11 +1,12 @@
-//! The words of `edit`, `undo` and `redo`.
+//! The words of `edit`, `undo`, `redo` and `journal`.
 
 use crate::arguments::{Argument, FLAG, OPTION, OPTION_AGAIN, Subcommand};
 use crate::mailbox_options::{
     EACH_OPTION, MBOX_OPTION, NUMBER_OPTION, RFC4155_OPTION, UNQUOTE_OPTION,
 };
 use crate::options::{
-    ALL, EDIT, EOL, EXPLAIN, FROM, JOURNAL, LINE, NUMBER, PIECE, REDO, SCRIPT, UNDO, UNQUOTE,
+    ALL, EDIT, EOL, EVERY, EXPLAIN, FROM, JOURNAL, LINE, NUMBER, PIECE, REDO, SCRIPT, STEPS, UNDO,
+    UNQUOTE,
 };
 use crate::script_words::EDIT_HELP;
 use crate::shared_options::{
@@ -13,34 +14,70 @@ use crate::shared_options::{
 };
 use clap::ArgAction;
 
-/// mimetool undo [--from FILE|--in-place FILE] [--wait[=SECONDS]] [--tempfail] -j JOURNAL
+/// mimetool undo [--from FILE|--in-place FILE] [--wait[=SECONDS]] [--tempfail] [--all] -j JOURNAL
 pub static UNDO_COMMAND: Subcommand = Subcommand {
     name: UNDO,
     about: "Undoes the last step of an earlier edit, and prints the message",
-    after_help: "Examples:\n  mimetool undo -j journal < edited > message\n  mimetool undo -j journal --in-place edited",
-    arguments: &STEP_ARGUMENTS,
+    after_help: "Examples:\n  mimetool undo -j journal < edited > message\n  mimetool undo -j journal --in-place edited\n  mimetool undo --all -j journal --in-place edited",
+    arguments: &[
+        FROM_OPTION,
+        IN_PLACE_OPTION,
+        OWN_JOURNAL_OPTION,
+        Argument {
+            help: "Undo all steps, not only the last",
+            ..EVERY_OPTION
+        },
+        EXPLAIN_OPTION,
+        WAIT_OPTION,
+        TEMPFAIL_OPTION,
+    ],
 };
 
-/// mimetool redo [--from FILE|--in-place FILE] [--wait[=SECONDS]] [--tempfail] -j JOURNAL
+/// mimetool redo [--from FILE|--in-place FILE] [--wait[=SECONDS]] [--tempfail] [--all] -j JOURNAL
 pub static REDO_COMMAND: Subcommand = Subcommand {
     name: REDO,
     about: "Redoes the last step that was undone, and prints the message",
-    after_help: "Examples:\n  mimetool redo -j journal < message > edited\n  mimetool redo -j journal --in-place message",
-    arguments: &STEP_ARGUMENTS,
+    after_help: "Examples:\n  mimetool redo -j journal < message > edited\n  mimetool redo -j journal --in-place message\n  mimetool redo --all -j journal --in-place message",
+    arguments: &[
+        FROM_OPTION,
+        IN_PLACE_OPTION,
+        OWN_JOURNAL_OPTION,
+        Argument {
+            help: "Redo all steps that were undone, not only one",
+            ..EVERY_OPTION
+        },
+        EXPLAIN_OPTION,
+        WAIT_OPTION,
+        TEMPFAIL_OPTION,
+    ],
 };
 
-// What undo and redo take.
-const STEP_ARGUMENTS: [Argument; 6] = [
-    FROM_OPTION,
-    IN_PLACE_OPTION,
-    Argument {
-        is_required: true,
-        ..JOURNAL_OPTION
-    },
-    EXPLAIN_OPTION,
-    WAIT_OPTION,
-    TEMPFAIL_OPTION,
-];
+/// mimetool journal -j JOURNAL [--explain]
+pub static JOURNAL_COMMAND: Subcommand = Subcommand {
+    name: STEPS,
+    about: "Lists the steps of a journal, one per line",
+    after_help: "Example:\n  mimetool journal -j journal",
+    arguments: &[
+        Argument {
+            help: "The journal, which stays as it is; no message is read",
+            ..OWN_JOURNAL_OPTION
+        },
+        EXPLAIN_OPTION,
+    ],
+};
+
+// --all of undo and redo, with help of its own in each
+const EVERY_OPTION: Argument = Argument {
+    id: EVERY,
+    long: Some(ALL),
+    ..FLAG
+};
+
+// -j JOURNAL, which has to be there
+const OWN_JOURNAL_OPTION: Argument = Argument {
+    is_required: true,
+    ..JOURNAL_OPTION
+};
 
 // -j JOURNAL
 const JOURNAL_OPTION: Argument = Argument {

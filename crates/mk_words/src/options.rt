@@ -2,7 +2,7 @@
 
 use crate::arguments::Subcommand;
 use crate::check_options::CHECK_COMMAND;
-use crate::edit_options::{EDIT_COMMAND, REDO_COMMAND, UNDO_COMMAND};
+use crate::edit_options::{EDIT_COMMAND, JOURNAL_COMMAND, REDO_COMMAND, UNDO_COMMAND};
 use crate::field_options::FIELD_COMMAND;
 use crate::mailbox_options::{MESSAGES_COMMAND, SPLIT_COMMAND};
 use crate::pack_options::PACK_COMMAND;
@@ -61,6 +61,12 @@ pub const UNDO: &str = "undo";
 
 /// The subcommand that redoes the last step that was undone.
 pub const REDO: &str = "redo";
+
+/// `--all` of these two: all steps that the journal has.
+pub const EVERY: &str = "every";
+
+/// The subcommand that lists the steps of a journal.
+pub const STEPS: &str = "journal";
 
 /// The subcommand that lists the sections of a message.
 pub const SECTIONS: &str = "sections";
@@ -207,8 +213,8 @@ pub const MBOX: &str = "mbox";
 pub const UNQUOTE: &str = "unquote";
 
 /// The subcommands, in the order in which help lists them.
-const SUBCOMMANDS: [&str; 12] = [
-    EDIT, UNDO, REDO, SECTIONS, EXTRACT, UNPACK, PACK, FIELD, REPLY, CHECK, MESSAGES, SPLIT,
+const SUBCOMMANDS: [&str; 13] = [
+    EDIT, UNDO, REDO, STEPS, SECTIONS, EXTRACT, UNPACK, PACK, FIELD, REPLY, CHECK, MESSAGES, SPLIT,
 ];
 
 /// The command line of the program.
@@ -238,6 +244,8 @@ fn row(name: &str) -> &'static Subcommand {
         &UNDO_COMMAND
     } else if name == REDO {
         &REDO_COMMAND
+    } else if name == STEPS {
+        &JOURNAL_COMMAND
     } else if name == SECTIONS {
         &SECTIONS_COMMAND
     } else if name == EXTRACT {

@@ -1,8 +1,9 @@
-//! The examples at the roots of mk_json, mk_reply, mk_check, mk_words, mk_asked and mk_tool. Expected values are from docs/FORMATS.md and the help.
+//! The examples at the roots of mk_json, mk_reply, mk_check, mk_journal, mk_words, mk_asked and mk_tool. Expected values are from docs/FORMATS.md and the help.
 
 use super::obeyed;
 use mk_asked::why_invalid;
 use mk_check::{FindingForm, findings};
+use mk_journal::{Journal, list_steps, undo_all};
 use mk_reply::reply_header;
 use mk_tree::Doc;
 use mk_words::options::{EXTRACT, PATH, command};
@@ -33,6 +34,18 @@ fn a_message_is_answered(rt: HostRuntime) -> Result<(), Fail> {
     let first = b"To: a@b.org\nSubject: Re: Hi\nIn-Reply-To: <1@b.org>\n";
     assert!(rt; header.starts_with(first));
     assert!(rt; header.ends_with(b"\nReferences: <1@b.org>\n\n"));
+    Ok(())
+}
+
+#[test]
+fn steps_are_listed(rt: HostRuntime) -> Result<(), Fail> {
+    let alloc = rt.alloc();
+    let file = b"mimejournal 1\n1 1\n1 2 3\nbcxyz\n0 0 2\nno\n";
+    let journal = Journal::parse(alloc, file)?;
+    let lines = list_steps(alloc, &journal)?;
+    let listed = b"1 done; 2 bytes at 1 became 3\n2 undone; 0 bytes at 0 became 2\n";
+    assert_eq!(rt; lines.as_slice(), listed.as_slice());
+    assert_eq!(rt; undo_all(alloc, file)?.as_slice(), b"undo\n".as_slice());
     Ok(())
 }
 

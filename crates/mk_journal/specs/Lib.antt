@@ -1,0 +1,5 @@
+pub mod StepLines
+pub mod StepRuns
+pub mod AllSteps
+pub mod AllStepsLaws
+pub mod inner
