@@ -60,6 +60,10 @@ READ = [
         ["unpack"], ["field"], ["field", "-s"])],
     *[(f"--in-place of {words[0]}", lambda path, words=words: [*words, "--in-place", path], {}) for words in (
         ["edit", *ADD], ["undo", "-j", "j"], ["redo", "-j", "j"], ["field", "-A", "C: d"], ["field", "-s", "-A", "C: d"])],
+    ("the journal that is listed", lambda path: ["journal", "-j", path], {}),
+    ("a further file of --from", lambda path: ["field", "-x", "Z:", "--from", "s", path], {"s": MESSAGE}),
+    ("a further file of --in-place", lambda path: ["field", "-u", "A:", "--in-place", "s", path], {"s": MESSAGE}),
+    ("a further --in-place of edit", lambda path: ["edit", "-e", "set 1 A 1 A: b", "--in-place", "s", "--in-place", path], {"s": MESSAGE}),
 ]
 
 

@@ -47,8 +47,8 @@ for command in IN_PLACE:
     OPTIONS[command]["--in-place <FILE>"] = "f"
 
 FLAGS = {
-    "edit": ["--each"], "undo": ["--all"], "redo": ["--all"], "sections": ["--json", "--each"], "extract": ["--raw", "--head", "--prefix", "--each"], "unpack": ["-f", "-t", "--silent", "--paths", "--utf8", "--each"],
-    "pack": ["--inline", "--utf8"], "field": ["--each"], "check": ["--json"], "messages": ["--json"],
+    "edit": ["--each"], "undo": ["--all"], "redo": ["--all"], "sections": ["--json", "-H", "--each"], "extract": ["--raw", "--head", "--prefix", "--each"], "unpack": ["-f", "-t", "--silent", "--paths", "--utf8", "--each"],
+    "pack": ["--inline", "--utf8"], "field": ["-H", "--each"], "check": ["--json", "-H"], "messages": ["--json", "-H"],
     "split": ["-f", "--silent", "--maildir", "--bare", "--unquote"],
 }
 for command in IN_PLACE:
@@ -127,6 +127,10 @@ SAID = [
     ("seconds without an equals sign", ["field", "--wait", "5"], ["unexpected argument '5' found", "write '--wait=5'", "Usage: mimetool field"]),
     ("--tempfail with a value", ["undo", "-j", "j", "--tempfail=75"], ["--tempfail", "Usage: mimetool undo"]),
     ("a file for sections", ["sections", "f"], ["unexpected argument 'f' found", "tip: to read the message from a file, write '--from f'", "Usage: mimetool sections"]),
+    ("a journal of several files", ["edit", "-e", "undo", "-j", "j", "--in-place", "f", "--in-place", "g"], ["-j goes with one file", "Usage: mimetool edit"]),
+    *[(f"-H of {command} without a file", [command, *words, "-H"], ["-H goes only with --from", f"Usage: mimetool {command}"])
+      for command, words in (("sections", []), ("field", ["-x", "A:"]), ("check", []), ("messages", []))],
+    ("-H without -x", ["field", "-H", "-A", "A: 1", "--from", "f"], ["-H goes only with -x or -X", "Usage: mimetool field"]),
     ("a file for redo", ["redo", "-j", "j", "f"], ["unexpected argument 'f' found", "'--from f'", "'--in-place f'", "Usage: mimetool redo"]),
     *[(f"{words[0]} of formail", ["field", *words], [f"unexpected argument '{words[0]}' found", tip, "Usage: mimetool field"]) for words, tip in (
         (["-R", "A", "B"], "write '--rename OLD:NEW'"), (["-c", "-x", "A:"], "write '--unfold' with -x"), (["-z"], "'--unfold' with -x"),
@@ -150,6 +154,7 @@ EXCLUDED = [
     *[(command, ["--each", "-n", "1"], ["--each", "-n <N>"]) for command in ("edit", "sections", "extract", "unpack")],
     ("edit", ["--each", "-j", "j"], ["--each", "-j <JOURNAL>"]),
     ("edit", ["--each", "--unquote"], ["--each", "--unquote"]),
+    *[(command, ["-H", "--json"], ["-H", "--json"]) for command in ("sections", "check", "messages")],
 ]
 
 # Command lines of which a word isn't UTF-8.
@@ -163,7 +168,8 @@ NO_TEXT = [
 
 
 # Options that may be given again.
-REPEATED = {("edit", "-e"), ("unpack", "-s"), ("pack", "--forward"), *(("field", letter) for letter in ("--prepend", "--drop", "--rename", "-a", "-A", "-i", "-I", "-u", "-U"))}
+FILES = ["field", "sections", "extract", "unpack", "check", "messages"]
+REPEATED = {*((command, "--from") for command in FILES), ("edit", "--in-place"), ("field", "--in-place"), ("edit", "-e"), ("unpack", "-s"), ("pack", "--forward"), *(("field", letter) for letter in ("--prepend", "--drop", "--rename", "-a", "-A", "-i", "-I", "-u", "-U"))}
 
 
 def doubled():

@@ -7,14 +7,14 @@ _mimetool_options() {
         undo) options='--from --in-place --wait --tempfail -j --all --explain -h --help' ;;
         redo) options='--from --in-place --wait --tempfail -j --all --explain -h --help' ;;
         journal) options='-j --explain -h --help' ;;
-        sections) options='--from -n --each --rfc4155 --mbox --unquote --json --utf8 --explain -h --help' ;;
+        sections) options='--from -n --each --rfc4155 --mbox --unquote --json -H --utf8 --explain -h --help' ;;
         extract) options='--from -n --each --rfc4155 --mbox --unquote -s --raw --head --prefix --utf8 --explain -h --help' ;;
         unpack) options='--from -n --each --rfc4155 --mbox --unquote -f -t -s --silent --paths --utf8 -C --explain -h --help' ;;
         pack) options='-b -m --inline --charset --eol --forward --part --utf8 --explain -h --help' ;;
-        field) options='--from --in-place --wait --tempfail -p --prepend --drop --rename -a -A -i -I -u -U -x -X --unfold --decode --encode --eol --refused-ok -s --each --rfc4155 --mbox --explain -h --help' ;;
+        field) options='--from --in-place --wait --tempfail -p --prepend --drop --rename -a -A -i -I -u -U -x -X -H --unfold --decode --encode --eol --refused-ok -s --each --rfc4155 --mbox --explain -h --help' ;;
         reply) options='--from -n --rfc4155 --mbox --explain -h --help' ;;
-        check) options='--from --json -n --rfc4155 --mbox --explain -h --help' ;;
-        messages) options='--from --json --rfc4155 --mbox -h --help' ;;
+        check) options='--from --json -H -n --rfc4155 --mbox --explain -h --help' ;;
+        messages) options='--from --json -H --rfc4155 --mbox -h --help' ;;
         split) options='--from --name -f --silent --maildir --bare --unquote -C --rfc4155 --mbox --explain -h --help' ;;
         help) options='' ;;
         '') options='-h --help -V --version' ;;
@@ -58,7 +58,7 @@ _mimetool() {
         help)
             compopt +o filenames 2>/dev/null
             mapfile -t COMPREPLY < <(compgen -W "$commands" -- "$cur") ;;
-        edit)
+        edit | field | sections | extract | unpack | check | messages)
             mapfile -t COMPREPLY < <(compgen -f -- "$cur") ;;
         pack)
             # TYPE:FILE. The shell cuts words at a colon, so what is completed is FILE.

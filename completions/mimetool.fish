@@ -39,6 +39,7 @@ complete -c mimetool -n '__fish_seen_subcommand_from split' -l maildir -d 'Write
 complete -c mimetool -n '__fish_seen_subcommand_from split' -l bare -d 'Leave out the From-line that begins each message'
 complete -c mimetool -n '__fish_seen_subcommand_from split' -s C -x -a '(__fish_complete_directories)' -d 'The folder to write to'
 complete -c mimetool -n '__fish_seen_subcommand_from sections' -l json -d 'Print each section as a JSON object'
+complete -c mimetool -n '__fish_seen_subcommand_from sections field check messages' -s H -d 'Print the name of the file before each line'
 complete -c mimetool -n '__fish_seen_subcommand_from sections' -l utf8 -d 'With --json, give the names of unpack --utf8'
 complete -c mimetool -n '__fish_seen_subcommand_from edit' -l all -d 'Make all edits as one step, or none'
 complete -c mimetool -n '__fish_seen_subcommand_from undo' -l all -d 'Undo all steps, not only the last'
@@ -47,7 +48,7 @@ complete -c mimetool -n '__fish_seen_subcommand_from edit' -l eol -d 'Give the l
 complete -c mimetool -n '__fish_seen_subcommand_from edit' -l explain -d 'Say why a line of the script is invalid, and what reasons mean'
 complete -c mimetool -n '__fish_seen_subcommand_from undo redo journal sections extract unpack pack field reply check split' -l explain -d 'Say what a reason means before the line that names it'
 complete -c mimetool -n '__fish_seen_subcommand_from edit' -s e -x -d 'A line of the script'
-complete -c mimetool -n '__fish_seen_subcommand_from edit' -F
+complete -c mimetool -n '__fish_seen_subcommand_from edit field sections extract unpack check messages' -F
 complete -c mimetool -n '__fish_seen_subcommand_from extract' -s s -x -d 'The path of the section'
 complete -c mimetool -n '__fish_seen_subcommand_from extract' -l utf8 -d 'Print the content in UTF-8, by the charset that the type names'
 complete -c mimetool -n '__fish_seen_subcommand_from extract' -l raw -d 'Print the content as it is'

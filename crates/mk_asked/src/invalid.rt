@@ -1,5 +1,6 @@
 //! Words of the command line that clap takes as they are, and why some of them are refused.
 
+use crate::files::why_no_files;
 use crate::forms::template;
 use crate::letters::{placed_words, why_no_values, why_refused};
 use crate::mailboxes::{from_lines, message_number};
@@ -38,6 +39,9 @@ pub fn why_invalid(
     name: &str,
     matches: &ArgMatches<'_>,
 ) -> Result<Option<String>, AllocError> {
+    if let Some(sentence) = why_no_files(alloc, name, matches)? {
+        return Ok(Some(sentence));
+    }
     if let Some(sentence) = why_no_message(alloc, name, matches)? {
         return Ok(Some(sentence));
     }

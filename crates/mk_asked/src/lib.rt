@@ -15,6 +15,7 @@
 //! `mk_tool/src/tests/mailboxes.rt`; `checks/faults` tries each invalid command line.
 #![tactic(auto)]
 
+mod files;
 mod forms;
 mod invalid;
 mod letters;

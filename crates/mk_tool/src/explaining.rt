@@ -7,7 +7,8 @@ use mk_mail::{Fault, Sink};
 use mk_run::write_all;
 use mk_words::reasons::told;
 
-const LINE_FEED: u8 = b'\n';
+/// What ends a line.
+pub const LINE_FEED: u8 = b'\n';
 
 /// Errors with reasons in words: a line that names a reason comes after one that says what it means.
 #[derive(Drop)]
@@ -54,8 +55,8 @@ impl<'a, E: Sink> Explained<'a, E> {
     }
 }
 
-// The first line of a piece, with its line feed.
-fn first_line(piece: &[u8]) -> &[u8]
+/// The first line of a piece, with its line feed.
+pub fn first_line(piece: &[u8]) -> &[u8]
     ensures { length result.now ≤ length piece.now }
 {
     match piece.iter().position(|byte| *byte == LINE_FEED) {

@@ -38,6 +38,11 @@ impl Problem {
         }
     }
 
+    /// Whether it is a file that can't be read or written.
+    pub fn is_of_file(&self) -> bool {
+        matches!(self, Problem::File { .. })
+    }
+
     /// The same problem, which names a file where that made a run stop for this cause.
     pub fn blamed(
         self,

@@ -1,14 +1,35 @@
 //! The files that the command line names.
 
 use crate::faults::Problem;
+use clap::ArgMatches;
 use mk_mail::Attach;
 use mk_run::{Cause, Spec};
 use mk_show::Forward;
 use mk_system::size_in;
+use mk_words::options::{FILES, FROM, IN_PLACE, JOURNAL, STEPS};
+use std::alloc::{AllocError, Global};
 use std::fs::OpenFile;
 use std::io::Read;
 use std::rt::Files;
 use std::{fs, io};
+
+/// The files that a subcommand reads, or replaces, one after another; none if it reads the standard input.
+pub fn named_files<'a>(
+    alloc: Global,
+    name: &str,
+    matches: &'a ArgMatches<'_>,
+) -> Result<Vec<&'a str>, AllocError> {
+    let option = if name == STEPS {
+        JOURNAL
+    } else if matches.contains_id(IN_PLACE) {
+        IN_PLACE
+    } else {
+        FROM
+    };
+    let mut paths = Vec::from_slice(alloc, matches.get_strs(option).unwrap_or(&[]))?;
+    paths.extend_from_slice(matches.get_strs(FILES).unwrap_or(&[]))?;
+    Ok(paths)
+}
 
 /// Opens a file for reading. A folder is an error.
 pub fn open<R: Files + AllocGlobal>(rt: &R, path: &str) -> Result<R::File, Problem> {

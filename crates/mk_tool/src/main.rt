@@ -26,6 +26,7 @@ mod endings;
 mod explaining;
 mod faults;
 mod files;
+mod labels;
 mod mailboxes;
 mod packing;
 mod program;

@@ -4,7 +4,8 @@ use crate::commands::run_command;
 use crate::endings::Ending;
 use crate::explaining::Explained;
 use crate::faults::{Problem, report, say_usage, usage};
-use crate::files::open;
+use crate::files::{named_files, open};
+use crate::labels::{BEFORE_LINE, BEFORE_REPORT, Labelled};
 use clap::ArgMatches;
 use clap::error::ErrorKind;
 use mk_asked::why_invalid;
@@ -12,7 +13,7 @@ use mk_mail::{Sink, Source};
 use mk_run::{Cause, Status, give_up, write_all};
 use mk_system::{EditedFile, Input, MaybePipe, size_in};
 use mk_words::hints::with_hint;
-use mk_words::options::{EXPLAIN, FROM, IN_PLACE, JOURNAL, STEPS, command};
+use mk_words::options::{EXPLAIN, IN_PLACE, LABEL, command};
 use mk_words::waiting::{is_temporary, limit};
 use std::alloc::{AllocError, Global};
 use std::fs::File;
@@ -57,7 +58,7 @@ pub fn obey<R: Files<File = File> + Clock + AllocGlobal, S: Source, O: MaybePipe
     match command.try_get_matches_from(words) {
         Ok(matches) => match matches.subcommand() {
             Some((name, matches)) => Ending {
-                status: match start_told(rt, name, matches, input, out, err) {
+                status: match start(rt, name, matches, input, out, err) {
                     Ok(status) => status,
                     Err(problem) => end(alloc, name, &problem, out, err),
                 },
@@ -66,23 +67,6 @@ pub fn obey<R: Files<File = File> + Clock + AllocGlobal, S: Source, O: MaybePipe
             None => Ending::lasting(usage(err)),
         },
         Err(error) => Ending::lasting(show(alloc, words, &error, out, err)),
-    }
-}
-
-// Runs a subcommand, with its reasons in words if that is asked for.
-fn start_told<R: Files<File = File> + Clock + AllocGlobal, S: Source, O: Sink, E: Sink>(
-    rt: &R,
-    name: &str,
-    matches: &ArgMatches<'_>,
-    input: &mut S,
-    out: &mut O,
-    err: &mut E,
-) -> Result<Status, Problem> {
-    if matches.get_flag(EXPLAIN) {
-        let mut told = Explained::over(name, err);
-        start(rt, name, matches, input, out, &mut told)
-    } else {
-        start(rt, name, matches, input, out, err)
     }
 }
 
@@ -145,8 +129,7 @@ fn refuse<E: Sink>(
     }
 }
 
-// Runs a subcommand on the message of `--in-place` or `--from`, or on the standard input; `journal` on its journal. All its words
-// are looked at before a file is opened.
+// Runs a subcommand on the files that it names, or on the standard input. All its words are looked at before a file is opened.
 fn start<R: Files<File = File> + Clock + AllocGlobal, S: Source, O: Sink, E: Sink>(
     rt: &R,
     name: &str,
@@ -155,16 +138,98 @@ fn start<R: Files<File = File> + Clock + AllocGlobal, S: Source, O: Sink, E: Sin
     out: &mut O,
     err: &mut E,
 ) -> Result<Status, Problem> {
-    if let Some(sentence) = why_invalid(rt.alloc(), name, matches)? {
+    let alloc = rt.alloc();
+    if let Some(sentence) = why_invalid(alloc, name, matches)? {
         return Err(Problem::Usage(sentence));
     }
-    if let Some(path) = matches.get_str(IN_PLACE) {
-        return run_in_place(rt, name, matches, path, err);
+    let paths = named_files(alloc, name, matches)?;
+    if matches.get_flag(LABEL) || paths.len() > 1 {
+        return run_files(rt, name, matches, &paths, out, err);
     }
-    let file = if name == STEPS { JOURNAL } else { FROM };
-    match matches.get_str(file) {
-        Some(path) => run_from(rt, name, matches, path, out, err),
-        None => run_command(rt, name, matches, input, out, err),
+    match paths.first() {
+        Some(path) => run_file(rt, name, matches, *path, out, err),
+        None => run_told(rt, name, matches, input, out, err),
+    }
+}
+
+// Runs a subcommand on one file after another. A file that is refused, or can't be read or replaced, doesn't end the run, and the
+// status is that of the worst. An output that fails ends it, and so does an invalid script or running out of memory.
+fn run_files<R: Files<File = File> + Clock + AllocGlobal, O: Sink, E: Sink>(
+    rt: &R,
+    name: &str,
+    matches: &ArgMatches<'_>,
+    paths: &[&str],
+    out: &mut O,
+    err: &mut E,
+) -> Result<Status, Problem> {
+    let mut worst = Status::Well;
+    for path in paths {
+        let status = match run_labelled(rt, name, matches, *path, out, err) {
+            Ok(status) => status,
+            Err(problem) => {
+                if !problem.is_of_file() {
+                    return Err(problem);
+                }
+                report(rt.alloc(), name, &problem, err)
+            }
+        };
+        match (status, worst) {
+            (Status::Usage | Status::Memory, _) => return Ok(status),
+            (Status::Well, _) | (_, Status::Fault) => {}
+            (Status::Refused | Status::Fault, _) => worst = status,
+        }
+    }
+    Ok(worst)
+}
+
+// Runs a subcommand on a file, whose name comes before what is reported, and with `-H` before each line.
+fn run_labelled<R: Files<File = File> + Clock + AllocGlobal, O: Sink, E: Sink>(
+    rt: &R,
+    name: &str,
+    matches: &ArgMatches<'_>,
+    path: &str,
+    out: &mut O,
+    err: &mut E,
+) -> Result<Status, Problem> {
+    let mut err = Labelled::over(path, BEFORE_REPORT, err);
+    if matches.get_flag(LABEL) {
+        let mut out = Labelled::over(path, BEFORE_LINE, out);
+        run_file(rt, name, matches, path, &mut out, &mut err)
+    } else {
+        run_file(rt, name, matches, path, out, &mut err)
+    }
+}
+
+// Runs a subcommand on a file.
+fn run_file<R: Files<File = File> + Clock + AllocGlobal, O: Sink, E: Sink>(
+    rt: &R,
+    name: &str,
+    matches: &ArgMatches<'_>,
+    path: &str,
+    out: &mut O,
+    err: &mut E,
+) -> Result<Status, Problem> {
+    if matches.contains_id(IN_PLACE) {
+        run_in_place(rt, name, matches, path, err)
+    } else {
+        run_from(rt, name, matches, path, out, err)
+    }
+}
+
+// Runs a subcommand, with its reasons in words if that is asked for.
+fn run_told<R: Files<File = File> + Clock + AllocGlobal, S: Source, O: Sink, E: Sink>(
+    rt: &R,
+    name: &str,
+    matches: &ArgMatches<'_>,
+    input: &mut S,
+    out: &mut O,
+    err: &mut E,
+) -> Result<Status, Problem> {
+    if matches.get_flag(EXPLAIN) {
+        let mut told = Explained::over(name, err);
+        run_command(rt, name, matches, input, out, &mut told)
+    } else {
+        run_command(rt, name, matches, input, out, err)
     }
 }
 
@@ -183,7 +248,7 @@ fn run_in_place<R: Files<File = File> + Clock + AllocGlobal, E: Sink>(
     };
     let size = size_in(message.metadata());
     let mut input = Input::with_size(message, size);
-    let done = run_command(rt, name, matches, &mut input, &mut edited, err);
+    let done = run_told(rt, name, matches, &mut input, &mut edited, err);
     let (unread, unwritten) = (input.close(), edited.close());
     match done {
         Ok(status) => Ok(status),
@@ -207,7 +272,7 @@ fn run_from<R: Files<File = File> + Clock + AllocGlobal, O: Sink, E: Sink>(
     let message = open(rt, path)?;
     let size = size_in(message.metadata());
     let mut input = Input::with_size(message, size);
-    let done = run_command(rt, name, matches, &mut input, out, err);
+    let done = run_told(rt, name, matches, &mut input, out, err);
     let unread = input.close();
     match done {
         Ok(status) => Ok(status),

@@ -18,6 +18,7 @@ mod mailboxes;
 mod prepends;
 mod replies;
 mod section_fields;
+mod several;
 mod split;
 mod steps;
 mod tips;

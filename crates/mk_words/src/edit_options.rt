@@ -10,7 +10,8 @@ use crate::options::{
 };
 use crate::script_words::EDIT_HELP;
 use crate::shared_options::{
-    EXPLAIN_OPTION, FROM_OPTION, IN_PLACE_OPTION, TEMPFAIL_OPTION, WAIT_OPTION,
+    EXPLAIN_OPTION, FROM_OPTION, IN_PLACE_FILES_OPTION, IN_PLACE_OPTION, TEMPFAIL_OPTION,
+    WAIT_OPTION,
 };
 use clap::ArgAction;
 
@@ -87,7 +88,7 @@ const JOURNAL_OPTION: Argument = Argument {
     ..OPTION
 };
 
-/// mimetool edit [--from FILE|--in-place FILE] [--wait[=SECONDS]] [--tempfail] [-n N|--each [--rfc4155|--mbox HOW] [--unquote]] [-j JOURNAL] [--all] [--eol] [--explain] [-e LINE].. [SCRIPT] [PIECE..]
+/// mimetool edit [--from FILE|[--in-place FILE]..] [--wait[=SECONDS]] [--tempfail] [-n N|--each [--rfc4155|--mbox HOW] [--unquote]] [-j JOURNAL] [--all] [--eol] [--explain] [-e LINE].. [SCRIPT] [PIECE..]
 pub static EDIT_COMMAND: Subcommand = Subcommand {
     name: EDIT,
     about: "Edits the message by the lines of a script, and prints it",
@@ -96,7 +97,7 @@ pub static EDIT_COMMAND: Subcommand = Subcommand {
         FROM_OPTION,
         Argument {
             conflicts: &[FROM, NUMBER],
-            ..IN_PLACE_OPTION
+            ..IN_PLACE_FILES_OPTION
         },
         NUMBER_OPTION,
         Argument {

@@ -7,7 +7,8 @@ use crate::options::{
     PREPEND, REFUSED_OK, RENAME, TAKE, UNFOLD, WHOLE,
 };
 use crate::shared_options::{
-    EXPLAIN_OPTION, FROM_OPTION, IN_PLACE_OPTION, TEMPFAIL_OPTION, WAIT_OPTION,
+    EXPLAIN_OPTION, FILES_ARGUMENT, FROM_FILES_OPTION, IN_PLACE_FILES_OPTION, LABEL_OPTION,
+    TEMPFAIL_OPTION, WAIT_OPTION,
 };
 
 /// A letter that takes a field, and may be given again.
@@ -22,17 +23,18 @@ const WITH_NAME: Argument = Argument {
     ..OPTION_AGAIN
 };
 
-/// mimetool field [--from FILE|--in-place FILE] [--wait[=SECONDS]] [--tempfail] [-p PATH] [--prepend NAME:TEXT] [--drop NAME:] [-a FIELD] [-A FIELD] [-i FIELD] [-I FIELD] [-u NAME:] [-U NAME:] [-x NAME:] [-X NAME:] [--rename OLD:NEW] [--unfold] [--decode] [--encode] [--eol] [--refused-ok] [-s|--each [--rfc4155|--mbox HOW]]
+/// mimetool field [--from FILE..|--in-place FILE..] [-H] [--wait[=SECONDS]] [--tempfail] [-p PATH] [--prepend NAME:TEXT] [--drop NAME:] [-a FIELD] [-A FIELD] [-i FIELD] [-I FIELD] [-u NAME:] [-U NAME:] [-x NAME:] [-X NAME:] [--rename OLD:NEW] [--unfold] [--decode] [--encode] [--eol] [--refused-ok] [-s|--each [--rfc4155|--mbox HOW]]
 pub static FIELD_COMMAND: Subcommand = Subcommand {
     name: FIELD,
     about: "Adds, renames and removes fields of a message, or prints those of a name",
-    after_help: "Letters work in this order, whatever the order of the command line: --prepend, --drop, --rename, -a, -A, -i, -I, -u, -U. A letter that is given again works on the result of the earlier ones, as in a pipe.\n\nExamples:\n  mimetool field -I 'X-Seen: yes' --in-place message\n  mimetool field -I 'X-Seen: yes' -I 'X-By: me' < message\n  mimetool field --prepend 'Subject:[list] ' < message\n  mimetool field -s -x Subject: --from mailbox\n  mimetool field -p 1.2 -x Content-Type: < message",
+    after_help: "Letters work in this order, whatever the order of the command line: --prepend, --drop, --rename, -a, -A, -i, -I, -u, -U. A letter that is given again works on the result of the earlier ones, as in a pipe.\n\nExamples:\n  mimetool field -I 'X-Seen: yes' --in-place message\n  mimetool field -x Subject: -H --from one two three\n  mimetool field -I 'X-Seen: yes' -I 'X-By: me' < message\n  mimetool field --prepend 'Subject:[list] ' < message\n  mimetool field -s -x Subject: --from mailbox\n  mimetool field -p 1.2 -x Content-Type: < message",
     arguments: &[
-        FROM_OPTION,
+        FROM_FILES_OPTION,
         Argument {
             conflicts: &[FROM, TAKE, WHOLE],
-            ..IN_PLACE_OPTION
+            ..IN_PLACE_FILES_OPTION
         },
+        LABEL_OPTION,
         Argument {
             id: PATH,
             short: Some('p'),
@@ -151,5 +153,6 @@ pub static FIELD_COMMAND: Subcommand = Subcommand {
         MBOX_OPTION,
         WAIT_OPTION,
         TEMPFAIL_OPTION,
+        FILES_ARGUMENT,
     ],
 };

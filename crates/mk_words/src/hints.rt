@@ -1,6 +1,6 @@
 //! What to write in place of a word that a subcommand doesn't take.
 
-ghost use Rattle.std.specs.Prelude.{◌≡◌, IfOk, IfSome};
+ghost use Rattle.std.specs.Prelude.{◌≡◌, ◌++◌, ℕ, List, IfOk, IfSome};
 ghost use Rattle.clap.specs.Values.{kind_of};
 
 use crate::options::{EDIT, FIELD, PACK, REDO, UNDO, subcommand};
@@ -69,7 +69,8 @@ pub fn with_hint(alloc: Global, words: &[String], text: &str) -> Result<Option<E
         return Ok(None);
     };
     let name = name.as_str();
-    let Some(hint) = hint(alloc, name, word, words)? else {
+    let waits = stands_after(words, WAIT_OPTION, word);
+    let Some(hint) = hint(alloc, name, word, waits)? else {
         return Ok(None);
     };
     let path = format!(in alloc; "mimetool {name}")?;
@@ -80,6 +81,16 @@ pub fn with_hint(alloc: Global, words: &[String], text: &str) -> Result<Option<E
     Ok(Some(error))
 }
 
+/// What is said of a word that names no file, since none is read or replaced. The word may be meant as the value of `--wait`.
+pub fn superfluous(alloc: Global, name: &str, word: &str, waits: bool) -> Result<String, AllocError>
+    ensures { IfOk result (λ sentence. (tip : List ℕ) × (sentence.bytes.items ≡ BEFORE.now ++ (word.now ++ (AFTER.now ++ tip)))) }
+{
+    match hint(alloc, name, word, waits)? {
+        Some(hint) => format!(in alloc; "{BEFORE}{word}{AFTER}\n\n  tip: {hint}"),
+        None => format!(in alloc; "{BEFORE}{word}{AFTER}"),
+    }
+}
+
 // The word that clap refuses.
 fn refused(text: &str) -> Option<&str> {
     let (_, rest) = text.split_once(BEFORE)?;
@@ -87,13 +98,8 @@ fn refused(text: &str) -> Option<&str> {
     Some(word)
 }
 
-// What to write in place of a word of a subcommand.
-fn hint(
-    alloc: Global,
-    name: &str,
-    word: &str,
-    words: &[String],
-) -> Result<Option<String>, AllocError> {
+// What to write in place of a word of a subcommand, which may be meant as the value of `--wait`.
+fn hint(alloc: Global, name: &str, word: &str, waits: bool) -> Result<Option<String>, AllocError> {
     if word.starts_with('-') {
         let letter = LETTERS.iter().find(|row| name == FIELD && row.0 == word);
         return match letter {
@@ -104,7 +110,7 @@ fn hint(
     if name == PACK || name == EDIT {
         return Ok(None);
     }
-    if stands_after(words, WAIT_OPTION, word) {
+    if waits {
         return Ok(Some(format!(in alloc; "to wait that many seconds, write '--wait={word}'")?));
     }
     if name == FIELD && word.contains(':') {

@@ -5,23 +5,30 @@ use crate::options::{
     BARE, DIR, EACH, JSON, MAILDIR, MBOX, MESSAGES, NUMBER, OVER, RFC4155, SILENT, SPLIT, TEMPLATE,
     UNQUOTE,
 };
-use crate::shared_options::{EXPLAIN_OPTION, FROM_OPTION};
+use crate::shared_options::{
+    EXPLAIN_OPTION, FILES_ARGUMENT, FROM_FILES_OPTION, FROM_OPTION, LABEL_OPTION,
+};
 
-/// mimetool messages [--from FILE] [--json] [--rfc4155|--mbox HOW]
+/// mimetool messages [--json|-H] [--rfc4155|--mbox HOW] [--from FILE..]
 pub static MESSAGES_COMMAND: Subcommand = Subcommand {
     name: MESSAGES,
     about: "Lists the messages of a mailbox, one per line",
     after_help: "Examples:\n  mimetool messages < mailbox\n  mimetool messages --mbox=date --from mailbox\n  mimetool messages --json < mailbox",
     arguments: &[
-        FROM_OPTION,
+        FROM_FILES_OPTION,
         Argument {
             id: JSON,
             long: Some(JSON),
             help: "Print a JSON object for each message",
             ..FLAG
         },
+        Argument {
+            conflicts: &[JSON],
+            ..LABEL_OPTION
+        },
         RFC4155_OPTION,
         MBOX_OPTION,
+        FILES_ARGUMENT,
     ],
 };
 

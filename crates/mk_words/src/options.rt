@@ -41,6 +41,12 @@ pub const FROM: &str = "FROM";
 /// `--in-place FILE`: the file to read it from and to replace.
 pub const IN_PLACE: &str = "IN_PLACE";
 
+/// A word that names one more file to read from, or to read and to replace.
+pub const FILES: &str = "FILE";
+
+/// `-H`: the name of the file comes before each line.
+pub const LABEL: &str = "label";
+
 /// `--wait[=SECONDS]`: how long to wait for a file that another run is using.
 pub const WAIT: &str = "wait";
 

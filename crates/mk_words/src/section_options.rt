@@ -7,20 +7,26 @@ use crate::mailbox_options::{
 use crate::options::{
     DIR, EXTRACT, HEAD, JSON, OVER, PATH, PATHS, PREFIX, RAW, SECTIONS, SILENT, TEXTS, UNPACK,
 };
-use crate::shared_options::{EXPLAIN_OPTION, FROM_OPTION, UTF8_OPTION};
+use crate::shared_options::{
+    EXPLAIN_OPTION, FILES_ARGUMENT, FROM_FILES_OPTION, LABEL_OPTION, UTF8_OPTION,
+};
 
-/// mimetool sections [-n N|--each [--rfc4155|--mbox HOW] [--unquote]] [--json [--utf8]] [--explain]
+/// mimetool sections [-n N|--each [--rfc4155|--mbox HOW] [--unquote]] [--json [--utf8]|-H] [--explain] [--from FILE..]
 pub static SECTIONS_COMMAND: Subcommand = Subcommand {
     name: SECTIONS,
     about: "Lists the sections of the message, one per line",
     after_help: "Examples:\n  mimetool sections < message\n  mimetool sections --json --from message\n  mimetool sections --each < mailbox",
     arguments: &[
-        FROM_OPTION,
+        FROM_FILES_OPTION,
         Argument {
             id: JSON,
             long: Some(JSON),
             help: "Print a JSON object for each section",
             ..FLAG
+        },
+        Argument {
+            conflicts: &[JSON],
+            ..LABEL_OPTION
         },
         Argument {
             help: "With --json, give the names that unpack --utf8 gives",
@@ -35,16 +41,17 @@ pub static SECTIONS_COMMAND: Subcommand = Subcommand {
         RFC4155_OPTION,
         MBOX_OPTION,
         UNQUOTE_OPTION,
+        FILES_ARGUMENT,
     ],
 };
 
-/// mimetool extract [-n N|--each [--rfc4155|--mbox HOW] [--unquote]] -s PATH [--raw|--head|--prefix|--utf8]
+/// mimetool extract [-n N|--each [--rfc4155|--mbox HOW] [--unquote]] -s PATH [--raw|--head|--prefix|--utf8] [--from FILE..]
 pub static EXTRACT_COMMAND: Subcommand = Subcommand {
     name: EXTRACT,
     about: "Prints the content of a section, decoded if no sections are below it",
     after_help: "Examples:\n  mimetool extract -s 1.2 < message > picture.gif\n  mimetool extract -s 1 --head --from message",
     arguments: &[
-        FROM_OPTION,
+        FROM_FILES_OPTION,
         Argument {
             id: PATH,
             short: Some('s'),
@@ -86,16 +93,17 @@ pub static EXTRACT_COMMAND: Subcommand = Subcommand {
         RFC4155_OPTION,
         MBOX_OPTION,
         UNQUOTE_OPTION,
+        FILES_ARGUMENT,
     ],
 };
 
-/// mimetool unpack [-n N|--each [--rfc4155|--mbox HOW] [--unquote]] [-f] [-t] [-s PATH].. [--silent|--paths] [--utf8] [-C DIR]
+/// mimetool unpack [-n N|--each [--rfc4155|--mbox HOW] [--unquote]] [-f] [-t] [-s PATH].. [--silent|--paths] [--utf8] [-C DIR] [--from FILE..]
 pub static UNPACK_COMMAND: Subcommand = Subcommand {
     name: UNPACK,
     about: "Writes the contents of the leaves to files, and prints their names and types",
     after_help: "Examples:\n  mimetool unpack -C attachments < message\n  mimetool unpack -t -f --from message\n  mimetool unpack -s 1.2 -s 1.3 --paths < message",
     arguments: &[
-        FROM_OPTION,
+        FROM_FILES_OPTION,
         Argument {
             id: OVER,
             short: Some('f'),
@@ -146,5 +154,6 @@ pub static UNPACK_COMMAND: Subcommand = Subcommand {
         RFC4155_OPTION,
         MBOX_OPTION,
         UNQUOTE_OPTION,
+        FILES_ARGUMENT,
     ],
 };

@@ -1,7 +1,8 @@
 //! Options that several subcommands take.
 
 use crate::arguments::{Argument, FLAG, OPTION};
-use crate::options::{EXPLAIN, FROM, IN_PLACE, TEMPFAIL, UTF8, WAIT};
+use crate::options::{EXPLAIN, FILES, FROM, IN_PLACE, LABEL, TEMPFAIL, UTF8, WAIT};
+use clap::ArgAction;
 
 /// --from FILE
 pub const FROM_OPTION: Argument = Argument {
@@ -12,6 +13,29 @@ pub const FROM_OPTION: Argument = Argument {
     ..OPTION
 };
 
+/// --from FILE, for a command that takes several files
+pub const FROM_FILES_OPTION: Argument = Argument {
+    help: "Read the message from FILE, not from standard input; may be given more than once",
+    action: ArgAction::Append,
+    ..FROM_OPTION
+};
+
+/// FILE.., for such a command
+pub const FILES_ARGUMENT: Argument = Argument {
+    id: FILES,
+    help: "More files, each taken by itself, like the one before them",
+    action: ArgAction::Append,
+    ..FLAG
+};
+
+/// -H, for such a command if it prints lines
+pub const LABEL_OPTION: Argument = Argument {
+    id: LABEL,
+    short: Some('H'),
+    help: "Print the name of the file and a colon before each line",
+    ..FLAG
+};
+
 /// --in-place FILE
 pub const IN_PLACE_OPTION: Argument = Argument {
     id: IN_PLACE,
@@ -20,6 +44,13 @@ pub const IN_PLACE_OPTION: Argument = Argument {
     help: "Read the message from FILE, and replace FILE with the result",
     conflicts: &[FROM],
     ..OPTION
+};
+
+/// --in-place FILE, for a command that takes several files
+pub const IN_PLACE_FILES_OPTION: Argument = Argument {
+    help: "Read the message from FILE, and replace FILE with the result; may be given more than once",
+    action: ArgAction::Append,
+    ..IN_PLACE_OPTION
 };
 
 /// --wait[=SECONDS]

@@ -333,7 +333,7 @@ fn a_line_of_a_script_is_one_line(rt: HostRuntime) -> Result<(), Fail> {
 const TIPS: &str = r"
 == a file
 words: sections|message
-begins: error: unexpected argument 'message' found\n\n  tip: to read the message from a file, write '--from message'\n\nUsage: mimetool sections [OPTIONS]\n
+begins: error: unexpected argument 'message' found\n\n  tip: to read the message from a file, write '--from message'\n\nUsage: mimetool sections [OPTIONS] [FILE]...\n
 
 == a file, where a path is wanted too
 words: extract|message|-s|1
