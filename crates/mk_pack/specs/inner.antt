@@ -1,0 +1,2 @@
+pub mod PackedFrom
+pub mod Judged

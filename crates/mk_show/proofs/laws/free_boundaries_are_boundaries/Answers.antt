@@ -1,5 +1,0 @@
-use Rattle.mk_show.proofs.FreeBoundaries.{free_is_boundary}
-use Rattle.mk_show.proofs.laws.free_boundaries_are_boundaries.Goals as goal
-
-pub returns : goal.returns
-returns c fields parts messages = free_is_boundary fields parts messages

@@ -1,5 +1,0 @@
-use Rattle.mk_show.proofs.FreeLines.{free_is_free}
-use Rattle.mk_show.proofs.laws.free_boundaries_are_free.Goals as goal
-
-pub returns : goal.returns
-returns c fields parts messages less = free_is_free fields parts messages less

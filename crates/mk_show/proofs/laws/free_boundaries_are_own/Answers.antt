@@ -1,5 +1,0 @@
-use Rattle.mk_show.proofs.FreeBoundaries.{free_own}
-use Rattle.mk_show.proofs.laws.free_boundaries_are_own.Goals as goal
-
-pub returns : goal.returns
-returns c fields parts = free_own fields parts

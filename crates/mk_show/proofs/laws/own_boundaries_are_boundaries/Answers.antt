@@ -1,5 +1,0 @@
-use Rattle.mk_show.proofs.OwnBoundaries.{own_is_boundary}
-use Rattle.mk_show.proofs.laws.own_boundaries_are_boundaries.Goals as goal
-
-pub returns : goal.returns
-returns c fields parts = own_is_boundary fields parts

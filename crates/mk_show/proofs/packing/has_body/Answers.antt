@@ -1,5 +1,0 @@
-use Rattle.mk_show.proofs.PackLemmas.{body_told}
-use Rattle.mk_show.proofs.packing.has_body.Goals as goal
-
-pub returns : goal.returns
-returns c = body_told c.args.text.now _ c.body-2.result c.in_ok-header.ensures c.body-2.ensures
