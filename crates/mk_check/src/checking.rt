@@ -1,9 +1,8 @@
 //! What is found in a message, and runs that print it.
-ghost use Rattle.std.specs.Prelude.{◌≡◌, ◌≤◌, ◌⊎◌, ◌++◌, List, [], true, map, IfErr, IfOk, OnErr, OnOk};
-ghost use Rattle.std.specs.Io.KnownBytes.{Appends};
+ghost use Rattle.std.specs.Prelude.{◌≡◌, ◌≤◌, ◌⊎◌, ◌++◌, List, true, map, IfErr, IfOk, OnErr, OnOk};
 ghost use Rattle.std.specs.List.{flat_map};
 ghost use Rattle.mk_line.specs.Meters.{ticked};
-ghost use Rattle.mk_mailbox.specs.Devices.{AppendsFront, Rose};
+ghost use Rattle.mk_mailbox.specs.Devices.{Rose};
 ghost use Rattle.mk_transfer.specs.RunClauses.{IsBlamed, SameFailures, counts, ends_itself, held};
 ghost use Rattle.mk_show.specs.Shown.{LeavesShownSoFar, Writes};
 ghost use Rattle.mk_tree.specs.Documents.{tree};
@@ -15,8 +14,8 @@ ghost use Rattle.mk_check.specs.Findings.{AreFaults, FoundFault};
 use crate::lines::{FindingForm, push_finding};
 use crate::sections::faults_in;
 use mk_mailbox::{Sink, Source};
-use mk_show::read_doc;
-use mk_transfer::{Cause, Status, Stop, finish, reading, send};
+use mk_show::{read_doc, send_both};
+use mk_transfer::{Cause, Status, reading};
 use mk_tree::{Doc, Section};
 use mk_view::all_sections;
 use std::alloc::{AllocError, Global};
@@ -92,7 +91,7 @@ fn print<O: Sink, E: Sink>(out: &mut O, err: &mut E, text: &[u8]) -> Result<Stat
     ensures finished { OnOk result (O.finishes out.new ≡ ticked (O.finishes out.old)) }
     ensures unfinished { OnErr result (O.finishes out.new ≡ O.finishes out.old) }
 {
-    match send_all(out, err, text) {
+    match send_both(out, err, text, b"") {
         Ok(()) => Ok(if text.is_empty() {
             Status::Well
         } else {
@@ -100,22 +99,4 @@ fn print<O: Sink, E: Sink>(out: &mut O, err: &mut E, text: &[u8]) -> Result<Stat
         }),
         Err(_) => Err(Cause::Write),
     }
-}
-
-// Sends findings to the output, nothing to the errors, and finishes the output.
-fn send_all<O: Sink, E: Sink>(out: &mut O, err: &mut E, text: &[u8]) -> Result<(), Stop>
-    ensures output { OnOk result (Appends (O.contents out.old) (O.contents out.new) text.now) }
-    ensures errors { OnOk result (Appends (E.contents err.old) (E.contents err.new) []) }
-    ensures output_front { OnErr result (AppendsFront (O.contents out.old) (O.contents out.new) text.now) }
-    ensures errors_front { OnErr result (AppendsFront (E.contents err.old) (E.contents err.new) []) }
-    ensures output_well { OnOk result (O.failures out.new ≡ O.failures out.old) }
-    ensures errors_well { OnOk result (E.failures err.new ≡ E.failures err.old) }
-    ensures counted { E.failures err.old ≤ E.failures err.new }
-    ensures finished { OnOk result (O.finishes out.new ≡ ticked (O.finishes out.old)) }
-    ensures unfinished { OnErr result (O.finishes out.new ≡ O.finishes out.old) }
-    ensures fault { OnErr result (Rose (O.failures out.old) (O.failures out.new) ⊎ Rose (E.failures err.old) (E.failures err.new)) }
-{
-    send(out, text)?;
-    send(err, b"")?;
-    finish(out)
 }

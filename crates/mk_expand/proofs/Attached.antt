@@ -7,7 +7,7 @@ use Rattle.mk_decide.specs.Edits.{PlainEdit}
 use Rattle.mk_build.specs.Building.{Attached, attach_refusal}
 use Rattle.mk_build.specs.Multiparts.{attached}
 use Rattle.mk_script.specs.Script.{ScriptWord, Attaches}
-use Rattle.mk_show.specs.Parts.{attached_file}
+use Rattle.mk_pack.specs.Parts.{attached_file}
 use Rattle.mk_expand.specs.Appends.{made_part}
 use Rattle.mk_expand.specs.Words.{append, attach_by, attach_file, attached_bytes, meaning_of}
 use Rattle.mk_expand.specs.Pieces.{Pieces}

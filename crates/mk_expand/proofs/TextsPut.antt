@@ -9,7 +9,7 @@ use Rattle.mk_decide.specs.Edits.{PlainEdit}
 use Rattle.mk_view.specs.Listing.{encoding_in, type_of}
 use Rattle.mk_build.specs.Building.{Attached, attach_refusal}
 use Rattle.mk_build.specs.Multiparts.{attached_as}
-use Rattle.mk_show.specs.Parts.{is_text}
+use Rattle.mk_pack.specs.Parts.{is_text}
 use Rattle.mk_expand.specs.Appends.{made_part}
 use Rattle.mk_expand.specs.Charsets.{charset_field}
 use Rattle.mk_expand.specs.Contents.{encoded_in}

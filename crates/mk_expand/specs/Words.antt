@@ -20,7 +20,7 @@ use Rattle.mk_build.specs.Building.{Attached, attach_refusal, closed_field}
 use Rattle.mk_build.specs.Multiparts.{attached, attached_as}
 use Rattle.mk_script.specs.Script.{ScriptWord, Adds, Deletes, Renames, Sets, Bodies, Replaces, Inserts, Removes, Wraps, SetsContent, SetsText, Encodes, Puts, PutsPiece, DropsAll, Appends, AppendsText, Attaches, AttachesText}
 use Rattle.mk_script.specs.Targets.{field_name_in}
-use Rattle.mk_show.specs.Parts.{attached_file, inlined_file, is_text}
+use Rattle.mk_pack.specs.Parts.{attached_file, inlined_file, is_text}
 use Rattle.mk_expand.specs.Appends.{appended, made_part, text_part}
 use Rattle.mk_expand.specs.Charsets.{are_ascii, charset_field, is_of_text, may_be_in, may_hold}
 use Rattle.mk_expand.specs.Contents.{body_with, encoded_in}

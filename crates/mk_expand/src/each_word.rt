@@ -6,7 +6,7 @@ ghost use Rattle.mk_tree.specs.Sections.{section_at};
 ghost use Rattle.mk_build.specs.Building.{closed_field};
 ghost use Rattle.mk_decide.specs.Edits.{AddField, InsertPart, RemoveField, RenameField, SetBody, SetField, SetSection, Wrap};
 ghost use Rattle.mk_script.specs.Targets.{field_name_in};
-ghost use Rattle.mk_show.specs.Parts.{attached_file};
+ghost use Rattle.mk_pack.specs.Parts.{attached_file};
 ghost use Rattle.mk_expand.specs.Appends.{text_part};
 ghost use Rattle.mk_expand.specs.Encodings.{encoding_set};
 ghost use Rattle.mk_expand.specs.FieldWords.{dropped, put as fields_put};
@@ -24,8 +24,8 @@ use crate::texts::{attach_text, set_text};
 use crate::words::{alone, attach_to, attached_bytes, closed, ended};
 use mk_decide::Edit;
 use mk_line::Ending;
+use mk_pack::Spec;
 use mk_script::{ChosenEncoding, Target, field_name};
-use mk_show::Spec;
 use mk_tree::Doc;
 use std::alloc::Global;
 

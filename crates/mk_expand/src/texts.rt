@@ -19,7 +19,7 @@ use mk_build::{AttachError, AttachOptions, attach_with};
 use mk_decide::Edit;
 use mk_head::{ContentType, is_token};
 use mk_line::Ending;
-use mk_show::Spec;
+use mk_pack::Spec;
 use mk_tree::{Doc, Kind};
 use mk_view::media_type;
 use std::alloc::{AllocError, Global};

@@ -6,7 +6,7 @@ ghost use Rattle.mk_tree.specs.Documents.{tree};
 ghost use Rattle.mk_tree.specs.Sections.{section_at};
 ghost use Rattle.mk_build.specs.Building.{closed_field};
 ghost use Rattle.mk_script.specs.ScriptViews.{said_by};
-ghost use Rattle.mk_show.specs.Parts.{attached_file};
+ghost use Rattle.mk_pack.specs.Parts.{attached_file};
 ghost use Rattle.mk_expand.specs.Views.{pieces_of, plain_edits, IsFault};
 ghost use Rattle.mk_expand.specs.Words.{attach_file, attached_bytes as bytes_attached, field_text, is_plain as stands_alone, meaning_of};
 
@@ -22,8 +22,8 @@ use crate::pieces::Pieces;
 use mk_build::{AttachError, attach};
 use mk_decide::Edit;
 use mk_line::{Ending, ends_open};
+use mk_pack::Spec;
 use mk_script::Word;
-use mk_show::Spec;
 use mk_tree::Doc;
 use std::alloc::{AllocError, Global};
 

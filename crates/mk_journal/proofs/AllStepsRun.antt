@@ -22,7 +22,7 @@ use Rattle.mk_script.specs.WrittenScripts.{AreSteps, written_steps}
 use Rattle.mk_script.proofs.ScriptsWritten.{scripts_written}
 use Rattle.mk_expand.specs.Pieces.{Pieces}
 use Rattle.mk_run.specs.Journaling.{Onward}
-use Rattle.mk_run.specs.Runs.{errors_of, history_after, ordered_at, report_of, run_begun, run_of, run_steps}
+use Rattle.mk_run.specs.Runs.{DoesSteps, errors_of, history_after, ordered_at, report_of, run_begun, run_of, run_steps}
 use Rattle.mk_journal.specs.AllSteps.{done_in, times, undone_in}
 use Rattle.mk_journal.specs.AllStepsLaws.{RedoAllReaches, UndoAllRestores, last_text}
 
@@ -144,7 +144,7 @@ done_within file j e =
 run_told : (pieces : Pieces) (file message script : List ℕ) (steps : List ScriptStep) (h : History) → script_of (length pieces.texts) script ≡ Ok steps → loaded message file ≡ Ok h
     → (run_of pieces (Onward file) message script).run ≡ shown (text_now (history_after pieces steps h)) (errors_of pieces steps h)
 run_told pieces file message script steps h s l =
-    ap (λ r. (run_steps pieces (Onward file) message r).run) s ∙ ap (λ r. (run_begun pieces steps (Onward file) r).run) l
+    ap (λ r. (run_steps pieces (Onward file) message r).run) s ∙ ap (λ r. (run_begun (DoesSteps pieces steps) (Onward file) r).run) l
 
 back_run : (pieces : Pieces) (text : List ℕ) (steps : List (List Splice)) (n : ℕ) (h : History) → history_of text steps n ≡ h
     → shown (text_now (history_after pieces (backs 1 n) h)) (errors_of pieces (backs 1 n) h) ≡ shown (first_text h) []

@@ -2,4 +2,3 @@ pub mod StepLines
 pub mod StepRuns
 pub mod AllSteps
 pub mod AllStepsLaws
-pub mod inner

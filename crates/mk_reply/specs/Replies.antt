@@ -52,24 +52,24 @@ abbrev pub subject_of_reply : List ℕ → List ℕ
 subject_of_reply subject = if is_nil subject then [] else answered_subject (after_res 0 subject)
 
 -- b'<' and b'>'
-abbrev pub less_than : ℕ
-less_than = 60
+abbrev pub left_angle : ℕ
+left_angle = 60
 
-abbrev pub greater_than : ℕ
-greater_than = 62
+abbrev pub right_angle : ℕ
+right_angle = 62
 
 -- a byte that may stand in an identifier
 abbrev pub is_identifier_byte : ℕ → Bool
-is_identifier_byte byte = not (byte == less_than || is_ascii_whitespace byte)
+is_identifier_byte byte = not (byte == left_angle || is_ascii_whitespace byte)
 
 -- these bytes end an identifier, and nothing follows it
 abbrev pub ends_identifier : List ℕ → Bool
-ends_identifier bytes = option_map_or is_nil (following greater_than bytes) false && list_all is_identifier_byte (before greater_than bytes)
+ends_identifier bytes = option_map_or is_nil (following right_angle bytes) false && list_all is_identifier_byte (before right_angle bytes)
 
 -- one identifier of a message and nothing else (RFC 5322, 3.6.4)
 abbrev pub is_one_identifier : List ℕ → Bool
 is_one_identifier [] = false
-is_one_identifier (byte ∷ bytes) = byte == less_than && ends_identifier bytes
+is_one_identifier (byte ∷ bytes) = byte == left_angle && ends_identifier bytes
 
 -- the identifiers before that of the message: its References, and its In-Reply-To where it has none and that is one identifier (RFC 5322, 3.6.4)
 abbrev pub earlier_identifiers : List FieldText → List ℕ

@@ -6,6 +6,8 @@ ghost use Rattle.mk_line.specs.Lines.{cut as lines_of};
 ghost use Rattle.mk_head.specs.Fields.{fields_of};
 ghost use Rattle.mk_head.specs.Split.{fields_from};
 ghost use Rattle.mk_head.specs.Views.{field_view};
+ghost use Rattle.mk_tree.specs.Documents.{tree};
+ghost use Rattle.mk_tree.specs.Sections.{root_of, section_fields};
 ghost use Rattle.mk_reply.specs.Replies.{addressees as addressees_in, earlier_identifiers, or_else, reply_line, reply_to, with_identifier, words_of_field, words_of_name};
 
 use crate::identifiers::is_one_identifier;
@@ -36,6 +38,14 @@ pub fn reply_header(alloc: Global, message: &[u8]) -> Result<Option<Vec<u8>>, Al
     push_line(&mut text, eol, "References", &references(alloc, eol, head)?)?;
     text.extend_from_slice(eol.bytes())?;
     Ok(Some(text))
+}
+
+/// What the first field of a name says in a message, at its root: what follows the colon, as it stands with its folds, without the
+/// white space around it. Nothing where there is no such field.
+pub fn field_words<'a>(message: &'a [u8], name: &[u8]) -> &'a [u8]
+    ensures { result.now ≡ words_of_name name.now (section_fields (root_of (tree message.now))) }
+{
+    words(after_envelope(message), name)
 }
 
 // Who is answered.

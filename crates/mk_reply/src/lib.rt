@@ -20,4 +20,4 @@ pub mod laws;
 mod subjects;
 
 pub use answering::try_reply;
-pub use header::reply_header;
+pub use header::{field_words, reply_header};

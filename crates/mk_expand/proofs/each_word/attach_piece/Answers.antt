@@ -1,7 +1,7 @@
 use Rattle.std.proofs.Common.{◌≡◌, List, ℕ, Ok, IfErr, IfOk, subst}
 use Rattle.mk_tree.specs.Documents.{tree}
 use Rattle.mk_tree.specs.Sections.{section_at}
-use Rattle.mk_show.specs.Parts.{attached_file}
+use Rattle.mk_pack.specs.Parts.{attached_file}
 use Rattle.mk_expand.specs.Views.{pieces_of, plain_edits, IsFault}
 use Rattle.mk_expand.specs.Words.{attach_file, attached_bytes}
 use Rattle.mk_expand.proofs.each_word.attach_piece.Goals as goal

@@ -2,7 +2,7 @@ use Rattle.std.proofs.Common.{◌∙◌, ap}
 use Rattle.mk_tree.specs.Documents.{tree}
 use Rattle.mk_tree.specs.Sections.{section_at}
 use Rattle.mk_build.specs.BuildViews.{attached_of}
-use Rattle.mk_show.specs.Parts.{attached_file}
+use Rattle.mk_pack.specs.Parts.{attached_file}
 use Rattle.mk_expand.specs.Appends.{made_part}
 use Rattle.mk_expand.specs.Views.{plain_edits}
 use Rattle.mk_expand.proofs.Attached.{attach_told}

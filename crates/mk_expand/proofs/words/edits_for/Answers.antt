@@ -2,7 +2,7 @@ use Rattle.std.proofs.Common.{◌≡◌, ◌∙◌, List, Ok, ℕ, IfErr, IfOk, 
 use Rattle.mk_tree.specs.Documents.{tree}
 use Rattle.mk_tree.specs.Sections.{section_at}
 use Rattle.mk_script.specs.ScriptViews.{said_by}
-use Rattle.mk_show.specs.Parts.{attached_file}
+use Rattle.mk_pack.specs.Parts.{attached_file}
 use Rattle.mk_expand.specs.Meanings.{Meaning}
 use Rattle.mk_expand.specs.Views.{pieces_of, plain_edits, IsFault}
 use Rattle.mk_expand.specs.Words.{attach_file, attached_bytes, meaning_of}

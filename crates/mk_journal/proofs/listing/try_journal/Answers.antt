@@ -2,16 +2,16 @@ use Rattle.std.proofs.Common.{◌∙◌, ap, refl}
 use Rattle.mk_splice.specs.Journals.{journal}
 use Rattle.mk_transfer.specs.RunClauses.{counts}
 use Rattle.mk_transfer.proofs.Blames.{reading_blamed, writing_blamed}
+use Rattle.mk_show.specs.Shown.{run_of_answer}
 use Rattle.mk_show.proofs.ShownLemmas.{ShowsSoFar-written}
 use Rattle.mk_journal.specs.StepRuns.{IsJournalRun, run_of_journal}
-use Rattle.mk_journal.specs.inner.Listings.{run_of_listing}
 use Rattle.mk_journal.proofs.listing.try_journal.Goals as goal
 
 pub returns-in-Ok-listing-clause-leaves : goal.returns-in-Ok-listing-clause-leaves
 returns-in-Ok-listing-clause-leaves g c = (
   c.in-Ok.file.items,
   c.in-Ok.ensures.all,
-  ShowsSoFar-written (IsJournalRun c.in-Ok.file.items) (run_of_listing c.in-Ok-listing.listing) c.print.result _ _ _ _ _ _
+  ShowsSoFar-written (IsJournalRun c.in-Ok.file.items) (run_of_answer c.in-Ok-listing.listing) c.print.result _ _ _ _ _ _
       (c.in-Ok-listing.ensures ∙ ap (λ file. run_of_journal (journal file)) c.deref.ensures.value) c.in-Ok.ensures.ended c.print.ensures.written c.print.ensures.only,
 )
 

@@ -1,18 +1,18 @@
 use Rattle.std.proofs.Common.{◌∙◌, ap, refl}
-use Rattle.std.specs.Option.{option_map}
 use Rattle.mk_transfer.specs.RunClauses.{counts}
 use Rattle.mk_transfer.proofs.Blames.{reading_blamed, writing_blamed}
+use Rattle.mk_show.specs.Shown.{run_of_answer}
 use Rattle.mk_show.proofs.ShownLemmas.{ShowsSoFar-written}
 use Rattle.mk_reply.specs.Replies.{reply_to}
 use Rattle.mk_reply.specs.ReplyRuns.{IsReplyRun, run_of_reply}
 use Rattle.mk_reply.proofs.answering.try_reply.Goals as goal
 
-pub returns-in-Ok-reply_header-clause-leaves : goal.returns-in-Ok-reply_header-clause-leaves
-returns-in-Ok-reply_header-clause-leaves g c = (
+pub returns-in-Ok-answer-clause-leaves : goal.returns-in-Ok-answer-clause-leaves
+returns-in-Ok-answer-clause-leaves g c = (
   c.in-Ok.message.items,
   c.in-Ok.ensures.all,
-  ShowsSoFar-written (IsReplyRun c.in-Ok.message.items) (run_of_reply (option_map (λ h. h.items) c.in-Ok-reply_header.header)) c.print.result _ _ _ _ _ _
-      (ap run_of_reply (c.in-Ok-reply_header.ensures ∙ ap reply_to c.deref.ensures.value)) c.in-Ok.ensures.ended c.print.ensures.written c.print.ensures.only,
+  ShowsSoFar-written (IsReplyRun c.in-Ok.message.items) (run_of_answer c.in-Ok-answer.answer) c.print.result _ _ _ _ _ _
+      (c.in-Ok-answer.ensures ∙ ap (λ message. run_of_reply (reply_to message)) c.deref.ensures.value) c.in-Ok.ensures.ended c.print.ensures.written c.print.ensures.only,
 )
 
 pub returns-in-Err-clause-blamed : goal.returns-in-Err-clause-blamed
@@ -22,8 +22,8 @@ returns-in-Err-clause-blamed g c =
     (counts (g.S.Source.failures c.read_all.new.input) (g.S.Source.read_count c.read_all.new.input) (g.O.Sink.failures c.args.out.now) (g.E.Sink.failures c.args.err.now))
     c.reading.ensures c.in-Err.ensures.fault c.in-Err.ensures.memory refl refl
 
-pub returns-in-Ok-reply_header-clause-blamed : goal.returns-in-Ok-reply_header-clause-blamed
-returns-in-Ok-reply_header-clause-blamed g c =
+pub returns-in-Ok-answer-clause-blamed : goal.returns-in-Ok-answer-clause-blamed
+returns-in-Ok-answer-clause-blamed g c =
     writing_blamed c.print.result
     (counts (g.S.Source.failures c.args.input.now) (g.S.Source.read_count c.args.input.now) (g.O.Sink.failures c.args.out.now) (g.E.Sink.failures c.args.err.now))
     (counts (g.S.Source.failures c.read_all.new.input) (g.S.Source.read_count c.read_all.new.input) (g.O.Sink.failures c.print.new.out) (g.E.Sink.failures c.print.new.err))
