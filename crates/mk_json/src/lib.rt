@@ -14,7 +14,6 @@
 //! with what is unpacked.
 #![tactic(auto)]
 
-mod content_ids;
 mod each;
 mod listing;
 mod messages;

@@ -1,12 +1,13 @@
 //! A JSON object for each section of a document.
 
-use crate::content_ids::push_content_id;
 use crate::parameters::push_parameters;
 use crate::strings::{push_key, push_member, push_string};
 use mk_head::{content_type, is_token};
 use mk_line::leading_blanks;
 use mk_tree::{Children, Doc, Kind, Section};
-use mk_view::{Described, ExtractError, Leaf, NameForm, content_size, leaves_in};
+use mk_view::{
+    Described, ExtractError, Leaf, NameForm, Storing, content_id, content_size, leaves_in,
+};
 use std::alloc::{AllocError, Global};
 
 const LINE_FEED: u8 = b'\n';
@@ -47,7 +48,12 @@ pub fn list(alloc: Global, doc: &Doc) -> Result<Vec<u8>, AllocError> {
 /// The same, with the names for storing in a form.
 pub fn list_in(alloc: Global, doc: &Doc, form: NameForm) -> Result<Vec<u8>, AllocError> {
     let plain = mk_view::list(alloc, doc)?;
-    let stored = leaves_in(alloc, doc, form, true)?;
+    let storing = Storing {
+        form,
+        texts: true,
+        ..Storing::default()
+    };
+    let stored = leaves_in(alloc, doc, storing)?;
     let mut stored = stored.iter();
     let mut above = Vec::new(alloc);
     let mut text = Vec::new(alloc);
@@ -132,7 +138,9 @@ fn push_others(
         push_member(alloc, text, "stored_as", Some(&leaf.name))?;
         push_size(alloc, text, section)?;
     }
-    push_content_id(alloc, text, section)?;
+    if let Some(id) = content_id(alloc, section)? {
+        push_member(alloc, text, "content_id", Some(&id))?;
+    }
     match &described.disposition {
         Some(disposition) => push_parameters(alloc, text, &disposition.parameters.params),
         None => Ok(()),

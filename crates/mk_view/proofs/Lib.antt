@@ -12,3 +12,4 @@ pub mod SaidTexts
 pub mod SafeNames
 pub mod Rows
 pub mod Gaps
+pub mod Unmarked

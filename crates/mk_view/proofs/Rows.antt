@@ -7,7 +7,7 @@ use Rattle.mk_view.specs.Listed.{listed_from}
 use Rattle.mk_view.specs.Listing.{path_text, listing_line, listing}
 use Rattle.mk_view.specs.FileNames.{cleaned}
 use Rattle.mk_view.specs.declared.text_names.NameForm.TheVariants.{Plain}
-use Rattle.mk_view.specs.TextNames.{all_stored_in, stored_in}
+use Rattle.mk_view.specs.TextNames.{all_stored_in, plain_storing, stored_in}
 use Rattle.mk_view.specs.GivenNames.{numbered}
 
 one_leaf : listing (tree (codes "A: b\r\n\r\nx\ry\nz")) ≡ codes "1 leaf text/plain identity 0 8 13 1 2\n"
@@ -41,11 +41,11 @@ unfolding digits
 name_numbered = refl
 
 -- an empty name is a name, so the text isn't left out
-empty_name : all_stored_in Plain false (tree (codes "Content-Type: text/plain; name=x\nContent-Disposition: attachment; filename=\"\"\n\nx\n")) ≡ (1 ∷ [], codes "part-1") ∷ []
+empty_name : all_stored_in (plain_storing false) (tree (codes "Content-Type: text/plain; name=x\nContent-Disposition: attachment; filename=\"\"\n\nx\n")) ≡ (1 ∷ [], codes "part-1") ∷ []
 unfolding kind listed_from stored_in digits
 empty_name = refl
 
-own_names : map (λ n. n.1) (all_stored_in Plain false (tree (codes "Content-Type: multipart/mixed; boundary=b\n\n--b\nContent-Type: text/plain\n\nx\n--b\nContent-Type: application/pdf; name=\"../a b.pdf\"\n\nx\n--b\nContent-Type: image/png\nContent-Disposition: attachment; filename=\"a b.pdf\"\n\nx\n--b\nContent-Type: image/gif\n\nx\n--b--\n")))
+own_names : map (λ n. n.1) (all_stored_in (plain_storing false) (tree (codes "Content-Type: multipart/mixed; boundary=b\n\n--b\nContent-Type: text/plain\n\nx\n--b\nContent-Type: application/pdf; name=\"../a b.pdf\"\n\nx\n--b\nContent-Type: image/png\nContent-Disposition: attachment; filename=\"a b.pdf\"\n\nx\n--b\nContent-Type: image/gif\n\nx\n--b--\n")))
     ≡ codes "a_b.pdf" ∷ codes "a_b.pdf" ∷ codes "part-1.4" ∷ []
 unfolding kind listed_from stored_in digits
 own_names = refl

@@ -13,15 +13,15 @@ use Rattle.mk_tree.specs.declared.shapes.Kind.{Kind}
 use Rattle.mk_tree.specs.declared.shapes.Kind.TheVariants.{Leaf, Multi, Message}
 use Rattle.mk_tree.specs.Forms.{kind_in}
 use Rattle.mk_line.specs.Ascii.{full_stop, hyphen}
-use Rattle.mk_view.specs.declared.text_names.NameForm.{NameForm}
+use Rattle.mk_view.specs.declared.storing.Storing.{Storing}
 use Rattle.mk_view.specs.Listed.{Listed}
 use Rattle.mk_view.specs.Listing.{path_text, type_of}
 use Rattle.mk_view.specs.inner.Columns.{dotted}
-use Rattle.mk_view.specs.FileNames.{Named, is_divider, is_plain_byte, plain, led, cleaned, part_name, name_or, name_by, is_stored_by, raw_name}
-use Rattle.mk_view.specs.TextNames.{cleaned_text, named_by, stored_in, stored_named, text_in}
+use Rattle.mk_view.specs.FileNames.{Named, is_divider, is_plain_byte, plain, led, cleaned, part_name, name_or, name_by, is_stored_by}
+use Rattle.mk_view.specs.TextNames.{cleaned_text, name_bytes, name_text, named_by, naming_id, stored_if, stored_in, stored_named}
 use Rattle.mk_view.specs.GivenNames.{numbered, is_taken, IsGivenBy, AreGiven, AreDistinct, has_no_slash, is_clean_text, is_safe, AreSafe}
 use Rattle.mk_view.proofs.CleanTexts.{and_made, and_parts, are_fit, clean_both, fit_both, fit_safe, fit_well, is_fit, kept_safe, leading_allowed, led_all, taken_all, mapped_all, slashless_both}
-use Rattle.mk_view.proofs.SaidTexts.{text_utf8}
+use Rattle.mk_view.proofs.SaidTexts.{counting_utf8}
 
 -- digits are ASCII and clean
 glyph_fit : (d : ℕ) → d < 10 → is_fit (digit_glyph false d) ≡ true
@@ -78,35 +78,40 @@ own_safe : (path : List ℕ) (text raw : Option (List ℕ)) → ((t : List ℕ) 
 own_safe path None raw u = plain_safe path raw
 own_safe path (Some text) raw u = or_safe path (cleaned_text text) (kept_safe text (u text refl))
 
-leaf_safe : (b : Bool) (path : List ℕ) (text raw : Option (List ℕ)) → ((t : List ℕ) → text ≡ Some t → IsUtf8 t) → AreSafe (if b then (path, named_by path text raw) ∷ [] else [])
-leaf_safe true path text raw u = (own_safe path text raw u, tt)
-leaf_safe false path text raw u = tt
+if_safe : (b : Bool) (path : List ℕ) (text raw : Option (List ℕ)) → ((t : List ℕ) → text ≡ Some t → IsUtf8 t) → AreSafe (stored_if b path text raw)
+if_safe true path text raw u = (own_safe path text raw u, tt)
+if_safe false path text raw u = tt
 
-one_safe : (texts : Bool) (k : Kind) (path : List ℕ) (t : MediaType) (text raw : Option (List ℕ)) → ((b : List ℕ) → text ≡ Some b → IsUtf8 b) → AreSafe (stored_named texts k path t text raw)
-one_safe texts Leaf path t text raw u = leaf_safe (is_stored_by texts t (option_or text raw)) path text raw u
-one_safe texts Multi path t text raw u = tt
-one_safe texts Message path t text raw u = tt
+one_safe : (storing : Storing) (k : Kind) (path : List ℕ) (t : MediaType) (text raw : Option (List ℕ)) → ((b : List ℕ) → text ≡ Some b → IsUtf8 b) → AreSafe (stored_named storing k path t text raw)
+one_safe storing Leaf path t text raw u = if_safe (is_stored_by storing.texts t (option_or text raw)) path text raw u
+one_safe storing Multi path t text raw u = tt
+one_safe storing Message path t text raw u = if_safe storing.messages path text raw u
 
 both_safe : (xs ys : List Named) → AreSafe xs → AreSafe ys → AreSafe (xs ++ ys)
 both_safe [] ys h k = k
 both_safe (x ∷ xs) ys h k = (h.0, both_safe xs ys h.1 k)
 
 -- the names that leaves would get by themselves
-stored_safe : (form : NameForm) (texts : Bool) (ss : List Listed) → AreSafe (flat_map (stored_in form texts) ss)
+stored_safe : (storing : Storing) (ss : List Listed) → AreSafe (flat_map (stored_in storing) ss)
 unfolding stored_in
-stored_safe form texts [] = tt
-stored_safe form texts (s ∷ ss) =
-    both_safe _ _ (one_safe texts (kind_in s.section.entity) s.path (type_of s.section) (text_in form s.section) (raw_name s.section) (text_utf8 form s.section)) (stored_safe form texts ss)
+stored_safe storing [] = tt
+stored_safe storing (s ∷ ss) =
+    let id = naming_id storing.content_ids s.section in
+    both_safe _ _ (one_safe storing (kind_in s.section.entity) s.path (type_of s.section) (name_text id storing.form s.section) (name_bytes id s.section) (counting_utf8 id storing.form s.section)) (stored_safe storing ss)
+
+-- a name with more bytes after it is as safe, where these may stand in a name
+pub followed_safe : (name more : List ℕ) → are_fit more ≡ true → is_safe name ≡ true → is_safe (name ++ more) ≡ true
+followed_safe [] more f h = absurd (cc)
+followed_safe (x ∷ xs) more f h =
+    let parts = and_parts (not (x == full_stop) && not (x == hyphen)) (has_no_slash (x ∷ xs) && is_clean_text (x ∷ xs)) h in
+    let rest = and_parts (has_no_slash (x ∷ xs)) (is_clean_text (x ∷ xs)) parts.1 in
+    let tail = fit_well more f in
+    and_made (not (x == full_stop) && not (x == hyphen)) (has_no_slash (x ∷ xs ++ more) && is_clean_text (x ∷ xs ++ more)) parts.0
+    (and_made (has_no_slash (x ∷ xs ++ more)) (is_clean_text (x ∷ xs ++ more)) (slashless_both (x ∷ xs) more rest.0 tail.0) (clean_both (x ∷ xs) more rest.1 tail.1))
 
 -- a name with a number after it is as safe
 pub numbered_safe : (name : List ℕ) (number : ℕ) → is_safe name ≡ true → is_safe (numbered name number) ≡ true
-numbered_safe [] number h = absurd (cc)
-numbered_safe (x ∷ xs) number h =
-    let parts = and_parts (not (x == full_stop) && not (x == hyphen)) (has_no_slash (x ∷ xs) && is_clean_text (x ∷ xs)) h in
-    let rest = and_parts (has_no_slash (x ∷ xs)) (is_clean_text (x ∷ xs)) parts.1 in
-    let tail = fit_well (dotted number) (decimal_fit number) in
-    and_made (not (x == full_stop) && not (x == hyphen)) (has_no_slash (x ∷ xs ++ dotted number) && is_clean_text (x ∷ xs ++ dotted number)) parts.0
-    (and_made (has_no_slash (x ∷ xs ++ dotted number)) (is_clean_text (x ∷ xs ++ dotted number)) (slashless_both (x ∷ xs) (dotted number) rest.0 tail.0) (clean_both (x ∷ xs) (dotted number) rest.1 tail.1))
+numbered_safe name number h = followed_safe name (dotted number) (decimal_fit number) h
 
 given_by : (b : Bool) (names : List (List ℕ)) (own given : List ℕ) → is_taken names own ≡ b → IsGivenBy b names own given → is_safe own ≡ true → (is_safe given ≡ true) × (is_taken names given ≡ false)
 given_by false names own given e h s = (ap is_safe h ∙ s, ap (is_taken names) h ∙ e)
@@ -122,5 +127,5 @@ given_well names (o ∷ os) (g ∷ gs) h s =
     ((first.0, others.0), (first.1, others.1))
 
 -- names that leaves get in turn are names of files, and no two are alike
-pub names_well : (form : NameForm) (texts : Bool) (ss : List Listed) (gs : List Named) → AreGiven [] (flat_map (stored_in form texts) ss) gs → AreSafe gs × AreDistinct [] gs
-names_well form texts ss gs h = given_well [] (flat_map (stored_in form texts) ss) gs h (stored_safe form texts ss)
+pub names_well : (storing : Storing) (ss : List Listed) (gs : List Named) → AreGiven [] (flat_map (stored_in storing) ss) gs → AreSafe gs × AreDistinct [] gs
+names_well storing ss gs h = given_well [] (flat_map (stored_in storing) ss) gs h (stored_safe storing ss)

@@ -2,6 +2,7 @@ pub mod Listed
 pub mod Listing
 pub mod Extracts
 pub mod Described
+pub mod ContentIds
 pub mod FileNames
 pub mod TextNames
 pub mod NameViews

@@ -1,5 +1,5 @@
 -- Names of leaves in the letters of Unicode, where their fields say a text (own).
-use Rattle.std.specs.Prelude.{◌==◌, ◌||◌, ◌-◌, if◌then◌else◌, ℕ, Bool, nat_le, Option, None, Some, List, [], ◌∷◌, codes, map, encode_utf8_all}
+use Rattle.std.specs.Prelude.{◌==◌, ◌||◌, ◌-◌, if◌then◌else◌, ℕ, Bool, true, false, nat_le, Option, None, Some, List, [], ◌∷◌, codes, map, encode_utf8_all}
 use Rattle.std.specs.Char.{len_utf8}
 use Rattle.std.specs.Char.Unicode.Alphabetic.{is_alphabetic}
 use Rattle.std.specs.Char.Unicode.Numeric.{is_numeric}
@@ -16,8 +16,10 @@ use Rattle.mk_tree.specs.Tree.{field_lines}
 use Rattle.mk_tree.specs.Forms.{kind_in}
 use Rattle.mk_tree.specs.Sections.{Placed}
 use Rattle.mk_tree.specs.Documents.{Document}
+use Rattle.mk_view.specs.declared.storing.Storing.{Storing}
 use Rattle.mk_view.specs.declared.text_names.NameForm.{NameForm}
 use Rattle.mk_view.specs.declared.text_names.NameForm.TheVariants.{Plain, Utf8}
+use Rattle.mk_view.specs.ContentIds.{content_id}
 use Rattle.mk_view.specs.Listed.{Listed, listed}
 use Rattle.mk_view.specs.Listing.{type_of}
 use Rattle.mk_view.specs.FileNames.{Named, is_divider, is_stored_by, led, most_bytes, name_by, name_or, part_name, raw_name}
@@ -62,16 +64,41 @@ abbrev pub named_by : List ℕ → Option (List ℕ) → Option (List ℕ) → L
 named_by path None raw = name_by path raw
 named_by path (Some text) raw = name_or (part_name path) (cleaned_text text)
 
--- a leaf is stored, and nothing else; it has a name where there is a text or a name of bytes
-abbrev pub stored_named : Bool → Kind → List ℕ → MediaType → Option (List ℕ) → Option (List ℕ) → List Named
-stored_named texts Leaf path t text raw = if is_stored_by texts t (option_or text raw) then (path, named_by path text raw) ∷ [] else []
-stored_named texts Multi path t text raw = []
-stored_named texts Message path t text raw = []
+-- what is stored by default: leaves, with plain names, and texts without a name only where they are wanted
+abbrev pub plain_storing : Bool → Storing
+plain_storing texts = record { form = Plain; texts = texts; messages = false; content_ids = false }
 
--- the path of a listed section and the name that it would get by itself in a form; none where it isn't stored
-unfoldable pub stored_in : NameForm → Bool → Listed → List Named
-stored_in form texts s = stored_named texts (kind_in s.section.entity) s.path (type_of s.section) (text_in form s.section) (raw_name s.section)
+-- the id by which a section is named, where sections are named by their ids
+abbrev pub naming_id : Bool → Placed → Option (List ℕ)
+naming_id false p = None
+naming_id true p = content_id p
 
--- the leaves that are stored, in the document's order, with the names that they would get by themselves
-abbrev pub all_stored_in : NameForm → Bool → Document → List Named
-all_stored_in form texts t = flat_map (stored_in form texts) (listed t)
+-- the text that counts as the name of a section: none where it is named by its id
+abbrev pub name_text : Option (List ℕ) → NameForm → Placed → Option (List ℕ)
+name_text None form p = text_in form p
+name_text (Some id) form p = None
+
+-- the bytes that count: the id by which it is named, else those that its fields say as its name
+abbrev pub name_bytes : Option (List ℕ) → Placed → Option (List ℕ)
+name_bytes id p = option_or id (raw_name p)
+
+-- a section at a path is stored under the name that it would get by itself, or it isn't
+abbrev pub stored_if : Bool → List ℕ → Option (List ℕ) → Option (List ℕ) → List Named
+stored_if true path text raw = (path, named_by path text raw) ∷ []
+stored_if false path text raw = []
+
+-- leaves are stored, and messages where they are wanted; a leaf has a name where there is a text or a name of bytes
+abbrev pub stored_named : Storing → Kind → List ℕ → MediaType → Option (List ℕ) → Option (List ℕ) → List Named
+stored_named storing Leaf path t text raw = stored_if (is_stored_by storing.texts t (option_or text raw)) path text raw
+stored_named storing Multi path t text raw = []
+stored_named storing Message path t text raw = stored_if storing.messages path text raw
+
+-- the path of a listed section and the name that it would get by itself; none where it isn't stored
+unfoldable pub stored_in : Storing → Listed → List Named
+stored_in storing s =
+    let id = naming_id storing.content_ids s.section in
+    stored_named storing (kind_in s.section.entity) s.path (type_of s.section) (name_text id storing.form s.section) (name_bytes id s.section)
+
+-- the sections that are stored, in the document's order, with the names that they would get by themselves
+abbrev pub all_stored_in : Storing → Document → List Named
+all_stored_in storing t = flat_map (stored_in storing) (listed t)

@@ -17,6 +17,7 @@
 //! memory is refused.
 #![tactic(auto)]
 
+mod content_ids;
 mod described;
 mod extracting;
 mod giving;
@@ -28,12 +29,13 @@ mod typing;
 mod walking;
 mod writing;
 
+pub use content_ids::content_id;
 pub use described::{Described, Disposition};
 pub use extracting::{ExtractError, content, content_in, content_size, extract};
 pub use giving::numbered;
 pub use listing::list;
 pub use naming::said_name;
-pub use storing::{Leaf, leaves, leaves_in, names};
+pub use storing::{Leaf, Storing, leaves, leaves_in, names};
 pub use text_names::{NameForm, text_name};
 pub use typing::{media_type, push_type};
 pub use walking::{Listed, all_sections};

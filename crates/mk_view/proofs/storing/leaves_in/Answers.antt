@@ -22,8 +22,8 @@ loop-listed-init c =
     let gives : into_iter_items c.into_iter-listed-iterator.result ≡ c.in_ok-listed-items.listed-items.items = search rules in
     record {
       stored =
-          (λ i. map leaf_view (c.new-list.ensures.items i) ++ flat_map (stored_in c.args.form c.args.texts) (map listed_view (gives i)))
-          ∙ ap (flat_map (stored_in c.args.form c.args.texts)) c.in_ok-listed-items.ensures.all;
+          (λ i. map leaf_view (c.new-list.ensures.items i) ++ flat_map (stored_in c.args.storing) (map listed_view (gives i)))
+          ∙ ap (flat_map (stored_in c.args.storing)) c.in_ok-listed-items.ensures.all;
       placed = subst (AreAt t) (sym c.new-list.ensures.items) tt;
       counted = search rules;
       rest = subst (AreListedAt t) (sym gives) c.in_ok-listed-items.ensures.placed;
@@ -34,17 +34,17 @@ loop-listed-preserved c =
     let t = tree c.args.doc.now in
     let at = subst (AreListedAt t) c.in-Some.ensures.steps.0 c.loop-listed.invariant.rest in
     record {
-      stored = more_made (stored_in c.args.form c.args.texts) (map leaf_view c.loop-listed.list.items) _ c.in-Some.listed _ _ _ c.in-Some.ensures.steps.0 c.loop-listed.invariant.stored c.in_ok-push_own.ensures.stored;
+      stored = more_made (stored_in c.args.storing) (map leaf_view c.loop-listed.list.items) _ c.in-Some.listed _ _ _ c.in-Some.ensures.steps.0 c.loop-listed.invariant.stored c.in_ok-push_own.ensures.stored;
       placed = c.in_ok-push_own.ensures.placed t at.0 c.loop-listed.invariant.placed;
       counted = count_left c.in-Some.listed _ _ _ _ c.loop-listed.invariant.counted c.in-Some.ensures.steps.0 c.in-Some.ensures.steps.1;
       rest = at.1;
     }
 
 -- the names that are told apart are those of all leaves
-made : (c : goal.After-give_all) → map leaf_view c.loop-listed.list.items ≡ flat_map (stored_in c.args.form c.args.texts) (listed (tree c.args.doc.now))
+made : (c : goal.After-give_all) → map leaf_view c.loop-listed.list.items ≡ flat_map (stored_in c.args.storing) (listed (tree c.args.doc.now))
 made c =
     let none : into_iter_items c.loop-listed.listed-iterator ≡ [] = none_left _ (c.loop-listed.invariant.counted ∙ c.in-None.ensures.steps.0) in
-    all_made (stored_in c.args.form c.args.texts) (map leaf_view c.loop-listed.list.items) _ _ none c.loop-listed.invariant.stored
+    all_made (stored_in c.args.storing) (map leaf_view c.loop-listed.list.items) _ _ none c.loop-listed.invariant.stored
 
 pub returns-clause-given : goal.returns-clause-given
 returns-clause-given c =
@@ -52,7 +52,7 @@ returns-clause-given c =
     (λ leaves h. subst (λ os. AreGiven [] os (map leaf_view leaves.items)) (made c) h) c.give_all.result c.give_all.ensures.given
 
 well : (c : goal.After-give_all) (gs : List Named) → AreGiven [] (map leaf_view c.loop-listed.list.items) gs → AreSafe gs × AreDistinct [] gs
-well c gs h = names_well c.args.form c.args.texts (listed (tree c.args.doc.now)) gs (subst (λ os. AreGiven [] os gs) (made c) h)
+well c gs h = names_well c.args.storing (listed (tree c.args.doc.now)) gs (subst (λ os. AreGiven [] os gs) (made c) h)
 
 pub returns-clause-distinct : goal.returns-clause-distinct
 returns-clause-distinct c =

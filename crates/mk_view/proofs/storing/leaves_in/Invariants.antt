@@ -10,7 +10,7 @@ use Rattle.mk_view.proofs.storing.leaves_in.Given as goal
 
 abbrev pub invariant-loop-listed : goal.invariant-loop-listed
 invariant-loop-listed l = record {
-  stored : map leaf_view l.list.items ++ flat_map (stored_in l.form l.texts) (map listed_view (into_iter_items l.listed-iterator)) ≡ flat_map (stored_in l.form l.texts) (listed (tree l.doc));
+  stored : map leaf_view l.list.items ++ flat_map (stored_in l.storing) (map listed_view (into_iter_items l.listed-iterator)) ≡ flat_map (stored_in l.storing) (listed (tree l.doc));
   placed : AreAt (tree l.doc) l.list.items;
   counted : length (into_iter_items l.listed-iterator) ≡ into_iter_len l.listed-iterator;
   rest : AreListedAt (tree l.doc) (into_iter_items l.listed-iterator);
