@@ -1,31 +1,32 @@
-//! A section of each message, extracted.
+//! Sections of each message, extracted.
 
 ghost use Rattle.std.specs.Prelude.{◌≡◌, ◌++◌, IfOk, OnOk, OnErr};
 ghost use Rattle.mk_transfer.specs.Said.{silence};
 ghost use Rattle.mk_messages.specs.Working.{answer_said};
 ghost use Rattle.mk_messages.specs.TakenOut.{taken_out as text_taken_out};
+ghost use Rattle.mk_script.specs.ScriptViews.{items_of};
 ghost use Rattle.mk_each.specs.EachExtracted.{IsExtractedInTurn};
 
 use crate::labels::{message_label, push_labelled};
 use mk_messages::{Answer, Buffer, InMemory, MessageWork, take_out};
-use mk_show::{Portion, try_extract};
+use mk_show::{Portion, try_extract_all};
 use mk_transfer::Stop;
 use std::alloc::{AllocError, Global};
 
-/// Gives a portion of a section of each message as it was before it went into the mailbox, one after another. A message that
-/// can't give it is reported, with its number.
+/// Gives a portion of some sections of each message as it was before it went into the mailbox, one after another. A message that
+/// can't give one is reported, with its number.
 #[derive(Clone, Copy, Debug)]
 pub struct Extracting<'a> {
-    /// The path of the section.
-    pub path: &'a [u32],
-    /// What is given of it.
+    /// The paths of the sections.
+    pub paths: &'a [Vec<u32>],
+    /// What is given of each.
     pub wanted: Portion,
     /// Lines that the mailbox has marked lose one mark before.
     pub unquote: bool,
 }
 
 impl MessageWork<()> for Extracting<'_> {
-    ghost does = { λ w number message said _ _. IsExtractedInTurn w.wanted w.path.now number (text_taken_out w.unquote message) said };
+    ghost does = { λ w number message said _ _. IsExtractedInTurn w.wanted (items_of w.paths.now) number (text_taken_out w.unquote message) said };
 
     ghost stops = { λ _ _ _ said _ _. said ≡ silence };
 
@@ -40,7 +41,7 @@ impl MessageWork<()> for Extracting<'_> {
         answer: &mut Answer,
     ) -> Result<(), Stop> {
         let message = take_out(alloc, message, self.unquote)?;
-        match extract(alloc, self.path, self.wanted, number, &message, answer) {
+        match extract(alloc, self.paths, self.wanted, number, &message, answer) {
             Ok(()) => Ok(()),
             Err(AllocError) => {
                 answer.clear();
@@ -50,26 +51,26 @@ impl MessageWork<()> for Extracting<'_> {
     }
 }
 
-// Gives a portion of a section of one message.
+// Gives a portion of some sections of one message.
 fn extract(
     alloc: Global,
-    path: &[u32],
+    paths: &[Vec<u32>],
     wanted: Portion,
     number: u64,
     message: &[u8],
     answer: &mut Answer,
 ) -> Result<(), AllocError>
     requires { answer_said answer.old ≡ silence }
-    ensures { OnOk result (IsExtractedInTurn wanted path.now number message.now (answer_said answer.new)) }
+    ensures { OnOk result (IsExtractedInTurn wanted (items_of paths.now) number message.now (answer_said answer.new)) }
 {
     let mut input = InMemory::new(message);
     let mut errors = Buffer::new(alloc);
-    match try_extract(
+    match try_extract_all(
         alloc,
         &mut input,
         &mut answer.output,
         &mut errors,
-        path,
+        paths,
         wanted,
     ) {
         Ok(_) => {}

@@ -1,12 +1,7 @@
-pub mod OwnBoundaries
-pub mod FreeBoundaries
-pub mod FreeLines
-pub mod PackLemmas
 pub mod ShownLemmas
 pub mod UnpackLemmas
 pub mod ChoosingLemmas
-pub mod TurnedParts
-pub mod MeasuredTexts
 pub mod SentPieces
-pub mod GonePieces
-pub mod HeldDigests
+pub mod Targets
+pub mod LeavesInTurn
+pub mod TakenInTurn

@@ -6,19 +6,19 @@ use Rattle.std.specs.Option.{option_map}
 use Rattle.mk_tree.specs.Documents.{Document}
 use Rattle.mk_tree.specs.Sections.{section_at}
 use Rattle.mk_view.specs.declared.extracting.ExtractError.TheVariants.{NoSuchSection}
-use Rattle.mk_view.specs.declared.text_names.NameForm.{NameForm}
+use Rattle.mk_view.specs.declared.storing.Storing.{Storing}
 use Rattle.mk_view.specs.FileNames.{Named}
 use Rattle.mk_show.specs.declared.unpacking.Manner.{Manner}
 use Rattle.mk_show.specs.declared.unpacking.UnpackOptions.{UnpackOptions}
 use Rattle.mk_show.specs.Shown.{extract_line}
 use Rattle.mk_show.specs.Unpacking.{AreLeaves}
 
--- what is asked of a run: how files are put, in which form they are named, whether texts without a name are stored, and the paths of
--- the sections whose leaves are stored, where not all leaves are
+-- what is asked of a run: how files are put, which sections are stored and how they are named, whether what decodes of a content that
+-- was cut off is stored, and the paths of the sections whose leaves are stored, where not all are
 pub record Asked : Type 0 where
   pub manner : Manner
-  pub form : NameForm
-  pub texts : Bool
+  pub storing : Storing
+  pub prefix : Bool
   pub sections : Option (List (List ℕ))
 
 -- one of the sections is at a path, or above it
@@ -30,13 +30,13 @@ abbrev pub within : List (List ℕ) → List Named → List Named
 within sections leaves = filter (λ leaf. is_within sections leaf.0) leaves
 
 -- the leaves of a document that are asked for
-abbrev pub AreWithin : Option (List (List ℕ)) → NameForm → Bool → Document → List Named → Type 0
-AreWithin None form texts t leaves = AreLeaves form texts t leaves
-AreWithin (Some sections) form texts t leaves = (all : List Named) × AreLeaves form texts t all × (leaves ≡ within sections all)
+abbrev pub AreWithin : Option (List (List ℕ)) → Storing → Document → List Named → Type 0
+AreWithin None storing t leaves = AreLeaves storing t leaves
+AreWithin (Some sections) storing t leaves = (all : List Named) × AreLeaves storing t all × (leaves ≡ within sections all)
 
 -- the same for all that is asked
 abbrev pub AreAsked : Asked → Document → List Named → Type 0
-AreAsked asked t leaves = AreWithin asked.sections asked.form asked.texts t leaves
+AreAsked asked t leaves = AreWithin asked.sections asked.storing t leaves
 
 -- the line that reports a path that leads to no section; nothing for one that leads to a section
 abbrev pub missing_line : Document → List ℕ → List ℕ
@@ -49,4 +49,4 @@ missing_lines t (Some sections) = flat_map (missing_line t) sections
 
 -- what the options ask for
 abbrev pub asked_of : UnpackOptions → Asked
-asked_of o = record { manner = o.manner; form = o.form; texts = o.texts; sections = option_map (λ paths. items_of paths.now) o.sections }
+asked_of o = record { manner = o.manner; storing = o.storing; prefix = o.prefix; sections = option_map (λ paths. items_of paths.now) o.sections }

@@ -5,9 +5,4 @@ pub mod Folders
 pub mod Unpacking
 pub mod Chosen
 pub mod UnpackClauses
-pub mod OwnBoundary
-pub mod FreeBoundary
-pub mod Packing
-pub mod Parts
-pub mod Alone
 pub mod inner

@@ -11,7 +11,7 @@ use Rattle.mk_view.specs.declared.extracting.ExtractError.{ExtractError}
 use Rattle.mk_view.specs.declared.extracting.ExtractError.TheVariants as refused
 use Rattle.mk_view.specs.Extracts.{IsExtract, IsExtractRefused}
 use Rattle.mk_view.specs.Listing.{path_text, type_of}
-use Rattle.mk_transfer.specs.Said.{Run, shown}
+use Rattle.mk_transfer.specs.Said.{Run, Said, said_after, shown, silence}
 use Rattle.mk_show.specs.declared.portions.Portion.{Portion}
 use Rattle.mk_show.specs.declared.portions.Portion.TheVariants.{Content, Raw, Head, Prefix, Utf8}
 use Rattle.mk_show.specs.Shown.{IsGiven, IsReported, IsTaken, extract_line, is_wanting}
@@ -70,3 +70,17 @@ IsTakenAs Raw path message run = run ≡ bytes_run path (option_map content_text
 IsTakenAs Head path message run = run ≡ bytes_run path (option_map head_text (section_at path (tree message)))
 IsTakenAs Prefix path message run = IsPrefix path (section_at path (tree message)) run
 IsTakenAs Utf8 path message run = IsInUtf8 path (section_at path (tree message)) run
+
+-- what is said as a run
+abbrev pub run_of_said : Said → Run
+run_of_said said = shown said.output said.errors
+
+-- the portions of the sections at some paths of a message, one after another, or the reasons
+abbrev pub AreTakenAs : Portion → List (List ℕ) → List ℕ → Said → Type 0
+AreTakenAs wanted [] message said = said ≡ silence
+AreTakenAs wanted (path ∷ paths) message said =
+    (first : Said) × (more : Said) × IsTakenAs wanted path message (run_of_said first) × AreTakenAs wanted paths message more × (said ≡ said_after first more)
+
+-- a run that says them
+abbrev pub ShowsAllAs : Portion → List (List ℕ) → List ℕ → Run → Type 0
+ShowsAllAs wanted paths message run = (said : Said) × AreTakenAs wanted paths message said × (run ≡ run_of_said said)

@@ -1,3 +1,2 @@
 pub mod LastPieces
-pub mod PackedFrom
-pub mod Judged
+pub mod SaidAnswers

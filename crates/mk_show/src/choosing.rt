@@ -25,7 +25,7 @@ pub(crate) fn asked_leaves<'a>(
     ensures safe { IfOk result (λ leaves. AreSafe (map leaf_view leaves.items)) }
     ensures placed { IfOk result (λ leaves. AreAt (tree doc.now) leaves.items) }
 {
-    let leaves = leaves_in(alloc, doc, options.form, options.texts)?;
+    let leaves = leaves_in(alloc, doc, options.storing)?;
     match options.sections {
         Some(sections) => within(alloc, leaves, sections),
         None => Ok(leaves),

@@ -1,10 +1,11 @@
 //! Folders that files are put into.
 
-ghost use Rattle.std.specs.Prelude.{◌≡◌, ℕ, true, false, List, Ok, Option, IfErr, OnOk};
+ghost use Rattle.std.specs.Prelude.{◌≡◌, ◌<◌, ℕ, true, false, List, Ok, Option, IfErr, OnOk};
 ghost use Rattle.mk_line.specs.Meters.{ticked};
 ghost use Rattle.mk_view.specs.GivenNames.{is_safe};
-ghost use Rattle.mk_show.specs.Folders.{Files as FilesOf, Puts};
+ghost use Rattle.mk_show.specs.Folders.{Files as FilesOf, IsThere, Puts};
 ghost use Rattle.mk_show.specs.GivenPieces.{IsLeft};
+ghost use Rattle.mk_show.specs.Unpacking.{tried as name_tried};
 
 use crate::contents::Content;
 use mk_transfer::Stop;
@@ -26,6 +27,21 @@ pub trait Folder {
         ensures failed { IfErr result (λ stop. stop ≡ Stop.Fault → failures self.new ≡ ticked (failures self.old)) }
         ensures memory { IfErr result (λ stop. stop ≡ Stop.Memory → failures self.new ≡ failures self.old) }
         ensures went_well { OnOk result (failures self.new ≡ failures self.old) };
+
+    /// How many of the names NAME, NAME.1, NAME.2 and so on are known to be those of files, from the first on, so that they needn't
+    /// be tried. By default none is.
+    fn tried(&self, name: &[u8]) -> u64
+        ensures { (n : ℕ) → n < result → IsThere (files self.now) (name_tried name.now n) }
+    {
+        0
+    }
+
+    /// Notes that so many of them are those of files, by which a later content of that name is put sooner. By default nothing is
+    /// kept.
+    fn keep_tried(&mut self, name: &[u8], count: u64)
+        ensures files { files self.new ≡ files self.old }
+        ensures failures { failures self.new ≡ failures self.old }
+    {}
 
     /// How many times it failed.
     fn faults(&self) -> u64

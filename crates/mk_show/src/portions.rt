@@ -7,8 +7,10 @@ ghost use Rattle.mk_head.specs.Values.{is_token_byte};
 ghost use Rattle.mk_tree.specs.Documents.{tree};
 ghost use Rattle.mk_tree.specs.Sections.{section_at};
 ghost use Rattle.mk_transfer.specs.Said.{shown};
+ghost use Rattle.mk_script.specs.ScriptViews.{items_of};
 ghost use Rattle.mk_show.specs.Shown.{extract_line, run_of_answer};
-ghost use Rattle.mk_show.specs.Portions.{IsPrefix, IsTakenAs, IsInUtf8, bytes_run, charset_line, text_run};
+ghost use Rattle.mk_show.specs.inner.SaidAnswers.{said_of_answer};
+ghost use Rattle.mk_show.specs.Portions.{AreTakenAs, IsPrefix, IsTakenAs, IsInUtf8, bytes_run, charset_line, text_run};
 
 use crate::answers::{Answer, content as decoded, refusal};
 use mk_code::{decode_front, in_utf8, is_in_charset};
@@ -66,6 +68,27 @@ pub fn given(alloc: Global, doc: &Doc, path: &[u32], wanted: Portion) -> Result<
         Portion::Prefix => prefix(alloc, doc, path),
         Portion::Utf8 => text(alloc, doc, path),
     }
+}
+
+/// The portions of the sections at some paths, one after another, and the reasons against the others.
+pub fn given_all(
+    alloc: Global,
+    doc: &Doc,
+    paths: &[Vec<u32>],
+    wanted: Portion,
+) -> Result<Answer, AllocError>
+    ensures { IfOk result (λ a. AreTakenAs wanted (items_of paths.now) doc.now (said_of_answer a)) }
+{
+    let mut all = Answer {
+        output: Vec::new(alloc),
+        errors: Vec::new(alloc),
+    };
+    for path in paths {
+        let answer = given(alloc, doc, path, wanted)?;
+        all.output.extend_from_slice(&answer.output)?;
+        all.errors.extend_from_slice(&answer.errors)?;
+    }
+    Ok(all)
 }
 
 // Bytes of the section at a path, where it is there.

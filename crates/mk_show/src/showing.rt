@@ -5,11 +5,12 @@ ghost use Rattle.std.specs.Io.KnownBytes.{Appends, Consumes, IsAtEnd};
 ghost use Rattle.mk_line.specs.Meters.{ticked};
 ghost use Rattle.mk_mailbox.specs.Devices.{AppendsFront, Rose, IsLong};
 ghost use Rattle.mk_transfer.specs.RunClauses.{held, counts, reason, IsBlamed, SameFailures, ReadFailed, WriteFailed, ends_itself};
-ghost use Rattle.mk_show.specs.Portions.{IsTakenAs};
+ghost use Rattle.mk_show.specs.Portions.{IsTakenAs, ShowsAllAs};
+ghost use Rattle.mk_script.specs.ScriptViews.{items_of};
 ghost use Rattle.mk_show.specs.Shown.{IsListed, IsTaken, LeavesShown, LeavesShownSoFar, ShowsSoFar, Writes, run_of_answer};
 
 use crate::answers::{Answer, sections};
-use crate::portions::{Portion, given};
+use crate::portions::{Portion, given, given_all};
 use crate::sending::{give_content, judge};
 use mk_mailbox::{Sink, Source};
 use mk_transfer::{Cause, Status, Stop, finish, give_up, read_all, reading, send};
@@ -139,6 +140,39 @@ pub fn try_extract<S: Source, O: Sink, E: Sink>(
     }
 }
 
+/// Gives the portions of the sections at some paths of the message that the input gives, one after another with nothing between
+/// them, and leaves it to the caller to say why the run is given up. They are in memory before the first goes out.
+pub fn try_extract_all<S: Source, O: Sink, E: Sink>(
+    alloc: Global,
+    input: &mut S,
+    out: &mut O,
+    err: &mut E,
+    paths: &[Vec<u32>],
+    wanted: Portion,
+) -> Result<Status, Cause>
+    ensures leaves { LeavesShownSoFar (ShowsAllAs wanted (items_of paths.now)) result
+        (held (S.remaining input.old) (O.contents out.old) (E.contents err.old))
+        (held (S.remaining input.new) (O.contents out.new) (E.contents err.new)) }
+    ensures ended { IfOk result (λ status. ends_itself status ≡ true) }
+    ensures blamed { IfErr result (λ cause. IsBlamed cause
+        (counts (S.failures input.old) (S.read_count input.old) (O.failures out.old) (E.failures err.old))
+        (counts (S.failures input.new) (S.read_count input.new) (O.failures out.new) (E.failures err.new))) }
+    ensures clean { OnOk result (SameFailures
+        (counts (S.failures input.old) (S.read_count input.old) (O.failures out.old) (E.failures err.old))
+        (counts (S.failures input.new) (S.read_count input.new) (O.failures out.new) (E.failures err.new))) }
+    ensures finished { OnOk result (O.finishes out.new ≡ ticked (O.finishes out.old)) }
+    ensures unfinished { OnErr result (O.finishes out.new ≡ O.finishes out.old) }
+{
+    let doc = match read_doc(alloc, input) {
+        Ok(doc) => doc,
+        Err(stop) => return Err(reading(stop)),
+    };
+    match given_all(alloc, &doc, paths, wanted) {
+        Ok(answer) => print(out, err, &answer),
+        Err(_) => Err(Cause::Memory),
+    }
+}
+
 // Gives the content of the section at a path of a document.
 fn show_content<O: Sink, E: Sink>(
     alloc: Global,
@@ -193,7 +227,7 @@ pub fn print<O: Sink, E: Sink>(out: &mut O, err: &mut E, answer: &Answer) -> Res
     ensures finished { OnOk result (O.finishes out.new ≡ ticked (O.finishes out.old)) }
     ensures unfinished { OnErr result (O.finishes out.new ≡ O.finishes out.old) }
 {
-    match write_both(out, err, answer) {
+    match send_both(out, err, &answer.output, &answer.errors) {
         Ok(()) => Ok(if answer.errors.is_empty() {
             Status::Well
         } else {
@@ -203,12 +237,17 @@ pub fn print<O: Sink, E: Sink>(out: &mut O, err: &mut E, answer: &Answer) -> Res
     }
 }
 
-// Writes the output and then the errors, and finishes the output.
-fn write_both<O: Sink, E: Sink>(out: &mut O, err: &mut E, answer: &Answer) -> Result<(), Stop>
-    ensures output { OnOk result (Appends (O.contents out.old) (O.contents out.new) answer.now.output.items) }
-    ensures errors { OnOk result (Appends (E.contents err.old) (E.contents err.new) answer.now.errors.items) }
-    ensures output_front { OnErr result (AppendsFront (O.contents out.old) (O.contents out.new) answer.now.output.items) }
-    ensures errors_front { OnErr result (AppendsFront (E.contents err.old) (E.contents err.new) answer.now.errors.items) }
+/// Writes an output and then errors, and says to the output that all was written.
+pub fn send_both<O: Sink, E: Sink>(
+    out: &mut O,
+    err: &mut E,
+    output: &[u8],
+    errors: &[u8],
+) -> Result<(), Stop>
+    ensures output { OnOk result (Appends (O.contents out.old) (O.contents out.new) output.now) }
+    ensures errors { OnOk result (Appends (E.contents err.old) (E.contents err.new) errors.now) }
+    ensures output_front { OnErr result (AppendsFront (O.contents out.old) (O.contents out.new) output.now) }
+    ensures errors_front { OnErr result (AppendsFront (E.contents err.old) (E.contents err.new) errors.now) }
     ensures output_well { OnOk result (O.failures out.new ≡ O.failures out.old) }
     ensures errors_well { OnOk result (E.failures err.new ≡ E.failures err.old) }
     ensures counted { E.failures err.old ≤ E.failures err.new }
@@ -216,7 +255,7 @@ fn write_both<O: Sink, E: Sink>(out: &mut O, err: &mut E, answer: &Answer) -> Re
     ensures unfinished { OnErr result (O.finishes out.new ≡ O.finishes out.old) }
     ensures fault { OnErr result (Rose (O.failures out.old) (O.failures out.new) ⊎ Rose (E.failures err.old) (E.failures err.new)) }
 {
-    send(out, &answer.output)?;
-    send(err, &answer.errors)?;
+    send(out, output)?;
+    send(err, errors)?;
     finish(out)
 }

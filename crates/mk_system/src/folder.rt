@@ -6,6 +6,7 @@ ghost use Rattle.mk_line.specs.Meters.{ticked};
 use crate::replacing::Replacement;
 use mk_show::{Content, Folder, Stop};
 use std::alloc::AllocError;
+use std::collections::BTreeMap;
 use std::fs::{File, OpenOptions};
 use std::io::{Error, ErrorKind, Write};
 use std::path::PathBuf;
@@ -21,6 +22,9 @@ const NEW: &str = "new";
 const CURRENT: &str = "cur";
 
 const TEMPORARY: &str = "tmp";
+
+/// Of how many names it is kept how many names with a number were tried.
+const MOST_NAMES: usize = 4096;
 
 /// Why a file wasn't written.
 #[derive(Drop)]
@@ -72,6 +76,8 @@ pub struct Directory<'r, 'p, R: Files<File = File> + AllocGlobal> {
     is_made: bool,
     unwritten: Option<Unwritten>,
     faults: u64,
+    /// How many names with a number were tried for a name.
+    tried: BTreeMap<Vec<u8>, u64>,
 }
 
 impl<'r, 'p, R: Files<File = File> + AllocGlobal> Directory<'r, 'p, R> {
@@ -86,6 +92,7 @@ impl<'r, 'p, R: Files<File = File> + AllocGlobal> Directory<'r, 'p, R> {
             is_made: false,
             unwritten: None,
             faults: 0,
+            tried: BTreeMap::new(rt.alloc()),
         }
     }
 
@@ -100,6 +107,7 @@ impl<'r, 'p, R: Files<File = File> + AllocGlobal> Directory<'r, 'p, R> {
             is_made: false,
             unwritten: None,
             faults: 0,
+            tried: BTreeMap::new(rt.alloc()),
         }
     }
 
@@ -279,6 +287,22 @@ impl<R: Files<File = File> + AllocGlobal> Folder for Directory<'_, '_, R> {
             Ok(is_written) => Ok(is_written),
             Err(Halt::Memory) => Err(Stop::Memory),
             Err(Halt::Unwritten(unwritten)) => Err(self.fail(unwritten)),
+        }
+    }
+
+    fn tried(&self, name: &[u8]) -> u64 {
+        self.tried.get(name).copied().unwrap_or(0)
+    }
+
+    // What isn't kept, since memory runs out or there are too many names, is tried again.
+    fn keep_tried(&mut self, name: &[u8], count: u64) {
+        if count > 1 {
+            if self.tried.len() >= MOST_NAMES {
+                self.tried.clear();
+            }
+            if let Ok(name) = Vec::from_slice(self.rt.alloc(), name) {
+                let _ = self.tried.insert(name, count);
+            }
         }
     }
 

@@ -1,8 +1,7 @@
 //! A listing walked: the attachments of a message, each with its content.
 ghost use Rattle.std.specs.Prelude.{◌≡◌, [], false, map, IfErr, IfOk};
 ghost use Rattle.mk_tree.specs.Documents.{tree};
-ghost use Rattle.mk_view.specs.TextNames.{all_stored_in};
-ghost use Rattle.mk_view.specs.declared.text_names.NameForm.TheVariants.{Plain};
+ghost use Rattle.mk_view.specs.TextNames.{all_stored_in, plain_storing};
 ghost use Rattle.mk_view.specs.GivenNames.{AreDistinct, AreGiven, AreSafe};
 ghost use Rattle.mk_uses.specs.Walked.{AreContents, IsRefusedSomewhere, path_and_name};
 
@@ -23,7 +22,7 @@ pub struct Attachment {
 pub fn attachments(alloc: Global, doc: &Doc) -> Result<Vec<Attachment>, ExtractError>
     ensures decoded { IfOk result (λ found. AreContents (tree doc.now) found.items) }
     ensures refused { IfErr result (λ error. IsRefusedSomewhere (tree doc.now) error) }
-    ensures given { IfOk result (λ found. AreGiven [] (all_stored_in Plain false (tree doc.now)) (map path_and_name found.items)) }
+    ensures given { IfOk result (λ found. AreGiven [] (all_stored_in (plain_storing false) (tree doc.now)) (map path_and_name found.items)) }
     ensures distinct { IfOk result (λ found. AreDistinct [] (map path_and_name found.items)) }
     ensures safe { IfOk result (λ found. AreSafe (map path_and_name found.items)) }
 {

@@ -12,7 +12,7 @@ pub returns-in-Ok-finish-clause-leaves : goal.returns-in-Ok-finish-clause-leaves
 returns-in-Ok-finish-clause-leaves g c =
     let t = tree c.in-Ok.doc in
     let lines = c.deref.ensures.value ∙ c.in-Ok-missing_lines.ensures in
-    let all = rw lines at (c.in-Ok-unpack_after.ensures.all t c.in-Ok-asked_leaves.ensures.placed) in
+    let all = (rw (lines, c.deref-2.ensures.value) at c.in-Ok-unpack_after.ensures.all) t c.in-Ok-asked_leaves.ensures.placed in
     let status_is : c.if-refused.result ≡ (if c.in-Ok-unpack_after.refused then Refused else Well) = elim c.if-refused.branch [
       | then-refused w ↦ rw w.if-refused.true w.result-is
       | else-refused w ↦ rw w.if-refused.false w.result-is
@@ -26,7 +26,7 @@ pub returns-clause-leaves : goal.returns-clause-leaves
 returns-clause-leaves g c =
     let t = tree c.in-Ok.doc in
     let lines = c.deref.ensures.value ∙ c.in-Ok-missing_lines.ensures in
-    let all = rw lines at (c.in-Ok-unpack_after.ensures.all t c.in-Ok-asked_leaves.ensures.placed) in (
+    let all = (rw (lines, c.deref-2.ensures.value) at c.in-Ok-unpack_after.ensures.all) t c.in-Ok-asked_leaves.ensures.placed in (
       c.in-Ok.doc,
       c.in-Ok.ensures.all,
       inr (record {
@@ -41,7 +41,7 @@ pub returns-in-Err-unpack_after-clause-leaves : goal.returns-in-Err-unpack_after
 returns-in-Err-unpack_after-clause-leaves g c =
     let t = tree c.in-Ok.doc in
     let lines = c.deref.ensures.value ∙ c.in-Ok-missing_lines.ensures in
-    let some = rw lines at (c.in-Err-unpack_after.ensures.some t c.in-Ok-asked_leaves.ensures.placed) in (
+    let some = (rw (lines, c.deref-2.ensures.value) at c.in-Err-unpack_after.ensures.some) t c.in-Ok-asked_leaves.ensures.placed in (
       c.in-Ok.doc,
       c.in-Ok.ensures.all,
       inr (record {

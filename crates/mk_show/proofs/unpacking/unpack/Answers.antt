@@ -1,5 +1,6 @@
-use Rattle.std.proofs.Common.{◌≡◌, ◌∙◌, Bool, false, Result, Err, Ok, Option, ap, subst}
-use Rattle.mk_view.specs.declared.text_names.NameForm.TheVariants.{Plain}
+use Rattle.std.proofs.Common.{◌≡◌, ◌∙◌, Bool, false, None, Result, Err, Ok, Option, ap, subst}
+use Rattle.mk_view.specs.declared.storing.Storing.{Storing}
+use Rattle.mk_view.specs.TextNames.{plain_storing}
 use Rattle.mk_tree.specs.Documents.{tree}
 use Rattle.mk_transfer.specs.RunClauses.{Held, counts}
 use Rattle.mk_transfer.specs.declared.status.Cause.{Cause}
@@ -13,25 +14,27 @@ use Rattle.mk_show.proofs.UnpackLemmas.{Stores-ended, Stores-given_up}
 use Rattle.mk_show.proofs.unpacking.unpack.Goals as goal
 
 -- what is asked for where a manner and texts are chosen alone
-plainly : (a : Asked) (given manner : Manner) (texts : Bool) (result : Result Status Cause) (before after : Held) (old new : Option Files)
-    → a ≡ all_leaves (manner_of false false) Plain false → given ≡ manner
-    → LeavesAskedSoFar (record { manner = given; form = a.form; texts = texts; sections = a.sections }) result before after old new
-    → LeavesAskedSoFar (all_leaves manner Plain texts) result before after old new
-plainly a given manner texts result before after old new e m left =
+plainly : (a : Asked) (storing : Storing) (given manner : Manner) (texts : Bool) (result : Result Status Cause) (before after : Held) (old new : Option Files)
+    → a ≡ all_leaves (manner_of false false) false → storing ≡ plain_storing false → given ≡ manner
+    → LeavesAskedSoFar (record { manner = given; storing = record { form = storing.form; texts = texts; messages = storing.messages; content_ids = storing.content_ids }; prefix = a.prefix; sections = a.sections }) result before after old new
+    → LeavesAskedSoFar (all_leaves manner texts) result before after old new
+plainly a storing given manner texts result before after old new e s m left =
     subst (λ (asked : Asked). LeavesAskedSoFar asked result before after old new)
-    (ap (λ (b : Asked). record { manner = given; form = b.form; texts = texts; sections = b.sections }) e ∙ ap (λ (n : Manner). all_leaves n Plain texts) m) left
+    (ap (λ (b : Asked). record { manner = given; storing = record { form = storing.form; texts = texts; messages = storing.messages; content_ids = storing.content_ids }; prefix = b.prefix; sections = b.sections }) e
+    ∙ ap (λ (k : Storing). record { manner = given; storing = record { form = k.form; texts = texts; messages = k.messages; content_ids = k.content_ids }; prefix = false; sections = None }) s
+    ∙ ap (λ (n : Manner). all_leaves n texts) m) left
 
 pub returns-in-Ok-clause-leaves : goal.returns-in-Ok-clause-leaves
 returns-in-Ok-clause-leaves g c =
-    let left = plainly (asked_of c.default.result) c.manner_for.result (manner_of c.args.over c.args.silent) c.args.texts (Ok c.in-Ok.status) _ _ _ _ c.default.ensures c.manner_for.ensures c.in-Ok.ensures.leaves in
-    (left.0, left.1, Stores-ended _ (all_leaves (manner_of c.args.over c.args.silent) Plain c.args.texts) (tree left.0) c.in-Ok.status _ _ _ _ left.2)
+    let left = plainly (asked_of c.default-2.result) c.default.result c.manner_for.result (manner_of c.args.over c.args.silent) c.args.texts (Ok c.in-Ok.status) _ _ _ _ c.default-2.ensures c.default.ensures c.manner_for.ensures c.in-Ok.ensures.leaves in
+    (left.0, left.1, Stores-ended _ (all_leaves (manner_of c.args.over c.args.silent) c.args.texts) (tree left.0) c.in-Ok.status _ _ _ _ left.2)
 
 pub returns-in-Err-clause-leaves : goal.returns-in-Err-clause-leaves
 returns-in-Err-clause-leaves g c =
-    let left = plainly (asked_of c.default.result) c.manner_for.result (manner_of c.args.over c.args.silent) c.args.texts (Err c.in-Err.cause) _ _ _ _ c.default.ensures c.manner_for.ensures c.in-Err.ensures.leaves in (
+    let left = plainly (asked_of c.default-2.result) c.default.result c.manner_for.result (manner_of c.args.over c.args.silent) c.args.texts (Err c.in-Err.cause) _ _ _ _ c.default-2.ensures c.default.ensures c.manner_for.ensures c.in-Err.ensures.leaves in (
       left.0,
       left.1,
-      rw c.give_up.ensures.status (Stores-given_up _ (all_leaves (manner_of c.args.over c.args.silent) Plain c.args.texts) (tree left.0) c.in-Err.cause _ _ _ _ _ _ _ _ _ left.2 (record {
+      rw c.give_up.ensures.status (Stores-given_up _ (all_leaves (manner_of c.args.over c.args.silent) c.args.texts) (tree left.0) c.in-Err.cause _ _ _ _ _ _ _ _ _ left.2 (record {
         told = _;
         least = blamed_least_with c.in-Err.cause
             (counts (g.S.Source.failures c.args.input.now) (g.S.Source.read_count c.args.input.now) (g.O.Sink.failures c.args.out.now) (g.E.Sink.failures c.args.err.now))
