@@ -34,8 +34,8 @@ pub use mk_build::{
 };
 pub use mk_mailbox::{Fault, FromLines, MailFault, Mailbox, Place, Sink, Source};
 pub use mk_view::{
-    Described, ExtractError, Leaf, NameForm, content, content_in, content_size, extract, leaves,
-    leaves_in, list, names, numbered, push_path, push_type,
+    Described, ExtractError, Leaf, NameForm, Storing, content, content_id, content_in,
+    content_size, extract, leaves, leaves_in, list, names, numbered, push_path, push_type,
 };
 pub use patterns::NamePattern;
 pub use prepending::Prepend;

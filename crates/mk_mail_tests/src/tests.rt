@@ -1,6 +1,7 @@
 //! Rows of listings, of contents and of built messages.
 mod builds;
 mod calls;
+mod content_ids;
 mod dated;
 mod edits;
 mod examples;

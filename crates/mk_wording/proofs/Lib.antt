@@ -4,3 +4,5 @@ pub mod Entries
 pub mod FieldLemmas
 pub mod Quoted
 pub mod WordedAs
+pub mod AddressPieces
+pub mod PlainAddresses

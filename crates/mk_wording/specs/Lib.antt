@@ -3,6 +3,8 @@ pub mod Stretches
 pub mod Addresses
 pub mod Parameters
 pub mod Lists
+pub mod AddressLists
+pub mod AddressLaws
 pub mod Wording
 pub mod WordingLaws
 pub mod inner

@@ -79,12 +79,12 @@ abbrev pub indent : List ℕ → List ℕ
 indent text = take (prefix_len is_white text) text
 
 -- the text of a name between the white space before it and the blanks after it
-abbrev pub name_text : List ℕ → List ℕ
-name_text name = name_said false (trimmed (unindented name))
+abbrev pub name_words : List ℕ → List ℕ
+name_words name = name_said false (trimmed (unindented name))
 
 -- a name in encoded words after its white space and before a space, where it needs them
 abbrev pub worded_name : Ending → List ℕ → List ℕ
-worded_name eol name = if needs_words (name_text name) then indent name ++ (words_encoded eol (name_text name) ++ space ∷ []) else name
+worded_name eol name = if needs_words (name_words name) then indent name ++ (words_encoded eol (name_words name) ++ space ∷ []) else name
 
 -- what a comment holds, in encoded words, where it needs them
 abbrev pub worded_comment : Ending → List ℕ → List ℕ

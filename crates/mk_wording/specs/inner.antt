@@ -1,2 +1,3 @@
 pub mod ScanViews
 pub mod StretchViews
+pub mod ReaderViews

@@ -15,6 +15,7 @@
 //! Tests: `mk_run_tests/src/tests/wording.rt`.
 #![tactic(auto)]
 
+mod address_lists;
 mod addresses;
 pub mod laws;
 mod lists;
@@ -24,4 +25,5 @@ mod scanning;
 mod stretches;
 mod wording;
 
+pub use address_lists::push_addresses;
 pub use wording::{strip, takes_words, worded_field};

@@ -16,7 +16,7 @@ const BACKSLASH: u8 = b'\\';
 
 /// Where a byte stands. A comment has the number of comments around it.
 #[derive(Clone, Copy)]
-enum Scan {
+pub(crate) enum Scan {
     Plain,
     Quoted,
     QuotedEscaped,
@@ -27,11 +27,11 @@ enum Scan {
 impl Scan {
     ghost use Rattle.std.specs.Prelude.{◌≡◌, ◌+◌, ◌^◌, ◌<◌, ◌≤◌};
     ghost use Rattle.mk_head.specs.Depths.{depth_of};
-    ghost use Rattle.mk_head.specs.Values.{is_plain as stands_plain, scan as scanned};
+    ghost use Rattle.mk_head.specs.Values.{is_kept, is_plain as stands_plain, scan as scanned};
     ghost use Rattle.mk_wording.specs.inner.ScanViews.{scan_of};
 
-    // Where the byte after this one stands.
-    fn next(self, byte: u8) -> Scan
+    /// Where the byte after this one stands.
+    pub(crate) fn next(self, byte: u8) -> Scan
         requires { depth_of (scan_of self) + 1 < 2 ^ 64 }
         ensures is { scan_of result ≡ scanned (scan_of self) byte }
         ensures depth { depth_of (scan_of result) ≤ depth_of (scan_of self) + 1 }
@@ -45,8 +45,19 @@ impl Scan {
         }
     }
 
-    // Whether the byte stands outside comments and quoted strings.
-    fn is_plain(self) -> bool
+    /// Whether the byte is part of no comment.
+    pub(crate) fn keeps(self, byte: u8) -> bool
+        ensures { result ≡ is_kept (scan_of self) byte }
+    {
+        match self {
+            Scan::Plain => byte != OPENING,
+            Scan::Quoted | Scan::QuotedEscaped => true,
+            Scan::Comment(_) | Scan::CommentEscaped(_) => false,
+        }
+    }
+
+    /// Whether the byte stands outside comments and quoted strings.
+    pub(crate) fn is_plain(self) -> bool
         ensures { result ≡ stands_plain (scan_of self) }
     {
         match self {
@@ -134,7 +145,8 @@ pub(crate) fn comment_end(text: &[u8]) -> usize
     text.len()
 }
 
-fn is_one_of(marks: &[u8], byte: u8) -> bool
+/// Whether a byte is one of some marks.
+pub(crate) fn is_one_of(marks: &[u8], byte: u8) -> bool
     ensures { result ≡ one_of marks.now byte }
 {
     marks.iter().any(|mark| *mark == byte)

@@ -194,7 +194,8 @@ fn leading_white(text: &[u8]) -> usize
     text.iter().take_while(|byte| is_white(**byte)).count()
 }
 
-fn is_white(byte: u8) -> bool
+/// White space, also of a fold.
+pub(crate) fn is_white(byte: u8) -> bool
     ensures { result ≡ white byte }
 {
     is_blank(byte) || is_break(byte)

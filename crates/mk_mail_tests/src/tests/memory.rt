@@ -1,10 +1,11 @@
 //! Growths of memory that are refused: the call says so, and gives its answer when it is made again. `checks/refuse` runs
 //! each test here with each growth refused in turn.
 use super::calls::read;
+use super::text_names::in_utf8;
 use mk_line::Ending;
 use mk_mail::{
-    Attach, AttachError, BuildError, ExtractError, Multipart, NameForm, attach, build, build_with,
-    content, content_in, extract, leaves_in, list, names, numbered, push_path, push_type,
+    Attach, AttachError, BuildError, ExtractError, Multipart, attach, build, build_with, content,
+    content_id, content_in, extract, leaves_in, list, names, numbered, push_path, push_type,
 };
 use mk_tree::Doc;
 use mk_view::{media_type, said_name, text_name};
@@ -200,7 +201,7 @@ fn memory_numbered(rt: HostRuntime) {
 // Whether a document has one leaf, and this is its name in the letters of Unicode.
 fn has_one_leaf(alloc: Global, doc: &Doc, name: &[u8]) -> Result<bool, AllocError> {
     let mut named: usize = 0;
-    let found = leaves_in(alloc, doc, NameForm::Utf8, false)?;
+    let found = leaves_in(alloc, doc, in_utf8())?;
     for leaf in &found {
         if leaf.name.as_slice() == name {
             named = named.saturating_add(1);
@@ -221,6 +222,19 @@ fn memory_leaves_in(rt: HostRuntime) {
         Err(_) => has_one_leaf(rt.alloc(), &doc, b"\xc3\xa9").expect(&rt, "memory"),
     };
     assert!(rt; has);
+}
+
+#[test]
+fn memory_content_id(rt: HostRuntime) {
+    let Ok(doc) = read(rt.alloc(), b"Content-ID: <a@b>\n\nx\n") else {
+        return;
+    };
+    let root = doc.root();
+    let id = match content_id(rt.alloc(), &root) {
+        Ok(id) => id,
+        Err(_) => content_id(rt.alloc(), &root).expect(&rt, "memory"),
+    };
+    assert_eq!(rt; id.expect(&rt, "an id").as_slice(), b"a@b".as_slice());
 }
 
 #[test]

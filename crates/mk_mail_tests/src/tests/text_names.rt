@@ -1,6 +1,6 @@
 //! Rows of names in the letters of Unicode. Expected names are worked out by hand.
 use super::calls::{push_leaf, read, same};
-use mk_mail::{NameForm, leaves_in};
+use mk_mail::{NameForm, Storing, leaves_in};
 use mk_rows::{Row, rows};
 use std::alloc::Global;
 use std::test::Fail;
@@ -116,6 +116,14 @@ says: inline; filename*=x''a
 leaves:
 "#;
 
+/// Leaves but texts without a name, named in UTF-8.
+pub(super) fn in_utf8() -> Storing {
+    Storing {
+        form: NameForm::Utf8,
+        ..Storing::default()
+    }
+}
+
 // The leaves that a type and a disposition make.
 fn named(alloc: Global, media: &[u8], said: &[u8]) -> Result<Vec<u8>, Fail> {
     let mut message = Vec::from_slice(alloc, b"Content-Type: ")?;
@@ -125,7 +133,7 @@ fn named(alloc: Global, media: &[u8], said: &[u8]) -> Result<Vec<u8>, Fail> {
     message.extend_from_slice(b"\n\nx\n")?;
     let doc = read(alloc, &message)?;
     let mut found = Vec::new(alloc);
-    for leaf in &leaves_in(alloc, &doc, NameForm::Utf8, false)? {
+    for leaf in &leaves_in(alloc, &doc, in_utf8())? {
         push_leaf(alloc, &mut found, &leaf.path, &leaf.name)?;
     }
     Ok(found)
@@ -158,7 +166,7 @@ const ALIKE: &[u8] =
 fn texts_alike_are_told_apart(rt: HostRuntime) -> Result<(), Fail> {
     let doc = read(rt.alloc(), ALIKE)?;
     let mut found = Vec::new(rt.alloc());
-    for leaf in &leaves_in(rt.alloc(), &doc, NameForm::Utf8, false)? {
+    for leaf in &leaves_in(rt.alloc(), &doc, in_utf8())? {
         push_leaf(rt.alloc(), &mut found, &leaf.path, &leaf.name)?;
     }
     let names = b"[1, 1] \xc3\xa9|[1, 2] \xc3\xa9.1|[1, 3] \xc3\xa9.2|";
