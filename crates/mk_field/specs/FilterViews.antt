@@ -24,9 +24,13 @@ is_round r = are_allowed r.lf && are_allowed r.crlf
 abbrev pub round_asks : PlainRound → Bool
 round_asks r = ask r.lf || ask r.crlf
 
--- a round that asks for fields is the only one
+-- a round asks for fields of each message, however its lines end
+abbrev pub round_asks_always : PlainRound → Bool
+round_asks_always r = ask r.lf && ask r.crlf
+
+-- no round edits beside one that asks for fields: there is one round alone, none asks, or all do
 abbrev pub ask_alone : List PlainRound → Bool
-ask_alone rs = nat_lt (length rs) 2 || not (list_any round_asks rs)
+ask_alone rs = nat_lt (length rs) 2 || (not (list_any round_asks rs) || list_all round_asks_always rs)
 
 -- a filter that may be asked for
 abbrev pub is_allowed : PlainFilter → Bool

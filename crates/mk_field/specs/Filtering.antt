@@ -1,6 +1,6 @@
 -- Messages whose fields are filtered by letters, or given (own, after formail).
 use Rattle.std.specs.Option.{option_map_or}
-use Rattle.std.specs.Prelude.{◌||◌, ◌∷◌, if◌then◌else◌, [], ℕ, suc, Bool, true, false, Option, None, Some, Ok, Err, List, filter, is_some}
+use Rattle.std.specs.Prelude.{◌||◌, ◌++◌, ◌∷◌, if◌then◌else◌, [], ℕ, suc, Bool, true, false, Option, None, Some, Ok, Err, List, filter, is_some}
 use Rattle.std.specs.List.{flat_map}
 use Rattle.mk_line.specs.Ascii.{colon}
 use Rattle.mk_head.specs.Fields.{FieldText, is_named}
@@ -68,10 +68,16 @@ abbrev pub rounds_ask : List PlainRound → List ℕ → Bool
 rounds_ask [] text = false
 rounds_ask (r ∷ rs) text = ask (letters_for r text)
 
--- what rounds at a path that ask for fields give of a message
+-- what one round gives, and then what others give
+abbrev pub given_with : Option (List ℕ) → Option (List ℕ) → Option (List ℕ)
+given_with None others = others
+given_with (Some given) None = Some given
+given_with (Some given) (Some others) = Some (given ++ others)
+
+-- what rounds at a path that ask for fields give of a message, one after another
 abbrev pub given_of : List ℕ → ValueForm → List PlainRound → List ℕ → Option (List ℕ)
 given_of path form [] text = None
-given_of path form (r ∷ rs) text = given_by path form (letters_for r text).take (letters_for r text).whole text
+given_of path form (r ∷ rs) text = given_with (given_by path form (letters_for r text).take (letters_for r text).whole text) (given_of path form rs text)
 
 -- what a filter makes of a message; of one of a mailbox, where `each` says so, only what may stand in its place
 abbrev pub filter_made : Bool → PlainFilter → List ℕ → Made

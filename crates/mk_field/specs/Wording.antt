@@ -3,8 +3,9 @@ use Rattle.std.specs.Prelude.{◌==◌, ◌||◌, ◌++◌, if◌then◌else◌,
 use Rattle.mk_line.specs.Ascii.{carriage_return, line_feed, space}
 use Rattle.mk_head.specs.Values.{stripped}
 use Rattle.mk_code.specs.EncodedWords.{text_decoded, unfolded}
+use Rattle.mk_wording.specs.AddressLists.{address_lines}
 use Rattle.mk_field.specs.declared.filters.ValueForm.{ValueForm}
-use Rattle.mk_field.specs.declared.filters.ValueForm.TheVariants.{AsWritten, Unfolded, Decoded}
+use Rattle.mk_field.specs.declared.filters.ValueForm.TheVariants.{AsWritten, Unfolded, Decoded, Addresses}
 
 -- a byte of a line: a space in the place of a carriage return or a line feed
 abbrev pub line_byte : ℕ → ℕ
@@ -22,8 +23,10 @@ one_line text = unbroken text ++ line_feed ∷ []
 abbrev pub decoded_value : List ℕ → List ℕ
 decoded_value value = unbroken (text_decoded value)
 
--- a value as it is printed: as it is written, unfolded (`--unfold`), or with its encoded words decoded besides (`--decode`)
+-- a value as it is printed: as it is written, unfolded (`--unfold`), with its encoded words decoded besides (`--decode`), or its
+-- addresses (`--addresses`)
 abbrev pub printed_value : ValueForm → List ℕ → List ℕ
 printed_value AsWritten value = value
 printed_value Unfolded value = one_line (unfolded value)
 printed_value Decoded value = one_line (text_decoded value)
+printed_value Addresses value = address_lines (map line_byte (unfolded value))

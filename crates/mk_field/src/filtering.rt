@@ -150,24 +150,27 @@ fn filter_whole<S: Source, O: Sink, E: Sink>(
         Ok(message) => message,
         Err(stop) => return Err(reading(stop)),
     };
-    match say_whole(alloc, filter, message, out, err) {
+    match filter_one(alloc, filter, false, ONLY, message, out, err) {
         Ok(refused) => Ok(refused),
         Err(stop) => Err(writing(stop)),
     }
 }
 
-// Filters a text as one message, and says what is told of it. Answers whether it was reported.
-fn say_whole<O: Sink, E: Sink>(
+/// Filters one message, and says what is told of it. With `each` it is one of a mailbox, and the number is the one it has there,
+/// from 1; else it stands by itself. Answers whether it was reported. The output isn't finished.
+pub fn filter_one<O: Sink, E: Sink>(
     alloc: Global,
     filter: &FieldFilter<'_>,
+    each: bool,
+    number: u64,
     message: Vec<u8>,
     out: &mut O,
     err: &mut E,
 ) -> Result<bool, Stop>
     requires { is_allowed (filter_of filter.now) ≡ true }
-    ensures all { IfOk result (λ refused. SaysAll (said_of false (filter_of filter.now) 1 message.items) refused
+    ensures all { IfOk result (λ refused. SaysAll (said_of each (filter_of filter.now) number message.items) refused
         (O.contents out.old) (O.contents out.new) (E.contents err.old) (E.contents err.new)) }
-    ensures some { OnErr result (SaysSome (said_of false (filter_of filter.now) 1 message.items)
+    ensures some { OnErr result (SaysSome (said_of each (filter_of filter.now) number message.items)
         (O.contents out.old) (O.contents out.new) (E.contents err.old) (E.contents err.new)) }
     ensures failed { IfErr result (λ stop. stop ≡ Stop.Fault
         → Rose (O.failures out.old) (O.failures out.new) ⊎ Rose (E.failures err.old) (E.failures err.new)) }
@@ -178,8 +181,8 @@ fn say_whole<O: Sink, E: Sink>(
     ensures counted { E.failures err.old ≤ E.failures err.new }
     ensures unfinished { O.finishes out.new ≡ O.finishes out.old }
 {
-    match filter_message(alloc, filter, false, message) {
-        Ok(told) => say_alone(alloc, filter.path, ONLY, &told, out, err),
+    match filter_message(alloc, filter, each, message) {
+        Ok(told) => say_alone(alloc, filter.path, number, &told, out, err),
         Err(_) => Err(Stop::Memory),
     }
 }

@@ -5,7 +5,7 @@ ghost use Rattle.std.specs.List.{list_all, list_any};
 ghost use Rattle.mk_mail.specs.LetterViews.{letters_of};
 ghost use Rattle.mk_field.specs.Filtering.{ask as do_ask};
 ghost use Rattle.mk_field.specs.RoundsAsked.{round_letters};
-ghost use Rattle.mk_field.specs.FilterViews.{ask_alone as do_ask_alone, is_round, round_asks, round_of};
+ghost use Rattle.mk_field.specs.FilterViews.{ask_alone as do_ask_alone, is_round, round_asks, round_asks_always, round_of};
 
 use mk_line::{Ending, eol_of};
 use mk_mail::{FromLines, Letters};
@@ -22,6 +22,8 @@ pub enum ValueForm {
     /// A line for each: the same of the value with its encoded words decoded (RFC 2047). A word that stands for half a
     /// character of UTF-8, without the other half, stays.
     Decoded,
+    /// A line for each address in it, without names and comments (RFC 5322, 3.4).
+    Addresses,
 }
 
 /// One round of letters. They may depend on how the lines of a text end, since a field that they add may have more than one
@@ -39,7 +41,7 @@ impl<'a> Round<'a> {
     ghost use Rattle.mk_mail.specs.LetterViews.{letters_of};
     ghost use Rattle.mk_mail.specs.Rounds.{letters_for as are_for, round_of_letters};
     ghost use Rattle.mk_field.specs.Filtering.{ask};
-    ghost use Rattle.mk_field.specs.FilterViews.{is_round, round_asks, round_of};
+    ghost use Rattle.mk_field.specs.FilterViews.{is_round, round_asks, round_asks_always, round_of};
 
     /// The same letters for each text.
     pub fn new(letters: &'a Letters) -> Round<'a>
@@ -51,8 +53,8 @@ impl<'a> Round<'a> {
         }
     }
 
-    /// The letters for a text.
-    pub(crate) fn letters_for(&self, text: &[u8]) -> &'a Letters
+    /// The letters for a text, by how its lines end.
+    pub fn letters_for(&self, text: &[u8]) -> &'a Letters
         ensures { letters_of result.now ≡ are_for (round_of self.now) text.now }
     {
         match eol_of(text) {
@@ -73,6 +75,13 @@ impl<'a> Round<'a> {
         ensures { result ≡ round_asks (round_of self.now) }
     {
         ask(self.lf) || ask(self.crlf)
+    }
+
+    // Whether it asks for fields of each text.
+    fn asks_always(&self) -> bool
+        ensures { result ≡ round_asks_always (round_of self.now) }
+    {
+        ask(self.lf) && ask(self.crlf)
     }
 }
 
@@ -112,7 +121,7 @@ pub(crate) const ROOT: &[u32] = &[1];
 /// What a run that filters fields is asked for.
 #[derive(Clone, Copy, Debug)]
 pub struct FieldFilter<'a> {
-    /// The rounds, each of which works on what the one before it left. Letters that ask for fields must be in the only round.
+    /// The rounds, each of which works on what the one before it left. Where one of several asks for fields, all have to.
     pub rounds: &'a [Round<'a>],
     /// How `-x` prints values.
     pub form: ValueForm,
@@ -161,11 +170,11 @@ fn are_rounds(rounds: &[Round<'_>]) -> bool
     true
 }
 
-// Whether a round that asks for fields is the only one.
+// Whether no round edits beside one that asks for fields.
 fn ask_alone(rounds: &[Round<'_>]) -> bool
     ensures { result ≡ do_ask_alone (map round_of rounds.now) }
 {
-    rounds.len() < 2 || !some_ask(rounds)
+    rounds.len() < 2 || !some_ask(rounds) || all_ask(rounds)
 }
 
 // Whether a round asks for fields.
@@ -178,4 +187,16 @@ fn some_ask(rounds: &[Round<'_>]) -> bool
         }
     }
     false
+}
+
+// Whether each round asks for fields of each text.
+fn all_ask(rounds: &[Round<'_>]) -> bool
+    ensures { result ≡ list_all round_asks_always (map round_of rounds.now) }
+{
+    for round in rounds {
+        if !round.asks_always() {
+            return false;
+        }
+    }
+    true
 }

@@ -9,7 +9,7 @@ ghost use Rattle.mk_head.specs.Split.{fields_from};
 ghost use Rattle.mk_mail.specs.Letters.{fields_at};
 ghost use Rattle.mk_mail.specs.LetterViews.{letters_of};
 ghost use Rattle.mk_field.specs.FilterViews.{round_of};
-ghost use Rattle.mk_field.specs.Filtering.{after_colon as is_after_colon, given_by, given_of};
+ghost use Rattle.mk_field.specs.Filtering.{after_colon as is_after_colon, given_by, given_of, given_with as both_given};
 ghost use Rattle.mk_field.specs.Wording.{printed_value};
 
 use crate::filters::{FieldFilter, ValueForm};
@@ -32,9 +32,25 @@ pub(crate) fn given(
     requires { fields_of (fields_from false (lines_of head.now)) ≡ fields_at filter.now.path.now text.now }
     ensures { IfOk result (λ given. option_map (λ v. v.items) given ≡ given_of filter.now.path.now filter.now.form (map round_of filter.now.rounds.now) text.now) }
 {
-    match filter.rounds {
-        [round, ..] => given_by_letters(alloc, round.letters_for(text), filter.form, head),
-        [] => Ok(None),
+    let mut given = None;
+    for round in filter.rounds {
+        let more = given_by_letters(alloc, round.letters_for(text), filter.form, head)?;
+        given = given_with(given, more)?;
+    }
+    Ok(given)
+}
+
+// What some letters give, and then what others give.
+fn given_with(given: Option<Vec<u8>>, more: Option<Vec<u8>>) -> Result<Option<Vec<u8>>, AllocError>
+    ensures { IfOk result (λ all. option_map (λ v. v.items) all ≡ both_given (option_map (λ v. v.items) given) (option_map (λ v. v.items) more)) }
+{
+    match (given, more) {
+        (Some(mut text), Some(more)) => {
+            text.extend_from_slice(&more)?;
+            Ok(Some(text))
+        }
+        (Some(text), None) => Ok(Some(text)),
+        (None, more) => Ok(more),
     }
 }
 

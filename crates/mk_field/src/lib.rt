@@ -32,7 +32,7 @@ pub mod word_laws;
 mod wording;
 mod words;
 
-pub use filtering::{run_field, try_field};
+pub use filtering::{filter_one, run_field, try_field};
 pub use filters::{FieldFilter, Round, RoundLetters, ValueForm, rounds};
 pub use forms::FieldForm;
 pub use letters::LetterWords;

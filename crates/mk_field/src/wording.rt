@@ -6,7 +6,7 @@ ghost use Rattle.mk_field.specs.Wording.{line_byte as byte_of_line, one_line as 
 use crate::filters::ValueForm;
 use mk_code::text_decode;
 use mk_head::without_endings;
-use mk_wording::strip;
+use mk_wording::{push_addresses, strip};
 use std::alloc::{AllocError, Global};
 
 const LINE_FEED: u8 = b'\n';
@@ -26,6 +26,10 @@ pub(crate) fn push_value(
         ValueForm::AsWritten => Ok(text.extend_from_slice(value)?),
         ValueForm::Unfolded => push_line(alloc, text, &without_endings(alloc, value)?),
         ValueForm::Decoded => push_line(alloc, text, &text_decode(alloc, value)?),
+        ValueForm::Addresses => {
+            let line = on_one_line(alloc, &without_endings(alloc, value)?)?;
+            push_addresses(alloc, text, &line)
+        }
     }
 }
 

@@ -14,7 +14,7 @@ use Rattle.mk_build.specs.declared.attaching.AttachError.TheVariants as attach
 use Rattle.mk_build.specs.Multiparts.{attached, attached_as}
 use Rattle.mk_build.specs.Building.{Attached, attach_refusal, is_media, is_name}
 use Rattle.mk_script.specs.Script.{Attaches, AttachesText}
-use Rattle.mk_show.specs.Parts.{attached_file, file_name, is_text}
+use Rattle.mk_pack.specs.Parts.{attached_file, file_name, is_text}
 use Rattle.mk_expand.specs.Appends.{appended, follows_last, made_part}
 use Rattle.mk_expand.specs.Charsets.{are_ascii}
 use Rattle.mk_expand.specs.ExpandLaws.{all_edited}

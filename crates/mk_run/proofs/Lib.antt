@@ -2,9 +2,11 @@ pub mod AppendsTo
 pub mod AttachedNames
 pub mod AttachedParts
 pub mod Attachments
+pub mod InRounds
 pub mod InTurn
 pub mod PackedNames
 pub mod PlainWords
+pub mod RoundRuns
 pub mod RunLemmas
 pub mod TurnedBytes
 pub mod WordsMade

@@ -13,11 +13,9 @@ use Rattle.mk_transfer.specs.declared.status.Status.{Status}
 use Rattle.mk_transfer.specs.declared.status.Status.TheVariants.{Well, Refused}
 use Rattle.mk_transfer.specs.declared.status.Cause.{Cause}
 use Rattle.mk_transfer.specs.declared.status.Cause.TheVariants.{Read, Write, Memory}
-use Rattle.mk_script.specs.ScriptSteps.{ScriptStep}
-use Rattle.mk_expand.specs.Pieces.{Pieces}
 use Rattle.mk_run.specs.Journaling.{Journaling, begun, named_by}
 use Rattle.mk_run.specs.JournalRuns.{Finished, LeavesJournal, LeavesJournalSoFar, LeavesOpen, Prints, StaysOpen}
-use Rattle.mk_run.specs.Runs.{ScriptRun, run_from, errors_of}
+use Rattle.mk_run.specs.Runs.{Doing, ScriptRun, reports_by, run_from}
 use Rattle.mk_transfer.specs.RunClauses.{Held, Counts, IsBlamedWith, LeavesSoFar, ends_itself, status_of}
 use Rattle.mk_run.specs.inner.Keeping.{says_memory}
 use Rattle.mk_run.specs.inner.Sessions.{LeavesSession, Sunk, sunk}
@@ -31,11 +29,11 @@ status_at errors refused status r s = elim (cases_Bool (is_nil errors)) [
 ]
 
 -- what the steps on a session left, in a run that read its whole input
-pub Leaves-session : (result : Result Status Cause) (pieces : Pieces) (steps : List ScriptStep) (journaling : Journaling) (h : History) (before after : Held) (kept left : Option (List ℕ)) (was finished : ℕ)
+pub Leaves-session : (result : Result Status Cause) (doing : Doing) (journaling : Journaling) (h : History) (before after : Held) (kept left : Option (List ℕ)) (was finished : ℕ)
     → IsAtEnd after.input
-    → LeavesSession result (run_from pieces steps journaling h) (sunk before.output before.errors kept) (sunk after.output after.errors left) was finished
-    → LeavesSoFar result (run_from pieces steps journaling h).run before after × LeavesJournalSoFar result (run_from pieces steps journaling h) before after kept left was finished
-Leaves-session (Ok status) pieces steps journaling h before after kept left was finished end w = elim (cases_Bool (is_nil (errors_of pieces steps h))) [
+    → LeavesSession result (run_from doing journaling h) (sunk before.output before.errors kept) (sunk after.output after.errors left) was finished
+    → LeavesSoFar result (run_from doing journaling h).run before after × LeavesJournalSoFar result (run_from doing journaling h) before after kept left was finished
+Leaves-session (Ok status) doing journaling h before after kept left was finished end w = elim (cases_Bool (is_nil (reports_by doing h))) [
   | inl t ↦
       let well : status ≡ Well = rw t at w.status_is in
       rw well (record { status_is = rw t refl; written = record { output = w.output; errors = w.errors }; read = end }, w.journal)
@@ -43,13 +41,13 @@ Leaves-session (Ok status) pieces steps journaling h before after kept left was 
       let refusing : status ≡ Refused = rw f at w.status_is in
       rw refusing (record { status_is = rw f refl; written = record { output = w.output; errors = w.errors }; read = end }, w.journal)
 ]
-Leaves-session (Err cause) pieces steps journaling h before after kept left was finished end w =
+Leaves-session (Err cause) doing journaling h before after kept left was finished end w =
     (record { output = w.output; errors = w.errors; silent = λ e. absurd (w.unread e) }, record { front = w.journal; later = w.later })
 
 -- steps on a session that weren't given up end the run by itself
-pub session_ended : (result : Result Status Cause) (pieces : Pieces) (steps : List ScriptStep) (journaling : Journaling) (h : History) (before after : Sunk) (was finished : ℕ)
-    → LeavesSession result (run_from pieces steps journaling h) before after was finished → IfOk result (λ status. ends_itself status ≡ true)
-session_ended (Ok status) pieces steps journaling h before after was finished w = elim (cases_Bool (is_nil (errors_of pieces steps h))) [
+pub session_ended : (result : Result Status Cause) (doing : Doing) (journaling : Journaling) (h : History) (before after : Sunk) (was finished : ℕ)
+    → LeavesSession result (run_from doing journaling h) before after was finished → IfOk result (λ status. ends_itself status ≡ true)
+session_ended (Ok status) doing journaling h before after was finished w = elim (cases_Bool (is_nil (reports_by doing h))) [
   | inl t ↦
       let well : status ≡ Well = rw t at w.status_is in
       rw well refl
@@ -57,7 +55,7 @@ session_ended (Ok status) pieces steps journaling h before after was finished w 
       let refusing : status ≡ Refused = rw f at w.status_is in
       rw refusing refl
 ]
-session_ended (Err cause) pieces steps journaling h before after was finished w = tt
+session_ended (Err cause) doing journaling h before after was finished w = tt
 
 -- steps on a session don't read, so a sink is to blame where a device is, and none where memory ran out
 pub session_blamed : (result : Result Status Cause) (script : ScriptRun) (before after : Sunk) (was finished : ℕ) (old new : Counts) (kept left : ℕ)
@@ -97,11 +95,11 @@ LeavesJournal-given_up Write script before after kept left was finished front la
 LeavesJournal-given_up Memory script before after kept left was finished front later = record { front = front; later = later }
 
 -- steps on a session that weren't given up finish the output
-pub Prints-session : (result : Result Status Cause) (pieces : Pieces) (steps : List ScriptStep) (journaling : Journaling) (h : History) (was is : Sunk) (stood stands : ℕ)
-    → LeavesSession result (run_from pieces steps journaling h) was is stood stands
+pub Prints-session : (result : Result Status Cause) (doing : Doing) (journaling : Journaling) (h : History) (was is : Sunk) (stood stands : ℕ)
+    → LeavesSession result (run_from doing journaling h) was is stood stands
     → (message : List ℕ) (before after : Held) (was_finished finished : ℕ) → Consumes before.input after.input message → begun journaling message ≡ Ok h → OnOk result (finished ≡ ticked was_finished)
     → IfOk result (λ status. Prints status journaling before after was_finished finished)
-Prints-session (Ok status) pieces steps journaling h was is stood stands w message before after was_finished finished read b e = elim (cases_Bool (is_nil (errors_of pieces steps h))) [
+Prints-session (Ok status) doing journaling h was is stood stands w message before after was_finished finished read b e = elim (cases_Bool (is_nil (reports_by doing h))) [
   | inl t ↦
       let well : status ≡ Well = rw t at w.status_is in
       rw well e
@@ -109,7 +107,7 @@ Prints-session (Ok status) pieces steps journaling h was is stood stands w messa
       let refusing : status ≡ Refused = rw f at w.status_is in
       rw refusing (message, read, rw b e)
 ]
-Prints-session (Err cause) pieces steps journaling h was is stood stands w message before after was_finished finished read b e = tt
+Prints-session (Err cause) doing journaling h was is stood stands w message before after was_finished finished read b e = tt
 
 -- a run that is given up says nothing of the output's device
 pub Prints-given_up : (cause : Cause) (journaling : Journaling) (before after : Held) (was_finished finished : ℕ) → Prints (status_of cause) journaling before after was_finished finished

@@ -10,7 +10,7 @@ use Rattle.mk_script.specs.Endings.{content_before, turned_ending, turned_line, 
 use Rattle.mk_script.proofs.TurnedLines.{are_returns}
 use Rattle.mk_expand.specs.Pieces.{Pieces, piece_lines, piece_text}
 use Rattle.mk_expand.specs.Words.{attached_bytes}
-use Rattle.mk_show.specs.Parts.{is_text}
+use Rattle.mk_pack.specs.Parts.{is_text}
 
 -- each of them is a byte
 AllBytes : List ℕ → Type 0

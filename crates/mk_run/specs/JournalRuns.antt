@@ -38,12 +38,17 @@ abbrev pub LeavesJournalSoFar : Result Status Cause → ScriptRun → Held → H
 LeavesJournalSoFar (Ok status) script before after kept left was finished = LeavesJournal status script before after kept left was finished
 LeavesJournalSoFar (Err cause) script before after kept left was finished = WritesJournalFront script before after kept left
 
--- what a run of steps leaves is what is defined for the bytes that it read
+-- what a run leaves is what is defined for the bytes that it read
+abbrev pub LeavesBy : (List ℕ → ScriptRun) → Result Status Cause → Held → Held → Option (List ℕ) → Option (List ℕ) → ℕ → ℕ → Type 0
+LeavesBy run result before after kept left was finished =
+    (message : List ℕ) × Consumes before.input after.input message
+    × LeavesSoFar result (run message).run before after
+    × LeavesJournalSoFar result (run message) before after kept left was finished
+
+-- the same for a run of steps
 abbrev pub LeavesSteps : Result Status Cause → Pieces → Journaling → Result (List ScriptStep) ℕ → Held → Held → Option (List ℕ) → Option (List ℕ) → ℕ → ℕ → Type 0
 LeavesSteps result pieces journaling steps before after kept left was finished =
-    (message : List ℕ) × Consumes before.input after.input message
-    × LeavesSoFar result (run_steps pieces journaling message steps).run before after
-    × LeavesJournalSoFar result (run_steps pieces journaling message steps) before after kept left was finished
+    LeavesBy (λ message. run_steps pieces journaling message steps) result before after kept left was finished
 
 -- what a run of a script leaves is what is defined for the bytes that it read
 abbrev pub LeavesRun : Reason → Status → Pieces → Journaling → List ℕ → Held → Held → Option (List ℕ) → Option (List ℕ) → ℕ → ℕ → Type 0

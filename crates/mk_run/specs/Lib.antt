@@ -2,6 +2,8 @@ pub mod AttachLaws
 pub mod Faults
 pub mod Journaling
 pub mod JournalRuns
+pub mod RoundLaws
+pub mod RoundSteps
 pub mod Runs
 pub mod WordSteps
 pub mod inner

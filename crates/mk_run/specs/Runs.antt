@@ -12,8 +12,10 @@ use Rattle.mk_transfer.specs.Said.{Run}
 use Rattle.mk_report.specs.Reports.{error_line}
 use Rattle.mk_script.specs.ScriptSteps.{ScriptStep, Makes, Groups, TakesBack, MakesAgain, script_of}
 use Rattle.mk_expand.specs.Pieces.{Pieces}
+use Rattle.mk_mail.specs.Rounds.{PlainRound}
 use Rattle.mk_run.specs.Faults.{fault_line, syntax_line}
 use Rattle.mk_run.specs.Journaling.{Journaling, begun, journal_line, left_journal}
+use Rattle.mk_run.specs.RoundSteps.{round_lines, rounds_step}
 use Rattle.mk_run.specs.WordSteps.{StepRefusal, EditRefused, WordRefused, words_step}
 
 -- an order of the line of a number
@@ -52,16 +54,31 @@ abbrev pub errors_of : Pieces → List ScriptStep → History → List ℕ
 errors_of pieces [] h = []
 errors_of pieces (s ∷ ss) h = reported pieces s h ++ errors_of pieces ss (result_unwrap_or (outcome_of pieces s h) h)
 
--- a run of a script, and the journal that it leaves
+-- what a run does on the history that it begins with: the steps of a script, or rounds of letters at a section
+pub data Doing : Type 0 where
+  DoesSteps : (pieces : Pieces) (steps : List ScriptStep) → Doing
+  DoesRounds : (path : List ℕ) (rounds : List PlainRound) → Doing
+
+-- the history that it leaves
+abbrev pub left_by : Doing → History → History
+left_by (DoesSteps pieces steps) h = history_after pieces steps h
+left_by (DoesRounds path rounds) h = result_unwrap_or (rounds_step path rounds h) h
+
+-- the lines that report what is refused
+abbrev pub reports_by : Doing → History → List ℕ
+reports_by (DoesSteps pieces steps) h = errors_of pieces steps h
+reports_by (DoesRounds path rounds) h = round_lines path (rounds_step path rounds h)
+
+-- a run, and the journal that it leaves
 pub record ScriptRun : Type 0 where
   pub run : Run
   pub journal : List ℕ
 
--- the steps are done in turn on a history, and the text that is left is the output
-abbrev pub run_from : Pieces → List ScriptStep → Journaling → History → ScriptRun
-run_from pieces steps journaling h =
-    let errors = errors_of pieces steps h in
-    let last = history_after pieces steps h in
+-- it is done on a history, and the text that is left is the output
+abbrev pub run_from : Doing → Journaling → History → ScriptRun
+run_from doing journaling h =
+    let errors = reports_by doing h in
+    let last = left_by doing h in
     let run : Run = record { output = text_now last; errors = errors; status = if is_nil errors then Well else Refused } in
     record { run = run; journal = left_journal journaling last }
 
@@ -69,16 +86,24 @@ run_from pieces steps journaling h =
 abbrev pub run_none : List ℕ → Status → ScriptRun
 run_none line status = record { run = record { output = []; errors = line; status = status }; journal = [] }
 
--- the steps are done on the history that the run begins with; a refused journal is reported
-abbrev pub run_begun : Pieces → List ScriptStep → Journaling → Result History JournalRefusal → ScriptRun
-run_begun pieces steps journaling (Ok h) = run_from pieces steps journaling h
-run_begun pieces steps journaling (Err reason) = run_none (journal_line reason) Refused
+-- it is done on the history that the run begins with; a refused journal is reported
+abbrev pub run_begun : Doing → Journaling → Result History JournalRefusal → ScriptRun
+run_begun doing journaling (Ok h) = run_from doing journaling h
+run_begun doing journaling (Err reason) = run_none (journal_line reason) Refused
+
+-- the run on a message, with its journal
+abbrev pub run_on : Doing → Journaling → List ℕ → ScriptRun
+run_on doing journaling message = run_begun doing journaling (begun journaling message)
 
 -- a script with a fault does nothing
 abbrev pub run_steps : Pieces → Journaling → List ℕ → Result (List ScriptStep) ℕ → ScriptRun
 run_steps pieces journaling message (Err number) = run_none (syntax_line number) Usage
-run_steps pieces journaling message (Ok steps) = run_begun pieces steps journaling (begun journaling message)
+run_steps pieces journaling message (Ok steps) = run_on (DoesSteps pieces steps) journaling message
 
 -- the run of a script, with its pieces and its journal, on a message
 abbrev pub run_of : Pieces → Journaling → List ℕ → List ℕ → ScriptRun
 run_of pieces journaling message script = run_steps pieces journaling message (script_of (length pieces.texts) script)
+
+-- the run of rounds of letters at a section of a message, as one step, with its journal
+abbrev pub run_of_rounds : List ℕ → List PlainRound → Journaling → List ℕ → ScriptRun
+run_of_rounds path rounds journaling message = run_on (DoesRounds path rounds) journaling message

@@ -1,3 +1,4 @@
+pub mod Doings
 pub mod Keeping
 pub mod Making
 pub mod Sessions

@@ -1,27 +1,30 @@
 //! The run of a script on a message, over any devices.
 
-ghost use Rattle.std.specs.Prelude.{◌≡◌, ◌≢◌, ◌≤◌, ◌⊎◌, true, false, [], length, map, Ok, IfOk, IfErr, OnOk, OnErr};
+ghost use Rattle.std.specs.Prelude.{◌≡◌, ◌≢◌, ◌≤◌, ◌⊎◌, true, false, [], length, IfOk, IfErr, OnOk, OnErr};
 ghost use Rattle.std.specs.Io.KnownBytes.{Appends, Keeps};
 ghost use Rattle.mk_line.specs.Meters.{ticked};
 ghost use Rattle.mk_mailbox.specs.Devices.{AppendsFront, Rose};
 ghost use Rattle.mk_expand.specs.Pieces.{as_given};
 ghost use Rattle.mk_expand.specs.Views.{pieces_of};
-ghost use Rattle.mk_script.specs.ScriptViews.{step_by, items_of};
+ghost use Rattle.mk_script.specs.ScriptViews.{items_of};
 ghost use Rattle.mk_run.specs.Journaling.{journaling_of};
-ghost use Rattle.mk_run.specs.JournalRuns.{LeavesOpen, LeavesRun, LeavesSteps, Prints, SinkFailed, StaysOpen, finished};
-ghost use Rattle.mk_run.specs.Runs.{run_from, run_of, run_steps as run_steps_of};
+ghost use Rattle.mk_run.specs.JournalRuns.{LeavesBy, LeavesOpen, LeavesRun, LeavesSteps, Prints, SinkFailed, StaysOpen, finished};
+ghost use Rattle.mk_run.specs.Runs.{run_from, run_of, run_of_rounds, run_on, run_steps as run_steps_of};
 ghost use Rattle.mk_script.specs.Reasons.{steps_of};
 ghost use Rattle.mk_transfer.specs.RunClauses.{held, counts, reason_with, IsBlamedWith, SameFailures, ReadFailed, ends_itself};
+ghost use Rattle.mk_field.specs.FilterViews.{filter_of, is_allowed};
+ghost use Rattle.mk_run.specs.inner.Doings.{doing_of, may_be_done};
 ghost use Rattle.mk_run.specs.inner.Sessions.{LeavesSession, sunk};
 
 use crate::journaling::{Journal, begin, is_memory, journal_of};
 use crate::report::{report_journal, report_syntax};
 use crate::scripts::Script;
-use crate::steps::do_steps;
+use crate::work::Work;
 use mk_edit::Session;
 use mk_expand::Pieces;
+use mk_field::FieldFilter;
 use mk_mail::{Sink, Source};
-use mk_script::{ScriptError, Step};
+use mk_script::ScriptError;
 use mk_transfer::{Cause, Status, Stop, finish, give_up, read_all, reading, send, writing};
 use std::alloc::{AllocError, Global};
 
@@ -117,7 +120,10 @@ pub fn try_edit<S: Source, O: Sink, E: Sink, J: Sink>(
         (finished (O.finishes out.old) (J.finishes jout.old)) (finished (O.finishes out.new) (J.finishes jout.new))) }
 {
     match script.steps(alloc, pieces.texts.len()) {
-        Ok(steps) => run_steps(alloc, input, out, err, steps, pieces, journal, jout),
+        Ok(steps) => {
+            let work = Work::Steps { steps, pieces };
+            run_work(alloc, input, out, err, work, journal, jout)
+        }
         Err(ScriptError::Syntax(number)) => match report_syntax(alloc, err, number) {
             Ok(()) => Ok(Status::Usage),
             Err(stop) => Err(writing(stop)),
@@ -126,18 +132,20 @@ pub fn try_edit<S: Source, O: Sink, E: Sink, J: Sink>(
     }
 }
 
-// Runs the steps of a script up to a cause to give up.
-fn run_steps<S: Source, O: Sink, E: Sink, J: Sink>(
+/// Filters the fields of a section of the message that the input gives by the rounds of a filter, as one step of its history, and
+/// prints the result. What else the filter says is not asked. Where an edit is refused the message is printed as it came, and
+/// reported, and no step is made. The journal is kept as `try_edit` keeps it.
+pub fn try_field_in_journal<S: Source, O: Sink, E: Sink, J: Sink>(
     alloc: Global,
     input: &mut S,
     out: &mut O,
     err: &mut E,
-    steps: Vec<Step>,
-    pieces: Pieces<'_>,
+    filter: &FieldFilter<'_>,
     journal: Journal<'_>,
     jout: &mut J,
 ) -> Result<Status, Cause>
-    ensures leaves { LeavesSteps result (pieces_of pieces.entry) (journaling_of journal.entry) (Ok (map step_by steps.items))
+    requires { is_allowed (filter_of filter.now) ≡ true }
+    ensures leaves { LeavesBy (run_of_rounds (filter_of filter.now).path (filter_of filter.now).rounds (journaling_of journal.entry)) result
         (held (S.remaining input.old) (O.contents out.old) (E.contents err.old))
         (held (S.remaining input.new) (O.contents out.new) (E.contents err.new))
         (J.contents jout.old) (J.contents jout.new) (J.finishes jout.old) (J.finishes jout.new) }
@@ -153,7 +161,47 @@ fn run_steps<S: Source, O: Sink, E: Sink, J: Sink>(
     ensures prints { IfOk result (λ status. Prints status (journaling_of journal.entry)
         (held (S.remaining input.old) (O.contents out.old) (E.contents err.old))
         (held (S.remaining input.new) (O.contents out.new) (E.contents err.new)) (O.finishes out.old) (O.finishes out.new)) }
-    ensures unfinished { OnErr result (LeavesOpen (λ message. run_steps_of (pieces_of pieces.entry) (journaling_of journal.entry) message (Ok (map step_by steps.items)))
+    ensures unfinished { OnErr result (LeavesOpen (run_of_rounds (filter_of filter.now).path (filter_of filter.now).rounds (journaling_of journal.entry))
+        (held (S.remaining input.old) (O.contents out.old) (E.contents err.old))
+        (held (S.remaining input.new) (O.contents out.new) (E.contents err.new))
+        (J.contents jout.old) (J.contents jout.new) (J.failures jout.old) (J.failures jout.new)
+        (finished (O.finishes out.old) (J.finishes jout.old)) (finished (O.finishes out.new) (J.finishes jout.new))) }
+{
+    let work = Work::Rounds {
+        path: filter.path,
+        rounds: filter.rounds,
+    };
+    run_work(alloc, input, out, err, work, journal, jout)
+}
+
+// Runs what is to be done up to a cause to give up.
+fn run_work<S: Source, O: Sink, E: Sink, J: Sink>(
+    alloc: Global,
+    input: &mut S,
+    out: &mut O,
+    err: &mut E,
+    work: Work<'_>,
+    journal: Journal<'_>,
+    jout: &mut J,
+) -> Result<Status, Cause>
+    requires { may_be_done (doing_of work) ≡ true }
+    ensures leaves { LeavesBy (run_on (doing_of work.entry) (journaling_of journal.entry)) result
+        (held (S.remaining input.old) (O.contents out.old) (E.contents err.old))
+        (held (S.remaining input.new) (O.contents out.new) (E.contents err.new))
+        (J.contents jout.old) (J.contents jout.new) (J.finishes jout.old) (J.finishes jout.new) }
+    ensures ended { IfOk result (λ status. ends_itself status ≡ true) }
+    ensures blamed { IfErr result (λ cause. IsBlamedWith cause
+        (counts (S.failures input.old) (S.read_count input.old) (O.failures out.old) (E.failures err.old))
+        (counts (S.failures input.new) (S.read_count input.new) (O.failures out.new) (E.failures err.new))
+        (J.failures jout.old) (J.failures jout.new)) }
+    ensures clean { OnOk result (SameFailures
+        (counts (S.failures input.old) (S.read_count input.old) (O.failures out.old) (E.failures err.old))
+        (counts (S.failures input.new) (S.read_count input.new) (O.failures out.new) (E.failures err.new))) }
+    ensures kept { OnOk result (J.failures jout.new ≡ J.failures jout.old) }
+    ensures prints { IfOk result (λ status. Prints status (journaling_of journal.entry)
+        (held (S.remaining input.old) (O.contents out.old) (E.contents err.old))
+        (held (S.remaining input.new) (O.contents out.new) (E.contents err.new)) (O.finishes out.old) (O.finishes out.new)) }
+    ensures unfinished { OnErr result (LeavesOpen (run_on (doing_of work.entry) (journaling_of journal.entry))
         (held (S.remaining input.old) (O.contents out.old) (E.contents err.old))
         (held (S.remaining input.new) (O.contents out.new) (E.contents err.new))
         (J.contents jout.old) (J.contents jout.new) (J.failures jout.old) (J.failures jout.new)
@@ -164,7 +212,7 @@ fn run_steps<S: Source, O: Sink, E: Sink, J: Sink>(
         Err(stop) => return Err(reading(stop)),
     };
     match begin(alloc, message, journal) {
-        Ok(session) => run_session(alloc, session, out, err, steps, pieces, journal, jout),
+        Ok(session) => run_session(alloc, session, out, err, work, journal, jout),
         Err(error) => {
             if is_memory(error) {
                 return Err(Cause::Memory);
@@ -177,18 +225,18 @@ fn run_steps<S: Source, O: Sink, E: Sink, J: Sink>(
     }
 }
 
-// Does the steps on a session, and writes the result. The journal is made before the first byte goes out.
+// Does it on a session, and writes the result. The journal is made before the first byte goes out.
 fn run_session<O: Sink, E: Sink, J: Sink>(
     alloc: Global,
     mut session: Session,
     out: &mut O,
     err: &mut E,
-    steps: Vec<Step>,
-    pieces: Pieces<'_>,
+    work: Work<'_>,
     journal: Journal<'_>,
     jout: &mut J,
 ) -> Result<Status, Cause>
-    ensures leaves { LeavesSession result (run_from (pieces_of pieces.entry) (map step_by steps.items) (journaling_of journal.entry) session)
+    requires { may_be_done (doing_of work) ≡ true }
+    ensures leaves { LeavesSession result (run_from (doing_of work.entry) (journaling_of journal.entry) session)
         (sunk (O.contents out.old) (E.contents err.old) (J.contents jout.old))
         (sunk (O.contents out.new) (E.contents err.new) (J.contents jout.new)) (J.finishes jout.old) (J.finishes jout.new) }
     ensures blamed { IfErr result (λ cause. cause ≡ Cause.Write →
@@ -200,10 +248,10 @@ fn run_session<O: Sink, E: Sink, J: Sink>(
     ensures counted { E.failures err.old ≤ E.failures err.new }
     ensures kept { OnOk result (J.failures jout.new ≡ J.failures jout.old) }
     ensures finishes { OnOk result (O.finishes out.new ≡ ticked (O.finishes out.old)) }
-    ensures unfinished { OnErr result (StaysOpen (run_from (pieces_of pieces.entry) (map step_by steps.items) (journaling_of journal.entry) session).journal (J.contents jout.old) (J.contents jout.new) (J.failures jout.old) (J.failures jout.new)
+    ensures unfinished { OnErr result (StaysOpen (run_from (doing_of work.entry) (journaling_of journal.entry) session).journal (J.contents jout.old) (J.contents jout.new) (J.failures jout.old) (J.failures jout.new)
         (finished (O.finishes out.old) (J.finishes jout.old)) (finished (O.finishes out.new) (J.finishes jout.new))) }
 {
-    let refused = match do_steps(alloc, &mut session, err, steps, pieces) {
+    let refused = match work.done_on(alloc, &mut session, err) {
         Ok(refused) => refused,
         Err(stop) => return Err(writing(stop)),
     };

@@ -12,12 +12,13 @@ ghost use Rattle.mk_build.specs.Forwards.{Forwarded, built_with, refusal_with};
 ghost use Rattle.mk_build.specs.Multiparts.{Multipart};
 ghost use Rattle.mk_mail.specs.BuiltLaws.{AreBytes};
 ghost use Rattle.mk_script.specs.Script.{Attaches, AttachesText};
-ghost use Rattle.mk_show.specs.Parts.{file_name};
+ghost use Rattle.mk_pack.specs.Parts.{file_name};
 ghost use Rattle.mk_expand.specs.Pieces.{Pieces, piece_lines, piece_text};
 ghost use Rattle.mk_expand.specs.Words.{attached_bytes};
+ghost use Rattle.mk_run.specs.RoundLaws.{JournalsChangeNothing, RoundsAreGroups};
 ghost use Rattle.mk_run.specs.AttachLaws.{IsLeafOf, IsWordMade, SaysName, new_path};
 
-pub use mk_show::laws::{
+pub use mk_pack::laws::{
     bodies_are_refused, free_boundaries_are_boundaries, free_boundaries_are_free,
     free_boundaries_are_own, measured_lists_differ, own_boundaries_are_boundaries,
 };
@@ -52,4 +53,15 @@ pub fn packed_names_are_said()
         AllByRecursion (λ a. AreBytes a.text) parts → refusal_with fields parts messages m ≡ None →
         (k : ℕ) (a : Attached) (name : List ℕ) (p : Placed) → counted k parts ≡ Some a → a.name ≡ Some name → a.said ≡ None →
         section_at (1 ∷ k ∷ []) (tree (built_with eol fields parts messages m)) ≡ Some p → SaysName name p }
+{}
+
+/// Filtering fields with a new journal prints and reports what it does without one.
+pub fn journals_change_nothing()
+    ensures { JournalsChangeNothing }
+{}
+
+/// What a filter with a journal makes of a history is what a group of edits makes of it: one step, that is undone and redone as
+/// those of groups are.
+pub fn rounds_are_groups()
+    ensures { RoundsAreGroups }
 {}

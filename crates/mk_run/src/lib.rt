@@ -26,19 +26,23 @@ mod journaling;
 pub mod laws;
 mod making;
 mod report;
+mod round_steps;
 mod scripts;
 mod steps;
+mod work;
 
-pub use engine::{run_edit, try_edit};
+pub use engine::{run_edit, try_edit, try_field_in_journal};
 pub use journaling::Journal;
 pub use mk_expand::Pieces;
 pub use mk_field::{
     FieldFilter, FieldForm, Letter, LetterWord, LetterWords, Round, RoundLetters, ValueForm,
-    letters_of_rounds, rounds, rounds_of_words, run_field, takes_words, try_field, word_laws,
+    filter_one, letters_of_rounds, rounds, rounds_of_words, run_field, takes_words, try_field,
+    word_laws,
 };
+pub use mk_pack::{Spec, run_pack};
 pub use mk_show::{
-    Content, Folder, Manner, Portion, Report, Spec, UnpackOptions, read_doc, run_extract, run_pack,
-    run_sections, try_extract, try_sections, try_unpack, unpack,
+    Clash, Content, Folder, Manner, Portion, Report, UnpackOptions, read_doc, run_extract,
+    run_sections, try_extract, try_extract_all, try_sections, try_unpack, unpack,
 };
 pub use mk_transfer::{Cause, Status, Stop, give_up, read_all, write_all};
 pub use report::report_invalid;

@@ -175,8 +175,8 @@ fn make_in_turn(
     }
 }
 
-// Adds edits after others.
-fn append(all: &mut Vec<Edit>, edits: Vec<Edit>) -> Result<(), AllocError>
+/// Adds edits after others.
+pub(crate) fn append(all: &mut Vec<Edit>, edits: Vec<Edit>) -> Result<(), AllocError>
     ensures { OnOk result (map edit_of all.new.items ≡ map edit_of all.old.items ++ map edit_of edits.items) }
 {
     for edit in edits {
@@ -185,8 +185,8 @@ fn append(all: &mut Vec<Edit>, edits: Vec<Edit>) -> Result<(), AllocError>
     Ok(())
 }
 
-// A session that begins with the text of another.
-fn copy_of(alloc: Global, session: &Session) -> Result<Session, AllocError>
+/// A session that begins with the text of another.
+pub(crate) fn copy_of(alloc: Global, session: &Session) -> Result<Session, AllocError>
     ensures { IfOk result (λ copy. copy ≡ started (text_now session.now)) }
 {
     let text = Vec::from_slice(alloc, session.text())?;
@@ -225,8 +225,8 @@ fn make_on(
     }
 }
 
-// Makes edits as one step. A refusal comes with the number of the edit, from 0.
-fn make_edits(session: &mut Session, edits: &[Edit]) -> Result<(), (usize, EditError)>
+/// Makes edits as one step. A refusal comes with the number of the edit, from 0.
+pub(crate) fn make_edits(session: &mut Session, edits: &[Edit]) -> Result<(), (usize, EditError)>
     ensures { MakesEdits result (map edit_of edits.now) session.old session.new }
 {
     match edits {

@@ -1,11 +1,10 @@
-use Rattle.std.proofs.Common.{◌≡◌, ◌∙◌, if◌then◌else◌, sym, ap, map, inl, refl}
+use Rattle.std.proofs.Common.{◌≡◌, ◌∙◌, if◌then◌else◌, sym, ap, inl, refl}
 use Rattle.std.proofs.KnownBytes.{Keeps-refl}
 use Rattle.mk_edit.specs.Histories.{text_now}
 use Rattle.mk_run.specs.Journaling.{journaling_of, left_journal}
 use Rattle.mk_transfer.specs.declared.status.Status.TheVariants.{Well, Refused}
-use Rattle.mk_run.specs.Runs.{history_after}
-use Rattle.mk_expand.specs.Views.{pieces_of}
-use Rattle.mk_script.specs.ScriptViews.{step_by}
+use Rattle.mk_run.specs.Runs.{left_by}
+use Rattle.mk_run.specs.inner.Doings.{doing_of}
 use Rattle.mk_transfer.proofs.Fronts.{AppendsFront-none, AppendsFront-whole}
 use Rattle.mk_run.proofs.RunLemmas.{status_at}
 use Rattle.mk_transfer.proofs.GivenUp.{writing-not_read}
@@ -32,7 +31,7 @@ returns-in-Err-journal_of-clause-leaves g c = record {
 
 pub returns-clause-leaves : goal.returns-clause-leaves
 returns-clause-leaves g c =
-    let last = history_after (pieces_of c.args.pieces) (map step_by c.args.steps.items) c.args.session in
+    let last = left_by (doing_of c.args.work) c.args.session in
     let journaling = journaling_of c.args.journal in
     let text_is : c.text.result.now ≡ text_now last = c.text.ensures.now ∙ ap text_now c.in-Ok.ensures.done in
     let kept_is : c.deref.result.now ≡ left_journal journaling last = c.deref.ensures.value ∙ c.in-Ok-journal_of.ensures ∙ ap (left_journal journaling) c.in-Ok.ensures.done in
@@ -46,7 +45,7 @@ returns-clause-leaves g c =
 
 pub returns-in-Ok-print-clause-leaves : goal.returns-in-Ok-print-clause-leaves
 returns-in-Ok-print-clause-leaves g c =
-    let last = history_after (pieces_of c.args.pieces) (map step_by c.args.steps.items) c.args.session in
+    let last = left_by (doing_of c.args.work) c.args.session in
     let journaling = journaling_of c.args.journal in
     let text_is : c.text.result.now ≡ text_now last = c.text.ensures.now ∙ ap text_now c.in-Ok.ensures.done in
     let kept_is : c.deref.result.now ≡ left_journal journaling last = c.deref.ensures.value ∙ c.in-Ok-journal_of.ensures ∙ ap (left_journal journaling) c.in-Ok.ensures.done in
@@ -69,7 +68,7 @@ returns-in-Err-journal_of-clause-unfinished g c = inl refl
 
 pub returns-clause-unfinished : goal.returns-clause-unfinished
 returns-clause-unfinished g c =
-    let last = history_after (pieces_of c.args.pieces) (map step_by c.args.steps.items) c.args.session in
+    let last = left_by (doing_of c.args.work) c.args.session in
     let journaling = journaling_of c.args.journal in
     let kept_is : c.deref.result.now ≡ left_journal journaling last = c.deref.ensures.value ∙ c.in-Ok-journal_of.ensures ∙ ap (left_journal journaling) c.in-Ok.ensures.done in
     rw kept_is at c.in-Err-print.ensures.unfinished

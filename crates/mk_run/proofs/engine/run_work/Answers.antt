@@ -1,13 +1,12 @@
-use Rattle.std.proofs.Common.{◌≡◌, ◌∙◌, Ok, Err, ap, sym, refl, map, inl}
+use Rattle.std.proofs.Common.{◌≡◌, ◌∙◌, Err, ap, sym, refl, inl}
 use Rattle.std.proofs.KnownBytes.{Appends-nil, Keeps-refl}
 use Rattle.mk_run.specs.Journaling.{begun, journaling_of}
 use Rattle.mk_transfer.specs.RunClauses.{held, counts}
-use Rattle.mk_expand.specs.Views.{pieces_of}
-use Rattle.mk_run.specs.Runs.{run_begun, run_from, run_steps}
-use Rattle.mk_script.specs.ScriptViews.{step_by}
+use Rattle.mk_run.specs.Runs.{run_begun, run_from, run_on}
+use Rattle.mk_run.specs.inner.Doings.{doing_of}
 use Rattle.mk_transfer.proofs.Fronts.{AppendsFront-none}
 use Rattle.mk_run.proofs.RunLemmas.{Leaves-session, Prints-session, named_reason, open-session, session_blamed, session_ended}
-use Rattle.mk_run.proofs.engine.run_steps.Goals as goal
+use Rattle.mk_run.proofs.engine.run_work.Goals as goal
 
 pub returns-in-Err-clause-leaves : goal.returns-in-Err-clause-leaves
 returns-in-Err-clause-leaves g c = (
@@ -21,7 +20,7 @@ pub returns-in-Ok-begin-clause-leaves : goal.returns-in-Ok-begin-clause-leaves
 returns-in-Ok-begin-clause-leaves g c =
     let before = held (g.S.Source.remaining c.args.input.now) (g.O.Sink.contents c.args.out.now) (g.E.Sink.contents c.args.err.now) in
     let after = held (g.S.Source.remaining c.read_all.new.input) (g.O.Sink.contents c.run_session.new.out) (g.E.Sink.contents c.run_session.new.err) in
-    let left = Leaves-session c.run_session.result (pieces_of c.args.pieces) (map step_by c.args.steps.items) (journaling_of c.args.journal) c.in-Ok-begin.session before after
+    let left = Leaves-session c.run_session.result (doing_of c.args.work) (journaling_of c.args.journal) c.in-Ok-begin.session before after
     (g.J.Sink.contents c.args.jout.now) (g.J.Sink.contents c.run_session.new.jout) (g.J.Sink.finishes c.args.jout.now) (g.J.Sink.finishes c.run_session.new.jout) c.in-Ok.ensures.ended c.run_session.ensures.leaves in (
       c.in-Ok.message.items,
       c.in-Ok.ensures.all,
@@ -31,7 +30,7 @@ returns-in-Ok-begin-clause-leaves g c =
 
 pub returns-in-Ok-begin-clause-ended : goal.returns-in-Ok-begin-clause-ended
 returns-in-Ok-begin-clause-ended g c =
-    session_ended c.run_session.result (pieces_of c.args.pieces) (map step_by c.args.steps.items) (journaling_of c.args.journal) c.in-Ok-begin.session _ _ _ _ c.run_session.ensures.leaves
+    session_ended c.run_session.result (doing_of c.args.work) (journaling_of c.args.journal) c.in-Ok-begin.session _ _ _ _ c.run_session.ensures.leaves
 
 pub returns-in-Ok-begin-clause-blamed : goal.returns-in-Ok-begin-clause-blamed
 returns-in-Ok-begin-clause-blamed g c =
@@ -66,7 +65,7 @@ pub returns-in-Ok-begin-clause-prints : goal.returns-in-Ok-begin-clause-prints
 returns-in-Ok-begin-clause-prints g c =
     let before = held (g.S.Source.remaining c.args.input.now) (g.O.Sink.contents c.args.out.now) (g.E.Sink.contents c.args.err.now) in
     let after = held (g.S.Source.remaining c.read_all.new.input) (g.O.Sink.contents c.run_session.new.out) (g.E.Sink.contents c.run_session.new.err) in
-    Prints-session c.run_session.result (pieces_of c.args.pieces) (map step_by c.args.steps.items) (journaling_of c.args.journal) c.in-Ok-begin.session _ _ _ _ c.run_session.ensures.leaves
+    Prints-session c.run_session.result (doing_of c.args.work) (journaling_of c.args.journal) c.in-Ok-begin.session _ _ _ _ c.run_session.ensures.leaves
     c.in-Ok.message.items before after (g.O.Sink.finishes c.args.out.now) (g.O.Sink.finishes c.run_session.new.out) c.in-Ok.ensures.all c.in-Ok-begin.ensures.ok c.run_session.ensures.finishes
 
 pub returns-in-Ok-report_journal-clause-prints : goal.returns-in-Ok-report_journal-clause-prints
@@ -80,13 +79,12 @@ returns-in-Err-clause-unfinished g c = (c.in-Err.ensures.front.0, c.in-Err.ensur
 
 pub returns-in-Ok-begin-clause-unfinished : goal.returns-in-Ok-begin-clause-unfinished
 returns-in-Ok-begin-clause-unfinished g c =
-    let pieces = pieces_of c.args.pieces in
-    let steps = map step_by c.args.steps.items in
+    let doing = doing_of c.args.work in
     let journaling = journaling_of c.args.journal in
-    open-session c.run_session.result (λ message. run_steps pieces journaling message (Ok steps)) (run_from pieces steps journaling c.in-Ok-begin.session) c.in-Ok.message.items
+    open-session c.run_session.result (run_on doing journaling) (run_from doing journaling c.in-Ok-begin.session) c.in-Ok.message.items
     (held (g.S.Source.remaining c.args.input.now) (g.O.Sink.contents c.args.out.now) (g.E.Sink.contents c.args.err.now))
     (held (g.S.Source.remaining c.read_all.new.input) (g.O.Sink.contents c.run_session.new.out) (g.E.Sink.contents c.run_session.new.err))
-    _ _ _ _ _ _ c.in-Ok.ensures.all (ap (run_begun pieces steps journaling) c.in-Ok-begin.ensures.ok) c.run_session.ensures.unfinished
+    _ _ _ _ _ _ c.in-Ok.ensures.all (ap (run_begun doing journaling) c.in-Ok-begin.ensures.ok) c.run_session.ensures.unfinished
 
 pub returns-then-is_memory-clause-unfinished : goal.returns-then-is_memory-clause-unfinished
 returns-then-is_memory-clause-unfinished g c = (c.in-Ok.message.items, c.in-Ok.ensures.all, inl refl)
