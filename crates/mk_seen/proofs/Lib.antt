@@ -1,0 +1,3 @@
+pub mod FirstsSaid
+pub mod KeysSeen
+pub mod NewLines
