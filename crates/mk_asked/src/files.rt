@@ -2,7 +2,9 @@
 
 use clap::ArgMatches;
 use mk_words::hints::superfluous;
-use mk_words::options::{FIELD, FILES, FROM, IN_PLACE, JOURNAL, LABEL, TAKE, WAIT, WHOLE};
+use mk_words::options::{
+    EACH, FIELD, FILES, FROM, IDS, IN_PLACE, JOURNAL, LABEL, TAKE, WAIT, WHOLE,
+};
 use mk_words::waiting::seconds_in;
 use std::alloc::{AllocError, Global};
 
@@ -15,6 +17,10 @@ const NO_LINES: &str =
 
 /// What is said of a journal beside several files.
 const ONE_MESSAGE: &str = "-j goes with one file: a journal is that of one message";
+
+/// What is said of `-D` beside `--in-place` where the file is one message.
+const ALL_OR_NOTHING: &str =
+    "-D goes with --in-place only where -s is there: a repeated message would leave an empty file";
 
 /// Why the files of a subcommand are refused, if they are.
 pub(crate) fn why_no_files(
@@ -45,6 +51,8 @@ fn why_not_so(name: &str, matches: &ArgMatches<'_>, is_named: bool) -> Option<&'
         Some(NO_LINES)
     } else if matches.contains_id(JOURNAL) && has_several(matches) {
         Some(ONE_MESSAGE)
+    } else if matches.contains_id(IDS) && matches.contains_id(IN_PLACE) && !matches.get_flag(EACH) {
+        Some(ALL_OR_NOTHING)
     } else {
         None
     }
@@ -55,7 +63,14 @@ fn prints_lines(matches: &ArgMatches<'_>) -> bool {
     matches.contains_id(TAKE) || matches.contains_id(WHOLE)
 }
 
-// Whether several files are edited in place.
+// Whether several files are named: words that stand alone come after one that an option names.
 fn has_several(matches: &ArgMatches<'_>) -> bool {
-    matches.get_strs(IN_PLACE).unwrap_or(&[]).len() > 1
+    let id = if matches.contains_id(IN_PLACE) {
+        IN_PLACE
+    } else {
+        FROM
+    };
+    let named = matches.get_strs(id).unwrap_or(&[]);
+    let words = matches.get_strs(FILES).unwrap_or(&[]);
+    named.len() > 1 || !words.is_empty()
 }

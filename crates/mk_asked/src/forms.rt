@@ -2,11 +2,13 @@
 
 use clap::ArgMatches;
 use mk_field::{FieldForm, ValueForm};
+use mk_pack::MIXED;
 use mk_script::numbers;
-use mk_show::{MIXED, Portion, Report};
-use mk_view::NameForm;
+use mk_show::{Clash, Manner, Portion, Report, UnpackOptions};
+use mk_view::{NameForm, Storing};
 use mk_words::options::{
-    DECODE, ENCODE, EOL, HEAD, PATHS, PREFIX, RAW, SILENT, SUBTYPE, TEMPLATE, UNFOLD, UTF8,
+    ADDRESSES, BY_ID, COUNTED, DECODE, ENCODE, EOL, FORWARDED, HEAD, OVER, PATHS, PREFIX, RAW,
+    SILENT, SUBTYPE, TEMPLATE, TEXTS, UNFOLD, UTF8,
 };
 use std::alloc::{AllocError, Global};
 
@@ -28,14 +30,43 @@ pub fn portion(matches: &ArgMatches<'_>) -> Portion {
     }
 }
 
-/// What `unpack` says of the files that it writes.
-pub fn report(matches: &ArgMatches<'_>) -> Report {
+// What `unpack` says of the files that it writes.
+fn report(matches: &ArgMatches<'_>) -> Report {
     if matches.get_flag(SILENT) {
         Report::Nothing
     } else if matches.get_flag(PATHS) {
         Report::Paths
     } else {
         Report::Names
+    }
+}
+
+/// What `unpack` writes, and how: all leaves where no path is given.
+pub fn unpack_options<'a>(matches: &ArgMatches<'_>, sections: &'a [Vec<u32>]) -> UnpackOptions<'a> {
+    UnpackOptions {
+        manner: Manner {
+            clash: clash(matches),
+            report: report(matches),
+        },
+        storing: Storing {
+            form: name_form(matches),
+            texts: matches.get_flag(TEXTS),
+            messages: matches.get_flag(FORWARDED),
+            content_ids: matches.get_flag(BY_ID),
+        },
+        prefix: matches.get_flag(PREFIX),
+        sections: (!sections.is_empty()).then_some(sections),
+    }
+}
+
+// What becomes of a content whose name a file has already.
+fn clash(matches: &ArgMatches<'_>) -> Clash {
+    if matches.get_flag(OVER) {
+        Clash::Over
+    } else if matches.get_flag(COUNTED) {
+        Clash::Counted
+    } else {
+        Clash::Numbered
     }
 }
 
@@ -70,7 +101,9 @@ pub fn field_form(matches: &ArgMatches<'_>) -> FieldForm {
 
 /// How `-x` prints values.
 pub fn value_form(matches: &ArgMatches<'_>) -> ValueForm {
-    if matches.get_flag(DECODE) {
+    if matches.get_flag(ADDRESSES) {
+        ValueForm::Addresses
+    } else if matches.get_flag(DECODE) {
         ValueForm::Decoded
     } else if matches.get_flag(UNFOLD) {
         ValueForm::Unfolded

@@ -5,8 +5,8 @@ use crate::forms::template;
 use crate::letters::{placed_words, why_no_values, why_refused};
 use crate::mailboxes::{from_lines, message_number};
 use clap::ArgMatches;
+use mk_pack::Spec;
 use mk_script::numbers;
-use mk_show::Spec;
 use mk_split::Template;
 use mk_words::options::{
     CHECK, EACH, EDIT, EXTRACT, FIELD, JSON, LINE, MBOX, MESSAGES, NUMBER, PACK, PART, PATH, REPLY,
@@ -52,9 +52,7 @@ pub fn why_invalid(
         why_no_script(alloc, matches)
     } else if name == SECTIONS {
         why_no_names(alloc, matches)
-    } else if name == EXTRACT {
-        why_no_path(alloc, matches.get_str(PATH).unwrap_or(""), SECTION)
-    } else if name == UNPACK {
+    } else if name == EXTRACT || name == UNPACK {
         why_no_paths(alloc, matches)
     } else if name == PACK {
         why_no_parts(alloc, matches)
@@ -187,7 +185,7 @@ fn why_no_path(alloc: Global, word: &str, option: &str) -> Result<Option<String>
     Ok(Some(sentence))
 }
 
-// Why a word of `unpack` isn't a path, if there is one that isn't.
+// Why a word of `-s` isn't a path, if there is one that isn't.
 fn why_no_paths(alloc: Global, matches: &ArgMatches<'_>) -> Result<Option<String>, AllocError> {
     for word in matches.get_strs(PATH).unwrap_or(&[]) {
         if let Some(sentence) = why_no_path(alloc, *word, SECTION)? {
@@ -224,11 +222,11 @@ fn why_no_parts(alloc: Global, matches: &ArgMatches<'_>) -> Result<Option<String
 
 // Why a word isn't a part, if it isn't one.
 fn why_no_part(alloc: Global, word: &str, option: &str) -> Result<Option<String>, AllocError> {
-    if Spec::of(word.as_bytes()).is_some() {
+    if !word.is_empty() {
         return Ok(None);
     }
     let sentence = format!(in alloc;
-        "invalid value '{word}' for '{option}': write TYPE:FILE, such as image/gif:dot.gif"
+        "invalid value '' for '{option}': write FILE or TYPE:FILE, such as image/gif:dot.gif"
     )?;
     Ok(Some(sentence))
 }

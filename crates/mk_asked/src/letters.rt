@@ -9,8 +9,8 @@ ghost use Rattle.mk_asked.specs.inner.Placed.{placed_word};
 use clap::ArgMatches;
 use mk_field::{Letter, LetterWord, LetterWords, takes_words};
 use mk_words::options::{
-    ADD, ADD_IF, DECODE, DROP, ENCODE, EOL, FIRST, LAST, ONLY, PREFIXED, PREPEND, RENAME, TAKE,
-    UNFOLD, WHOLE,
+    ADD, ADD_IF, ADDRESSES, DECODE, DROP, ENCODE, EOL, FIRST, LAST, ONLY, PREFIXED, PREPEND,
+    RENAME, TAKE, UNFOLD, WHOLE,
 };
 use std::alloc::{AllocError, Global};
 
@@ -121,6 +121,8 @@ const UNFOLD_ALONE: &str = "--unfold is for the values that -x prints";
 
 const DECODE_ALONE: &str = "--decode is for the values that -x prints";
 
+const ADDRESSES_ALONE: &str = "--addresses is for the values that -x prints";
+
 const STRUCTURED: &str =
     "in such a field --encode only encodes names, comments and parameters; all else has to be ASCII, as in 'From: Jörg <j@example.org>'";
 
@@ -141,7 +143,8 @@ pub(crate) fn why_refused(
             return Ok(Some(sentence));
         }
     }
-    if words.len() > 1 && words.iter().any(|word| gives(word.1.letter)) {
+    let gives_some = words.iter().any(|word| gives(word.1.letter));
+    if gives_some && !are_of_one_letter(words) {
         return Ok(Some(String::from_str(alloc, APART)?));
     }
     Ok(None)
@@ -159,6 +162,9 @@ pub(crate) fn why_no_values(
     }
     if matches.get_flag(DECODE) && !takes {
         return Ok(Some(String::from_str(alloc, DECODE_ALONE)?));
+    }
+    if matches.get_flag(ADDRESSES) && !takes {
+        return Ok(Some(String::from_str(alloc, ADDRESSES_ALONE)?));
     }
     let adds_some = words.iter().any(|word| adds(word.1.letter));
     if matches.get_flag(ENCODE) && !adds_some {
@@ -190,6 +196,14 @@ fn why_no_words(
         }
     }
     Ok(None)
+}
+
+// Whether words come after one letter, which may be given again.
+fn are_of_one_letter(words: &[(usize, LetterWord<'_>)]) -> bool {
+    match words {
+        [first, others @ ..] => others.iter().all(|word| word.1.letter == first.1.letter),
+        [] => true,
+    }
 }
 
 // Whether a letter prints fields.

@@ -21,7 +21,9 @@ mod invalid;
 mod letters;
 mod mailboxes;
 
-pub use forms::{field_form, name_form, paths, portion, report, subtype, template, value_form};
+pub use forms::{
+    field_form, name_form, paths, portion, subtype, template, unpack_options, value_form,
+};
 pub use invalid::why_invalid;
 pub use letters::letter_words;
 pub use mailboxes::{from_lines, message_number};

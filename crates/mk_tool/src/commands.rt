@@ -1,13 +1,14 @@
 //! The subcommands, over any devices.
 
 use crate::each::{show_each, unpack_each};
-use crate::editing::{edit, redo, undo};
+use crate::editing::{edit, edit_fields, redo, undo};
 use crate::faults::{Problem, usage};
 use crate::mailboxes::{Picked, messages, pick_message, split};
 use crate::packing::pack;
+use crate::seen::filter_firsts;
 use clap::ArgMatches;
 use mk_asked::{
-    field_form, from_lines, letter_words, name_form, paths, portion, report, value_form,
+    field_form, from_lines, letter_words, name_form, paths, portion, unpack_options, value_form,
 };
 use mk_check::{FindingForm, try_check};
 use mk_journal::try_journal;
@@ -15,14 +16,14 @@ use mk_mail::{FromLines, Sink, Source};
 use mk_messages::InMemory;
 use mk_reply::try_reply;
 use mk_run::{
-    Cause, FieldFilter, Manner, Status, Stop, UnpackOptions, letters_of_rounds, read_doc, rounds,
-    rounds_of_words, try_extract, try_field, try_sections, try_unpack, write_all,
+    Cause, FieldFilter, Status, Stop, letters_of_rounds, read_doc, rounds, rounds_of_words,
+    try_extract, try_extract_all, try_field, try_sections, try_unpack, write_all,
 };
 use mk_script::numbers;
 use mk_system::Directory;
 use mk_words::options::{
-    CHECK, DIR, EACH, EDIT, EXTRACT, FIELD, JSON, MESSAGES, OVER, PACK, PATH, REDO, REFUSED_OK,
-    REPLY, SECTIONS, SPLIT, STEPS, TEXTS, UNDO, UNPACK,
+    CHECK, DIR, EACH, EDIT, EXTRACT, FIELD, IDS, JOURNAL, JSON, MESSAGES, PACK, PATH, REDO,
+    REFUSED_OK, REPLY, SECTIONS, SPLIT, STEPS, UNDO, UNPACK,
 };
 use std::fs::File;
 use std::rt::{Clock, Files};
@@ -55,7 +56,7 @@ pub fn run_command<R: Files<File = File> + Clock + AllocGlobal, S: Source, O: Si
     } else if name == FIELD {
         field(rt, matches, input, out, err)
     } else if name == MESSAGES {
-        messages(rt.alloc(), matches, input, out)
+        messages(rt.alloc(), matches, input, out, err)
     } else if name == SPLIT {
         split(rt, matches, input, out, err)
     } else if name == UNPACK && matches.get_flag(EACH) {
@@ -141,11 +142,15 @@ fn extract<R: AllocGlobal, S: Source, O: Sink, E: Sink>(
     err: &mut E,
 ) -> Result<Status, Problem> {
     let alloc = rt.alloc();
-    let word = matches.get_str(PATH).unwrap_or("");
-    match numbers(alloc, word.as_bytes())? {
-        Some(path) => Ok(try_extract(alloc, input, out, err, &path, portion(matches))?),
-        None => Ok(usage(err)),
-    }
+    let Some(sections) = paths(alloc, matches.get_strs(PATH).unwrap_or(&[]))? else {
+        return Ok(usage(err));
+    };
+    let wanted = portion(matches);
+    let status = match sections.as_slice() {
+        [path] => try_extract(alloc, input, out, err, path, wanted)?,
+        sections => try_extract_all(alloc, input, out, err, sections, wanted)?,
+    };
+    Ok(status)
 }
 
 // mimetool unpack
@@ -171,21 +176,8 @@ fn unpack<R: Files<File = File> + AllocGlobal, S: Source, O: Sink, E: Sink>(
     }
 }
 
-/// What is unpacked, and how: all leaves where no path is given.
-pub fn unpack_options<'a>(matches: &ArgMatches<'_>, sections: &'a [Vec<u32>]) -> UnpackOptions<'a> {
-    UnpackOptions {
-        manner: Manner {
-            over: matches.get_flag(OVER),
-            report: report(matches),
-        },
-        form: name_form(matches),
-        texts: matches.get_flag(TEXTS),
-        sections: (!sections.is_empty()).then_some(sections),
-    }
-}
-
 // mimetool field
-fn field<R: AllocGlobal, S: Source, O: Sink, E: Sink>(
+fn field<R: Files<File = File> + Clock + AllocGlobal, S: Source, O: Sink, E: Sink>(
     rt: &R,
     matches: &ArgMatches<'_>,
     input: &mut S,
@@ -211,9 +203,15 @@ fn field<R: AllocGlobal, S: Source, O: Sink, E: Sink>(
     if !filter.ok() {
         return Ok(usage(err));
     }
-    let each = matches.get_flag(EACH);
-    match try_field(alloc, input, out, err, &filter, each)? {
+    let status = if matches.contains_id(JOURNAL) {
+        edit_fields(rt, matches, input, out, err, &filter)?
+    } else if let Some(ids) = matches.get_str(IDS) {
+        filter_firsts(rt, matches, ids, input, out, err, &filter)?
+    } else {
+        try_field(alloc, input, out, err, &filter, matches.get_flag(EACH))?
+    };
+    match status {
         Status::Refused if matches.get_flag(REFUSED_OK) => Ok(Status::Well),
-        status => Ok(status),
+        _ => Ok(status),
     }
 }

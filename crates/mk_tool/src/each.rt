@@ -1,14 +1,13 @@
 //! `--each`: the messages of a mailbox in turn.
 
-use crate::commands::{WORKING_FOLDER, unpack_options};
+use crate::commands::WORKING_FOLDER;
 use crate::faults::{Problem, usage};
 use clap::ArgMatches;
-use mk_asked::{from_lines, name_form, paths, portion};
+use mk_asked::{from_lines, name_form, paths, portion, unpack_options};
 use mk_each::{Extracting, MailboxEdit, MessageWork, SectionLines, Unpacked, Unpacking, try_each};
 use mk_json::SectionObjects;
 use mk_mail::{FromLines, Sink, Source};
 use mk_run::{Pieces, Script, Status};
-use mk_script::numbers;
 use mk_system::Directory;
 use mk_words::options::{DIR, EOL, EXTRACT, JSON, PATH, UNQUOTE};
 use std::alloc::Global;
@@ -71,12 +70,11 @@ fn extract_each<S: Source, O: Sink, E: Sink>(
     out: &mut O,
     err: &mut E,
 ) -> Result<Status, Problem> {
-    let word = matches.get_str(PATH).unwrap_or("");
-    let Some(path) = numbers(alloc, word.as_bytes())? else {
+    let Some(sections) = paths(alloc, matches.get_strs(PATH).unwrap_or(&[]))? else {
         return Ok(usage(err));
     };
     let work = Extracting {
-        path: &path,
+        paths: &sections,
         wanted: portion(matches),
         unquote: matches.get_flag(UNQUOTE),
     };

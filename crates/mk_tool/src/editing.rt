@@ -1,4 +1,4 @@
-//! `edit`, `undo` and `redo`, over any devices.
+//! `edit`, `undo`, `redo` and `field -j`, over any devices.
 
 use crate::each::edit_each;
 use crate::faults::{Problem, usage};
@@ -9,7 +9,10 @@ use clap::ArgMatches;
 use mk_journal::{redo_all, undo_all};
 use mk_mail::{Sink, Source};
 use mk_messages::InMemory;
-use mk_run::{Cause, Journal, Pieces, Script, Status, Stop, read_all, report_invalid, try_edit};
+use mk_run::{
+    Cause, FieldFilter, Journal, Pieces, Script, Status, Stop, read_all, report_invalid, try_edit,
+    try_field_in_journal,
+};
 use mk_script::first_invalid;
 use mk_system::{JournalFile, Output, is_one_file};
 use mk_words::options::{
@@ -39,24 +42,43 @@ enum Steps<'a> {
     UndoAll,
     /// All that are undone in it are made again.
     RedoAll,
+    /// One: the rounds of a filter of fields.
+    Fields(&'a FieldFilter<'a>),
 }
 
 impl<'a> Steps<'a> {
-    // The text of the script for all steps of a journal; none where a script was given.
+    // The text of the script for all steps of a journal; none where the steps are given.
     fn text(self, alloc: Global, journal: &[u8]) -> Result<Vec<u8>, AllocError> {
         match self {
-            Steps::Of(_) => Ok(Vec::new(alloc)),
+            Steps::Of(_) | Steps::Fields(_) => Ok(Vec::new(alloc)),
             Steps::UndoAll => undo_all(alloc, journal),
             Steps::RedoAll => redo_all(alloc, journal),
         }
     }
 
-    // The script: the one that was given, or this text.
-    fn script(self, text: &'a [u8]) -> Script<'a> {
-        match self {
+    // Makes them, by this script where they are those of a journal.
+    fn make<S: Source, O: Sink, E: Sink, J: Sink>(
+        self,
+        alloc: Global,
+        input: &mut S,
+        out: &mut O,
+        err: &mut E,
+        script: &'a [u8],
+        pieces: Pieces<'_>,
+        journal: Journal<'_>,
+        jout: &mut J,
+    ) -> Result<Status, Cause> {
+        let script = match self {
             Steps::Of(script) => script,
-            Steps::UndoAll | Steps::RedoAll => alone(text),
-        }
+            Steps::UndoAll | Steps::RedoAll => alone(script),
+            Steps::Fields(filter) => {
+                if !filter.ok() {
+                    return Ok(Status::Usage);
+                }
+                return try_field_in_journal(alloc, input, out, err, filter, journal, jout);
+            }
+        };
+        try_edit(alloc, input, out, err, script, pieces, journal, jout)
     }
 }
 
@@ -152,6 +174,18 @@ pub fn redo<R: Files<File = File> + Clock + AllocGlobal, S: Source, O: Sink, E: 
     edit_message(rt, matches, input, out, err, steps, &[])
 }
 
+/// mimetool field -j
+pub fn edit_fields<R: Files<File = File> + Clock + AllocGlobal, S: Source, O: Sink, E: Sink>(
+    rt: &R,
+    matches: &ArgMatches<'_>,
+    input: &mut S,
+    out: &mut O,
+    err: &mut E,
+    filter: &FieldFilter<'_>,
+) -> Result<Status, Problem> {
+    edit_message(rt, matches, input, out, err, Steps::Fields(filter), &[])
+}
+
 // A script that is done line by line.
 fn alone(text: &[u8]) -> Script<'_> {
     Script {
@@ -221,8 +255,7 @@ fn edit_message<R: Files<File = File> + Clock + AllocGlobal, S: Source, O: Sink,
         None => {
             let mut none = Output::new(io::sink());
             let journal = Journal::Off;
-            let script = steps.script(b"");
-            let done = try_edit(alloc, input, out, err, script, pieces, journal, &mut none);
+            let done = steps.make(alloc, input, out, err, b"", pieces, journal, &mut none);
             Ok(done?)
         }
         // Only once all is read may this run wait for the journal: another run that has it may be the one that writes the
@@ -267,8 +300,7 @@ fn edit_with_journal<R: Files<File = File> + Clock + AllocGlobal, S: Source, O: 
         None => Journal::New,
     };
     let text = steps.text(alloc, old.as_deref().unwrap_or(b""))?;
-    let script = steps.script(&text);
-    let done = try_edit(alloc, input, out, err, script, pieces, journal, &mut jout);
+    let done = steps.make(alloc, input, out, err, &text, pieces, journal, &mut jout);
     let unwritten = jout.close();
     match done {
         Ok(status) => Ok(status),

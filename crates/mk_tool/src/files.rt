@@ -3,9 +3,10 @@
 use crate::faults::Problem;
 use clap::ArgMatches;
 use mk_mail::Attach;
+use mk_pack::Forward;
 use mk_run::{Cause, Spec};
-use mk_show::Forward;
 use mk_system::size_in;
+use mk_types::media_type;
 use mk_words::options::{FILES, FROM, IN_PLACE, JOURNAL, STEPS};
 use std::alloc::{AllocError, Global};
 use std::fs::OpenFile;
@@ -69,7 +70,8 @@ pub fn read_files<R: Files + AllocGlobal>(rt: &R, paths: &[&str]) -> Result<Vec<
     Ok(texts)
 }
 
-/// Reads the files of parts, in their order. Each word is a part, as TYPE:FILE. Texts have no name where they are inline.
+/// Reads the files of parts, in their order. Each word is a part, as FILE, TYPE:FILE, or one of these and =NAME. Texts have no
+/// name where they are inline.
 pub fn attachments<R: Files + AllocGlobal>(
     rt: &R,
     words: &[&str],
@@ -77,20 +79,37 @@ pub fn attachments<R: Files + AllocGlobal>(
 ) -> Result<Vec<Attach>, Problem> {
     let mut parts = Vec::new(rt.alloc());
     for word in words {
-        if let Some(spec) = Spec::of(word.as_bytes()) {
-            let path = match word.split_once(':') {
-                Some((_, path)) => path,
-                None => *word,
-            };
-            let text = read(rt, path)?;
-            parts.push(if inline {
-                spec.inline(rt.alloc(), text)?
-            } else {
-                spec.attach(rt.alloc(), text)?
-            })?;
-        }
+        parts.push(attachment(rt, *word, inline)?)?;
     }
     Ok(parts)
+}
+
+// Reads the file of a part. Without a type it is that of the file's ending.
+fn attachment<R: Files + AllocGlobal>(rt: &R, word: &str, inline: bool) -> Result<Attach, Problem> {
+    let (media, path) = match word.split_once(':') {
+        Some((media, path)) => (Some(media), path),
+        None => (None, word),
+    };
+    let (path, name) = named(rt, path);
+    let text = read(rt, path)?;
+    let spec = Spec {
+        media: media.unwrap_or(media_type(path.as_bytes())).as_bytes(),
+        path: name.as_bytes(),
+    };
+    let part = if inline {
+        spec.inline(rt.alloc(), text)
+    } else {
+        spec.attach(rt.alloc(), text)
+    };
+    Ok(part?)
+}
+
+// A file, and what its part is named after: what follows the last equals sign, unless there is a file of the whole name.
+fn named<'a, R: Files + AllocGlobal>(rt: &R, path: &'a str) -> (&'a str, &'a str) {
+    if fs::metadata(rt, path).is_ok() {
+        return (path, path);
+    }
+    path.rsplit_once('=').unwrap_or((path, path))
 }
 
 /// Reads the files of messages that are forwarded, in their order.

@@ -2,6 +2,7 @@
 
 use crate::commands::WORKING_FOLDER;
 use crate::faults::{Problem, usage};
+use crate::seen::list_firsts;
 use clap::ArgMatches;
 use mk_asked::{from_lines, message_number, template};
 use mk_mail::{FromLines, Sink, Source};
@@ -9,7 +10,9 @@ use mk_messages::{pick, report_missing, take_out, try_messages};
 use mk_run::{Cause, Status, Stop};
 use mk_split::{SplitOptions, Template, try_split};
 use mk_system::Directory;
-use mk_words::options::{BARE, DIR, JSON, MAILDIR, NUMBER, OVER, SILENT, TEMPLATE, UNQUOTE};
+use mk_words::options::{
+    BARE, DIR, JSON, MAILDIR, NUMBER, OVER, SILENT, TEMPLATE, UNIQUE, UNQUOTE,
+};
 use std::alloc::{AllocError, Global};
 use std::fs::File;
 use std::rt::{Clock, Files};
@@ -27,12 +30,16 @@ pub enum Picked {
 }
 
 // mimetool messages
-pub fn messages<S: Source, O: Sink>(
+pub fn messages<S: Source, O: Sink, E: Sink>(
     alloc: Global,
     matches: &ArgMatches<'_>,
     input: &mut S,
     out: &mut O,
+    err: &mut E,
 ) -> Result<Status, Problem> {
+    if matches.get_flag(UNIQUE) {
+        return list_firsts(alloc, matches, input, out, err);
+    }
     let from_lines = from_lines(matches).unwrap_or(FromLines::Any);
     if matches.get_flag(JSON) {
         mk_json::try_messages(alloc, input, out, from_lines)?;

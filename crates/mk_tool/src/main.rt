@@ -30,6 +30,7 @@ mod labels;
 mod mailboxes;
 mod packing;
 mod program;
+mod seen;
 mod tips;
 
 pub use mk_run::{

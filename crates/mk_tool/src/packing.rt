@@ -6,8 +6,8 @@ use clap::ArgMatches;
 use mk_asked::{name_form, subtype};
 use mk_line::Ending;
 use mk_mail::{NameForm, Sink, Source};
+use mk_pack::{AttachOptions, PackOptions, try_pack, try_part, turned_parts};
 use mk_run::Status;
-use mk_show::{AttachOptions, PackOptions, try_pack, try_part, turned_parts};
 use mk_words::options::{BOUNDARY, CHARSET, EOL, FORWARD, INLINE, PART, SPEC};
 use std::rt::Files;
 

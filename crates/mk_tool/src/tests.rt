@@ -8,6 +8,7 @@ mod each;
 mod examples;
 mod explained;
 mod faults;
+mod field_steps;
 mod files;
 mod forwarded;
 mod in_place;
@@ -18,10 +19,13 @@ mod mailboxes;
 mod prepends;
 mod replies;
 mod section_fields;
+mod seen;
 mod several;
 mod split;
 mod steps;
+mod stored;
 mod tips;
+mod types;
 mod usage;
 
 use crate::program::obey;
@@ -75,6 +79,20 @@ pub fn words_in(alloc: Global, text: &'static str) -> Result<Vec<&'static str>, 
     let mut words = Vec::new(alloc);
     for word in text.split('|') {
         words.push(word)?;
+    }
+    Ok(words)
+}
+
+/// The words of a row of `field`, after an option and a file.
+pub fn field_words<'a>(
+    alloc: Global,
+    option: &'a str,
+    path: &'a str,
+    row: &Row,
+) -> Result<Vec<&'a str>, AllocError> {
+    let mut words = Vec::from_slice(alloc, &["field", option, path])?;
+    for word in words_in(alloc, row.text("words"))?.iter().skip(1) {
+        words.push(*word)?;
     }
     Ok(words)
 }

@@ -80,8 +80,8 @@ const OWN_JOURNAL_OPTION: Argument = Argument {
     ..JOURNAL_OPTION
 };
 
-// -j JOURNAL
-const JOURNAL_OPTION: Argument = Argument {
+/// -j JOURNAL
+pub const JOURNAL_OPTION: Argument = Argument {
     id: JOURNAL,
     short: Some('j'),
     help: "The file that keeps the steps for later runs; it is created if it doesn't exist",

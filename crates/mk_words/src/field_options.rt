@@ -1,10 +1,11 @@
 //! The words of `field`.
 
 use crate::arguments::{Argument, FLAG, OPTION, OPTION_AGAIN, Subcommand};
+use crate::edit_options::JOURNAL_OPTION;
 use crate::mailbox_options::{MBOX_OPTION, RFC4155_OPTION};
 use crate::options::{
-    ADD, ADD_IF, DECODE, DROP, EACH, ENCODE, EOL, FIELD, FIRST, FROM, LAST, ONLY, PATH, PREFIXED,
-    PREPEND, REFUSED_OK, RENAME, TAKE, UNFOLD, WHOLE,
+    ADD, ADD_IF, ADDRESSES, DECODE, DROP, EACH, ENCODE, EOL, FIELD, FIRST, FROM, IDS, JOURNAL,
+    LAST, ONLY, PATH, PREFIXED, PREPEND, REFUSED_OK, RENAME, TAKE, UNFOLD, WHOLE,
 };
 use crate::shared_options::{
     EXPLAIN_OPTION, FILES_ARGUMENT, FROM_FILES_OPTION, IN_PLACE_FILES_OPTION, LABEL_OPTION,
@@ -23,11 +24,11 @@ const WITH_NAME: Argument = Argument {
     ..OPTION_AGAIN
 };
 
-/// mimetool field [--from FILE..|--in-place FILE..] [-H] [--wait[=SECONDS]] [--tempfail] [-p PATH] [--prepend NAME:TEXT] [--drop NAME:] [-a FIELD] [-A FIELD] [-i FIELD] [-I FIELD] [-u NAME:] [-U NAME:] [-x NAME:] [-X NAME:] [--rename OLD:NEW] [--unfold] [--decode] [--encode] [--eol] [--refused-ok] [-s|--each [--rfc4155|--mbox HOW]]
+/// mimetool field [--from FILE..|--in-place FILE..] [-H] [--wait[=SECONDS]] [--tempfail] [-p PATH] [--prepend NAME:TEXT] [--drop NAME:] [-a FIELD] [-A FIELD] [-i FIELD] [-I FIELD] [-u NAME:] [-U NAME:] [-x NAME:].. [-X NAME:].. [--rename OLD:NEW] [--unfold] [--decode] [--addresses] [--encode] [--eol] [--refused-ok] [-j JOURNAL|-D FILE] [-s|--each [--rfc4155|--mbox HOW]]
 pub static FIELD_COMMAND: Subcommand = Subcommand {
     name: FIELD,
     about: "Adds, renames and removes fields of a message, or prints those of a name",
-    after_help: "Letters work in this order, whatever the order of the command line: --prepend, --drop, --rename, -a, -A, -i, -I, -u, -U. A letter that is given again works on the result of the earlier ones, as in a pipe.\n\nExamples:\n  mimetool field -I 'X-Seen: yes' --in-place message\n  mimetool field -x Subject: -H --from one two three\n  mimetool field -I 'X-Seen: yes' -I 'X-By: me' < message\n  mimetool field --prepend 'Subject:[list] ' < message\n  mimetool field -s -x Subject: --from mailbox\n  mimetool field -p 1.2 -x Content-Type: < message",
+    after_help: "Letters work in this order, whatever the order of the command line: --prepend, --drop, --rename, -a, -A, -i, -I, -u, -U. A letter that is given again works on the result of the earlier ones, as in a pipe.\n\nExamples:\n  mimetool field -I 'X-Seen: yes' --in-place message\n  mimetool field -x Subject: -H --from one two three\n  mimetool field -I 'X-Seen: yes' -I 'X-By: me' < message\n  mimetool field --prepend 'Subject:[list] ' < message\n  mimetool field -I 'X-Seen: yes' -j journal --in-place message\n  mimetool field -s -x Subject: --from mailbox\n  mimetool field --addresses -x To: -x Cc: < message\n  mimetool field -s -D ids < mailbox > unique\n  mimetool field -p 1.2 -x Content-Type: < message",
     arguments: &[
         FROM_FILES_OPTION,
         Argument {
@@ -100,16 +101,14 @@ pub static FIELD_COMMAND: Subcommand = Subcommand {
         Argument {
             id: TAKE,
             short: Some('x'),
-            value_name: Some("NAME:"),
-            help: "Print the values of the fields NAME",
-            ..OPTION
+            help: "Print the values of the fields NAME; given again, those of one name after those of another",
+            ..WITH_NAME
         },
         Argument {
             id: WHOLE,
             short: Some('X'),
-            value_name: Some("NAME:"),
-            help: "Print the fields NAME",
-            ..OPTION
+            help: "Print the fields NAME; given again, those of one name after those of another",
+            ..WITH_NAME
         },
         Argument {
             id: UNFOLD,
@@ -121,6 +120,13 @@ pub static FIELD_COMMAND: Subcommand = Subcommand {
             id: DECODE,
             long: Some(DECODE),
             help: "With -x, print the value of each field on one line, with its encoded words decoded",
+            ..FLAG
+        },
+        Argument {
+            id: ADDRESSES,
+            long: Some(ADDRESSES),
+            help: "With -x, print each address in the values on a line, without names and comments",
+            conflicts: &[UNFOLD, DECODE],
             ..FLAG
         },
         Argument {
@@ -142,6 +148,19 @@ pub static FIELD_COMMAND: Subcommand = Subcommand {
             ..FLAG
         },
         EXPLAIN_OPTION,
+        Argument {
+            help: "The file that keeps the edits of this run, as one step, for undo and redo; it is created if it doesn't exist",
+            conflicts: &[EACH, TAKE, WHOLE],
+            ..JOURNAL_OPTION
+        },
+        Argument {
+            id: IDS,
+            short: Some('D'),
+            value_name: Some("FILE"),
+            help: "Leave out messages whose Message-ID is in FILE, a line for each, and add those of the others; it is created if it doesn't exist",
+            conflicts: &[JOURNAL],
+            ..OPTION
+        },
         Argument {
             id: EACH,
             short: Some('s'),

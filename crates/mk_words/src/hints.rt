@@ -23,7 +23,7 @@ const A_FIELD: &str = "to add a field, write a letter before it, such as -A";
 const REPLY_HINT: &str = "to print the header of an answer, write 'mimetool reply'";
 
 /// Letters of formail that `field` doesn't have, and what to write here.
-const LETTERS: [(&str, &str); 14] = [
+const LETTERS: [(&str, &str); 13] = [
     ("-R", "to rename fields, write '--rename OLD:NEW'"),
     (
         "-c",
@@ -39,10 +39,6 @@ const LETTERS: [(&str, &str); 14] = [
     ),
     ("-r", REPLY_HINT),
     ("-t", REPLY_HINT),
-    (
-        "-D",
-        "no Message-IDs are kept between runs, so no option replaces it",
-    ),
     ("-l", "no log is written, so it isn't needed"),
     ("-b", "nothing is quoted, so it isn't needed"),
     ("-f", "no From-line is added, so it isn't needed"),

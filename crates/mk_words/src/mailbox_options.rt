@@ -3,23 +3,29 @@
 use crate::arguments::{Argument, FLAG, OPTION, Subcommand};
 use crate::options::{
     BARE, DIR, EACH, JSON, MAILDIR, MBOX, MESSAGES, NUMBER, OVER, RFC4155, SILENT, SPLIT, TEMPLATE,
-    UNQUOTE,
+    UNIQUE, UNQUOTE,
 };
 use crate::shared_options::{
     EXPLAIN_OPTION, FILES_ARGUMENT, FROM_FILES_OPTION, FROM_OPTION, LABEL_OPTION,
 };
 
-/// mimetool messages [--json|-H] [--rfc4155|--mbox HOW] [--from FILE..]
+/// mimetool messages [--unique] [--json|-H] [--rfc4155|--mbox HOW] [--from FILE..]
 pub static MESSAGES_COMMAND: Subcommand = Subcommand {
     name: MESSAGES,
     about: "Lists the messages of a mailbox, one per line",
-    after_help: "Examples:\n  mimetool messages < mailbox\n  mimetool messages --mbox=date --from mailbox\n  mimetool messages --json < mailbox",
+    after_help: "Examples:\n  mimetool messages < mailbox\n  mimetool messages --mbox=date --from mailbox\n  mimetool messages --json < mailbox\n  mimetool messages --unique < mailbox",
     arguments: &[
         FROM_FILES_OPTION,
         Argument {
             id: JSON,
             long: Some(JSON),
             help: "Print a JSON object for each message",
+            ..FLAG
+        },
+        Argument {
+            id: UNIQUE,
+            long: Some(UNIQUE),
+            help: "Leave out messages with the Message-ID of an earlier one",
             ..FLAG
         },
         Argument {

@@ -62,6 +62,12 @@ pub const UTF8: &str = "utf8";
 /// `-j JOURNAL`: the file that keeps the steps.
 pub const JOURNAL: &str = "JOURNAL";
 
+/// `-D FILE`: the file of the Message-IDs that were seen.
+pub const IDS: &str = "IDS";
+
+/// `--unique`: no message that comes again is listed.
+pub const UNIQUE: &str = "unique";
+
 /// The subcommand that undoes the last step of an earlier run.
 pub const UNDO: &str = "undo";
 
@@ -101,6 +107,15 @@ pub const OVER: &str = "over";
 /// `-t`: texts are stored too.
 pub const TEXTS: &str = "texts";
 
+/// `--number`: names get numbers without an end.
+pub const COUNTED: &str = "number";
+
+/// `--messages`: messages in the message are stored, too.
+pub const FORWARDED: &str = "messages";
+
+/// `--content-id`: sections are named by their ids.
+pub const BY_ID: &str = "content-id";
+
 /// `--silent`: no names are printed.
 pub const SILENT: &str = "silent";
 
@@ -125,7 +140,7 @@ pub const INLINE: &str = "inline";
 /// `--charset NAME`: the charset that texts name.
 pub const CHARSET: &str = "charset";
 
-/// A part, as TYPE:FILE.
+/// A part, as FILE, TYPE:FILE, or one of these and =NAME.
 pub const SPEC: &str = "SPEC";
 
 /// `--part SPEC`: this part alone.
@@ -181,6 +196,9 @@ pub const ENCODE: &str = "encode";
 
 /// `--unfold`: values on one line.
 pub const UNFOLD: &str = "unfold";
+
+/// `--addresses`: the addresses of values, each on a line.
+pub const ADDRESSES: &str = "addresses";
 
 /// `--refused-ok`: a refused edit leaves the status 0.
 pub const REFUSED_OK: &str = "refused-ok";

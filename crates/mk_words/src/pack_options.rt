@@ -10,7 +10,7 @@ use clap::ArgAction;
 pub static PACK_COMMAND: Subcommand = Subcommand {
     name: PACK,
     about: "Builds a multipart from files, after the fields on standard input, and prints it",
-    after_help: "Examples:\n  mimetool pack text/plain:letter image/gif:dot.gif < fields\n  printf 'Subject: report\\n' | mimetool pack -b =_b application/pdf:report.pdf\n  mimetool pack -m alternative --inline --charset utf-8 text/plain:letter text/html:letter.html < fields\n  mimetool pack text/plain:letter --forward message < fields\n  mimetool pack --part image/gif:dot.gif > part",
+    after_help: "Examples:\n  mimetool pack text/plain:letter image/gif:dot.gif < fields\n  printf 'Subject: report\\n' | mimetool pack -b =_b application/pdf:report.pdf\n  mimetool pack -m alternative --inline --charset utf-8 text/plain:letter text/html:letter.html < fields\n  mimetool pack text/plain:letter --forward message < fields\n  mimetool pack report.pdf scan-0041.png=receipt.png < fields\n  mimetool pack --part image/gif:dot.gif > part",
     arguments: &[
         Argument {
             id: BOUNDARY,
@@ -67,7 +67,7 @@ pub static PACK_COMMAND: Subcommand = Subcommand {
         EXPLAIN_OPTION,
         Argument {
             id: SPEC,
-            help: "The parts, each as TYPE:FILE, such as image/gif:dot.gif",
+            help: "The parts, each as FILE or TYPE:FILE, such as image/gif:dot.gif; without TYPE it is that of the ending of FILE, and =NAME after FILE is the name in place of FILE's own",
             action: ArgAction::Append,
             replaced_by: &[PART, FORWARD],
             ..FLAG

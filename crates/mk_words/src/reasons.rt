@@ -6,7 +6,7 @@ use crate::options::{PACK, SPLIT};
 const COLON: &[u8] = b": ";
 
 /// The names of reasons, and each in words.
-const REASONS: [(&str, &str); 27] = [
+const REASONS: [(&str, &str); 28] = [
     (
         "NoSuchSection",
         "there is no section at this path; 'sections' lists the paths",
@@ -71,6 +71,10 @@ const REASONS: [(&str, &str); 27] = [
     (
         "NoAddress",
         "nobody can be answered: neither Reply-To nor From says anything",
+    ),
+    (
+        "Seen",
+        "a message with this Message-ID was seen before, so nothing is printed",
     ),
     ("JournalSyntax", "this file isn't a journal"),
     (

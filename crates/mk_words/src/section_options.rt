@@ -5,7 +5,8 @@ use crate::mailbox_options::{
     EACH_OPTION, MBOX_OPTION, NUMBER_OPTION, RFC4155_OPTION, UNQUOTE_OPTION,
 };
 use crate::options::{
-    DIR, EXTRACT, HEAD, JSON, OVER, PATH, PATHS, PREFIX, RAW, SECTIONS, SILENT, TEXTS, UNPACK,
+    BY_ID, COUNTED, DIR, EXTRACT, FORWARDED, HEAD, JSON, OVER, PATH, PATHS, PREFIX, RAW, SECTIONS,
+    SILENT, TEXTS, UNPACK,
 };
 use crate::shared_options::{
     EXPLAIN_OPTION, FILES_ARGUMENT, FROM_FILES_OPTION, LABEL_OPTION, UTF8_OPTION,
@@ -45,7 +46,7 @@ pub static SECTIONS_COMMAND: Subcommand = Subcommand {
     ],
 };
 
-/// mimetool extract [-n N|--each [--rfc4155|--mbox HOW] [--unquote]] -s PATH [--raw|--head|--prefix|--utf8] [--from FILE..]
+/// mimetool extract [-n N|--each [--rfc4155|--mbox HOW] [--unquote]] -s PATH.. [--raw|--head|--prefix|--utf8] [--from FILE..]
 pub static EXTRACT_COMMAND: Subcommand = Subcommand {
     name: EXTRACT,
     about: "Prints the content of a section, decoded if no sections are below it",
@@ -55,9 +56,9 @@ pub static EXTRACT_COMMAND: Subcommand = Subcommand {
         Argument {
             id: PATH,
             short: Some('s'),
-            help: "The path of the section, such as 1 or 1.2",
+            help: "The path of the section, such as 1 or 1.2; may be given more than once",
             is_required: true,
-            ..OPTION
+            ..OPTION_AGAIN
         },
         Argument {
             id: RAW,
@@ -97,7 +98,7 @@ pub static EXTRACT_COMMAND: Subcommand = Subcommand {
     ],
 };
 
-/// mimetool unpack [-n N|--each [--rfc4155|--mbox HOW] [--unquote]] [-f] [-t] [-s PATH].. [--silent|--paths] [--utf8] [-C DIR] [--from FILE..]
+/// mimetool unpack [-n N|--each [--rfc4155|--mbox HOW] [--unquote]] [-f|--number] [-t] [--messages] [--prefix] [-s PATH].. [--silent|--paths] [--utf8] [--content-id] [-C DIR] [--from FILE..]
 pub static UNPACK_COMMAND: Subcommand = Subcommand {
     name: UNPACK,
     about: "Writes the contents of the leaves to files, and prints their names and types",
@@ -111,9 +112,28 @@ pub static UNPACK_COMMAND: Subcommand = Subcommand {
             ..FLAG
         },
         Argument {
+            id: COUNTED,
+            long: Some(COUNTED),
+            help: "Where files have the name, go on past .99",
+            conflicts: &[OVER],
+            ..FLAG
+        },
+        Argument {
             id: TEXTS,
             short: Some('t'),
             help: "Write texts without a name too",
+            ..FLAG
+        },
+        Argument {
+            id: FORWARDED,
+            long: Some(FORWARDED),
+            help: "Write each forwarded message too, as a whole",
+            ..FLAG
+        },
+        Argument {
+            id: PREFIX,
+            long: Some(PREFIX),
+            help: "Write what can be decoded of invalid base64 too, to NAME.part; the fault is still reported",
             ..FLAG
         },
         Argument {
@@ -138,6 +158,12 @@ pub static UNPACK_COMMAND: Subcommand = Subcommand {
         Argument {
             help: "Name files in UTF-8, as the message does, not only in ASCII",
             ..UTF8_OPTION
+        },
+        Argument {
+            id: BY_ID,
+            long: Some(BY_ID),
+            help: "Name a part that has a Content-ID by it",
+            ..FLAG
         },
         Argument {
             id: DIR,

@@ -156,11 +156,10 @@ words: sections|-s
 words: redo|-j|journal|script
 words: unpack|n
 
-== no path, or two
+== no path
 words: extract
 words: extract|1
 words: extract|-s
-words: extract|-s|1|-s|1
 
 == no script, or no journal
 words: edit

@@ -53,6 +53,13 @@ output: y\n
 errors: message 1: 1: BadBase64\n
 status: Refused
 
+== several sections of each
+words: extract|--each|-s|1|-s|2|-s|1
+message: From a\n\nx\n\nFrom b\n\ny\n
+output: x\nx\ny\ny\n
+errors: message 1: 2: NoSuchSection\nmessage 2: 2: NoSuchSection\n
+status: Refused
+
 == the fields of each
 words: extract|--each|--head|-s|1
 message: From a\nA: 1\n\nx\n\nFrom b\nB: 2\n\ny\n

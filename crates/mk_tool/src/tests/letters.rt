@@ -77,6 +77,30 @@ message: A: 1\nB: 2\nA: 3\n\nx\n
 output: A: 1\nA: 3\n
 status: Well
 
+== the values of two names, in the order of the letters
+words: field|-x|B:|-x|A:
+message: A: 1\nB: 2\nA: 3\n\nx\n
+output: \x202\n 1\n 3\n
+status: Well
+
+== the values of a name twice, in a mailbox
+words: field|-s|--unfold|-x|a:|-x|A:
+message: From x\nA: 1\n\nFrom y\nB: 2\n\nFrom z\nA: 3\n
+output: 1\n1\n3\n3\n
+status: Well
+
+== the fields of two names
+words: field|-X|B:|-X|A:
+message: A: 1\nB: 2\nA: 3\n\nx\n
+output: B: 2\nA: 1\nA: 3\n
+status: Well
+
+== the addresses of two names
+words: field|--addresses|-x|To:|-x|Cc:
+message: Cc: C <c@d>\nTo: "A, B" <a@b>, e@f\n\nx\n
+output: a@b\ne@f\nc@d\n
+status: Well
+
 == no field of the name
 words: field|-x|C:
 message: A: 1\nB: 2\nA: 3\n\nx\n
@@ -201,11 +225,14 @@ const REFUSED: &str = r#"
 == no field after a letter
 words: field|-a
 
-== values of two names
-words: field|-x|A:|-x|B:
+== values of two names beside a letter that edits
+words: field|-x|A:|-x|B:|-u|C:
 
-== fields of two names
-words: field|-X|A:|-X|B:
+== fields and values of two names
+words: field|-X|A:|-X|B:|-x|C:
+
+== addresses of whole fields
+words: field|--addresses|-X|A:
 
 == a name without its colon in a later round
 words: field|-u|A:|-u|B

@@ -42,17 +42,14 @@ begins: error: invalid value '1.0' for '-p <PATH>': write numbers from 1 with do
 words: field|-p|-1|-A|A: 9
 begins: error: invalid value '-1' for '-p <PATH>': write numbers from 1 with dots between them, such as 1.2\n\nUsage: mimetool field\x20
 
-== <SPEC>... doesn't take 'text'
-words: pack|-b|b|text
-begins: error: invalid value 'text' for '<SPEC>...': write TYPE:FILE, such as image/gif:dot.gif\n\nUsage: mimetool pack\x20
+== <SPEC>... doesn't take an empty word
+words: pack|-b|b|
+words: pack|-b|b|text/plain:n|
+begins: error: invalid value '' for '<SPEC>...': write FILE or TYPE:FILE, such as image/gif:dot.gif\n\nUsage: mimetool pack\x20
 
-== <SPEC>... doesn't take 'n'
-words: pack|-b|b|text/plain:n|n
-begins: error: invalid value 'n' for '<SPEC>...': write TYPE:FILE, such as image/gif:dot.gif\n\nUsage: mimetool pack\x20
-
-== --part <SPEC> doesn't take 'text'
-words: pack|--part|text
-begins: error: invalid value 'text' for '--part <SPEC>': write TYPE:FILE, such as image/gif:dot.gif\n\nUsage: mimetool pack\x20
+== --part <SPEC> doesn't take an empty word
+words: pack|--part|
+begins: error: invalid value '' for '--part <SPEC>': write FILE or TYPE:FILE, such as image/gif:dot.gif\n\nUsage: mimetool pack\x20
 
 == -u <NAME:> doesn't take 'A'
 words: field|-u|A
@@ -138,6 +135,18 @@ begins: error: --decode is for the values that -x prints\n
 words: field|--unfold|-u|A:
 begins: error: --unfold is for the values that -x prints\n
 
+== --addresses without -x
+words: field|--addresses|-X|A:
+begins: error: --addresses is for the values that -x prints\n
+
+== --addresses beside --decode
+words: field|--addresses|--decode|-x|A:
+begins: error: the argument '--addresses' cannot be used with '--decode'\n
+
+== -x again beside a letter that edits
+words: field|-x|A:|-x|B:|-u|A:
+begins: error: -x and -X print fields, so neither goes with another letter\n
+
 == --encode without a letter that takes a field
 words: field|--encode|-u|A:
 begins: error: --encode is for the fields of -a, -A, -i and -I\n
@@ -163,9 +172,9 @@ words: field|--wait=+1
 words: field|--wait=1.5
 begins: error: invalid value '
 
-== a letter twice
-words: field|-x|A:|-x|B:
-begins: error: the argument '-x <NAME:>' cannot be used multiple times\n
+== a path twice
+words: field|-p|1|-p|1
+begins: error: the argument '-p <PATH>' cannot be used multiple times\n
 
 == a letter that there isn't
 words: field|-r
@@ -226,6 +235,10 @@ begins: error: the argument '--raw' cannot be used with '--prefix'\n
 == no names, and paths beside them
 words: unpack|--silent|--paths
 begins: error: the argument '--silent' cannot be used with '--paths'\n
+
+== files that are replaced, and numbers that go on
+words: unpack|--number|-f
+begins: error: the argument '--number' cannot be used with '-f'\n
 
 == a part alone, and a boundary
 words: pack|--part|text/plain:n|-b|b
@@ -288,8 +301,8 @@ words: unpack|-s|.1|--from|mimetool_none
 begins: error: invalid value '.1' for '-s <PATH>':\x20
 
 == no part
-words: pack|-b|b|text/plain:mimetool_none|x
-begins: error: invalid value 'x' for '<SPEC>...':\x20
+words: pack|-b|b|text/plain:mimetool_none|
+begins: error: invalid value '' for '<SPEC>...':\x20
 ";
 
 #[test]
@@ -385,10 +398,6 @@ begins: error: unexpected argument '-k' found\n\n  tip: the body is always kept;
 words: field|-r
 words: field|-rk
 begins: error: unexpected argument '-r' found\n\n  tip: to print the header of an answer, write 'mimetool reply'\n
-
-== -D
-words: field|-D|8192|cache
-begins: error: unexpected argument '-D' found\n\n  tip: no Message-IDs are kept between runs, so no option replaces it\n
 ";
 
 #[test]
