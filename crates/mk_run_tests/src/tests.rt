@@ -1,5 +1,6 @@
 //! Runs of scripts on messages, over devices in memory. The expected bytes are worked out by hand.
 
+mod addresses;
 mod as_one;
 mod chosen;
 mod devices;
@@ -28,8 +29,10 @@ mod portions;
 mod rounds;
 mod runs;
 mod sections_filtered;
+mod several_portions;
 mod shelf;
 mod shown;
+mod stored;
 mod texts;
 mod unpacked;
 mod wording;

@@ -5,9 +5,9 @@ use super::devices::{Page, Text};
 use super::memory::page;
 use super::shelf::{Shelf, Slot};
 use super::unpacked::{check_files, fill};
-use mk_mail::NameForm;
+use mk_mail::{NameForm, Storing};
 use mk_rows::{Row, rows};
-use mk_run::{Cause, Manner, Report, Status, UnpackOptions, try_unpack};
+use mk_run::{Cause, Clash, Manner, Report, Status, UnpackOptions, try_unpack};
 use mk_script::numbers;
 use std::alloc::{AllocError, Global};
 use std::process::Abort;
@@ -109,7 +109,27 @@ fn report(row: &Row) -> Report {
     }
 }
 
-fn check_row(rt: &impl Abort, alloc: Global, row: &Row) -> Result<(), Fail> {
+// What becomes of a content whose name a file has.
+fn clash(row: &Row) -> Clash {
+    match row.text("clash") {
+        "over" => Clash::Over,
+        "counted" => Clash::Counted,
+        _ => Clash::Numbered,
+    }
+}
+
+// What a row stores.
+fn storing(row: &Row) -> Storing {
+    Storing {
+        form: NameForm::Plain,
+        texts: row.text("texts") == "yes",
+        messages: row.text("messages") == "yes",
+        content_ids: row.text("ids") == "yes",
+    }
+}
+
+/// Unpacks as a row says, and checks what is left.
+pub(super) fn check_row(rt: &impl Abort, alloc: Global, row: &Row) -> Result<(), Fail> {
     let mut sections = Vec::new(alloc);
     for cell in &row.cells {
         if cell.key == "section" {
@@ -117,13 +137,13 @@ fn check_row(rt: &impl Abort, alloc: Global, row: &Row) -> Result<(), Fail> {
         }
     }
     let manner = Manner {
-        over: false,
+        clash: clash(row),
         report: report(row),
     };
     let options = UnpackOptions {
         manner,
-        form: NameForm::Plain,
-        texts: row.text("texts") == "yes",
+        storing: storing(row),
+        prefix: row.text("prefix") == "yes",
         sections: (!sections.is_empty()).then_some(sections.as_slice()),
     };
     for size in SIZES {
@@ -199,13 +219,16 @@ fn is_put(
 ) -> bool {
     let mut input = Text::new(TWO, 100);
     let manner = Manner {
-        over: false,
+        clash: Clash::Numbered,
         report: Report::Paths,
     };
     let options = UnpackOptions {
         manner,
-        form: NameForm::Plain,
-        texts: true,
+        storing: Storing {
+            texts: true,
+            ..Storing::default()
+        },
+        prefix: false,
         sections: Some(sections),
     };
     let done = try_unpack(alloc, &mut input, out, err, dir, options);

@@ -6,6 +6,7 @@ use mk_expand::edits_for;
 use mk_line::Ending;
 use mk_mail::FromLines;
 use mk_messages::{InMemory, pick, without_separator};
+use mk_pack::{AttachOptions, Spec, try_part};
 use mk_report::report_refusal;
 use mk_run::{
     Cause, Journal, LetterWords, Pieces, Status, give_up, read_all, run_edit, run_extract,
@@ -59,6 +60,18 @@ fn a_content_is_shown(rt: HostRuntime) -> Result<(), Fail> {
     let status = run_extract(alloc, &mut input, &mut out, &mut err, &[1]);
     assert_eq!(rt; status, Status::Well);
     assert_eq!(rt; out.bytes(), b"hi".as_slice());
+    Ok(())
+}
+
+#[test]
+fn a_file_is_a_part(rt: HostRuntime) -> Result<(), Fail> {
+    let alloc = rt.alloc();
+    let spec = Spec::of(b"image/gif:d/x").expect(&rt, "a colon");
+    let part = spec.attach(alloc, Vec::from_slice(alloc, b"hi")?)?;
+    let (mut out, mut err) = (Page::new(alloc, 100)?, Page::new(alloc, 100)?);
+    let status = try_part(alloc, &mut out, &mut err, AttachOptions::default(), &part);
+    assert!(rt; matches!(status, Ok(Status::Well)));
+    assert!(rt; out.bytes().ends_with(b"\n\naGk="));
     Ok(())
 }
 

@@ -4,9 +4,9 @@
 use super::devices::{Page, Text};
 use super::{SIZES, check_left};
 use mk_mail::{Attach, Sink};
+use mk_pack::{AttachOptions, MIXED, PackOptions, try_pack, try_part};
 use mk_rows::{Cell, Row, rows};
 use mk_run::Spec;
-use mk_show::{AttachOptions, MIXED, PackOptions, try_pack, try_part};
 use std::alloc::Global;
 use std::process::Abort;
 use std::test::Fail;

@@ -4,10 +4,10 @@ use super::check_left;
 use super::devices::{Page, Text};
 use super::packed::parts;
 use super::shelf::Shelf;
-use mk_mail::{NameForm, Sink};
+use mk_mail::{NameForm, Sink, Storing};
+use mk_pack::{PackOptions, try_pack};
 use mk_rows::{Row, rows};
 use mk_run::{Folder, Status, UnpackOptions, try_unpack};
-use mk_show::{PackOptions, try_pack};
 use std::alloc::Global;
 use std::process::Abort;
 use std::test::Fail;
@@ -167,7 +167,10 @@ fn check_unpacked(
     let mut err = Page::new(alloc, 1_000)?;
     let mut dir = Shelf::new(alloc);
     let options = UnpackOptions {
-        form: NameForm::Utf8,
+        storing: Storing {
+            form: NameForm::Utf8,
+            ..Storing::default()
+        },
         ..UnpackOptions::default()
     };
     let done = try_unpack(alloc, &mut input, &mut out, &mut err, &mut dir, options);

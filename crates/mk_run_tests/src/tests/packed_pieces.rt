@@ -4,9 +4,9 @@
 
 use super::devices::{Page, Text};
 use mk_mail::{Attach, Sink};
+use mk_pack::{AttachOptions, try_part};
 use mk_rows::{Row, rows};
 use mk_run::{Spec, Status, run_pack};
-use mk_show::{AttachOptions, try_part};
 use std::alloc::{AllocError, Global};
 use std::process::Abort;
 use std::test::Fail;

@@ -232,8 +232,8 @@ errors: 2: NoSuchSection\n
 status: Refused
 "#;
 
-// The portion that a row asks for.
-fn wanted(row: &Row) -> Portion {
+/// The portion that a row asks for.
+pub(super) fn wanted(row: &Row) -> Portion {
     match row.text("portion") {
         "raw" => Portion::Raw,
         "head" => Portion::Head,

@@ -112,10 +112,18 @@ add: B: 1
 message: A: 1\n\n
 status: Usage
 
-== values of two names
+== values of two names, those of one after those of the other
+take: B:
+take: A:
+message: A: 1\nB: 2\nA: 3\n\n
+output: \x202\n\x201\n\x203\n
+status: Well
+
+== values of two names beside a letter of the second round
 take: A:
 take: B:
-message: A: 1\n\n
+add: C: 1
+message: A: 1\nB: 2\n\n
 status: Usage
 "#;
 

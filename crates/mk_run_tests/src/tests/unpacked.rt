@@ -3,9 +3,9 @@
 use super::check_left;
 use super::devices::{Page, Text};
 use super::shelf::Shelf;
-use mk_mail::{NameForm, Sink};
+use mk_mail::{NameForm, Sink, Storing};
 use mk_rows::{Row, rows};
-use mk_run::{Folder, Status, UnpackOptions, try_unpack, unpack};
+use mk_run::{Clash, Folder, Manner, Report, Status, UnpackOptions, try_unpack, unpack};
 use std::alloc::Global;
 use std::process::Abort;
 use std::test::Fail;
@@ -248,7 +248,10 @@ fn is_put_in_utf8(alloc: Global, said: &[u8], name: &[u8]) -> Result<bool, Fail>
     let mut err = Page::new(alloc, 1_000)?;
     let mut dir = Shelf::new(alloc);
     let options = UnpackOptions {
-        form: NameForm::Utf8,
+        storing: Storing {
+            form: NameForm::Utf8,
+            ..Storing::default()
+        },
         ..UnpackOptions::default()
     };
     let done = try_unpack(alloc, &mut input, &mut out, &mut err, &mut dir, options);
@@ -264,17 +267,23 @@ fn names_in_utf8_are_those_of_files(rt: HostRuntime) -> Result<(), Fail> {
     Ok(())
 }
 
+// A folder in which files have a name, and the same with the numbers to 99.
+fn hundred_names(alloc: Global) -> Result<Shelf, Fail> {
+    let mut dir = Shelf::new(alloc);
+    dir.add(b"n.txt", b"")?;
+    for number in 1..100u32 {
+        dir.add(format!(in alloc; "n.txt.{number}")?.as_bytes(), b"")?;
+    }
+    Ok(dir)
+}
+
 #[test]
 fn a_hundred_names_are_tried(rt: HostRuntime) -> Result<(), Fail> {
     let alloc = rt.alloc();
     let mut input = Text::new(ATTACHED, 1_000);
     let mut out = Page::new(alloc, 1_000)?;
     let mut err = Page::new(alloc, 1_000)?;
-    let mut dir = Shelf::new(alloc);
-    dir.add(b"n.txt", b"")?;
-    for number in 1..100u32 {
-        dir.add(format!(in alloc; "n.txt.{number}")?.as_bytes(), b"")?;
-    }
+    let mut dir = hundred_names(alloc)?;
     let status = unpack(
         alloc, &mut input, &mut out, &mut err, &mut dir, false, false, false,
     );
@@ -282,5 +291,29 @@ fn a_hundred_names_are_tried(rt: HostRuntime) -> Result<(), Fail> {
     assert_eq!(rt; out.bytes(), b"".as_slice());
     assert_eq!(rt; err.bytes(), b"n.txt: exists\n".as_slice());
     assert_eq!(rt; dir.count(), 100);
+    Ok(())
+}
+
+#[test]
+fn numbers_go_on_after_a_hundred_names(rt: HostRuntime) -> Result<(), Fail> {
+    let alloc = rt.alloc();
+    let mut input = Text::new(ATTACHED, 1_000);
+    let mut out = Page::new(alloc, 1_000)?;
+    let mut err = Page::new(alloc, 1_000)?;
+    let mut dir = hundred_names(alloc)?;
+    let manner = Manner {
+        clash: Clash::Counted,
+        report: Report::Names,
+    };
+    let options = UnpackOptions {
+        manner,
+        ..UnpackOptions::default()
+    };
+    let done = try_unpack(alloc, &mut input, &mut out, &mut err, &mut dir, options);
+    assert!(rt; done == Ok(Status::Well));
+    assert_eq!(rt; out.bytes(), b"n.txt.100 (text/plain)\n".as_slice());
+    assert_eq!(rt; err.bytes(), b"".as_slice());
+    assert_eq!(rt; dir.text(b"n.txt.100"), Some(b"hi\n".as_slice()));
+    assert_eq!(rt; dir.count(), 101);
     Ok(())
 }

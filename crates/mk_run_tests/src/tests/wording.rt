@@ -323,8 +323,8 @@ fn words_in(alloc: Global, row: &Row) -> LetterWords<'_> {
     words
 }
 
-// Runs the filter of a row over devices that give and take this many bytes a call.
-fn check_row(
+/// Runs the filter of a row over devices that give and take this many bytes a call.
+pub fn check_row(
     rt: &impl Abort,
     alloc: Global,
     row: &Row,
@@ -407,11 +407,11 @@ fn memory_for_encoding(rt: HostRuntime) {
     }
 }
 
-const WORDS: &[u8] = b"A: =?utf-8?Q?=C3=A4?=\nB: x\nA: 2\n\n";
+const WORDS: &[u8] = b"A: =?utf-8?Q?=C3=A4?=\nB: x\nA: c@d\n\n";
 
-const DECODED_VALUES: &[u8] = b"\xc3\xa4\n2\n";
+const DECODED_VALUES: &[u8] = b"\xc3\xa4\nc@d\n";
 
-const UNFOLDED_VALUES: &[u8] = b"=?utf-8?Q?=C3=A4?=\n2\n";
+const UNFOLDED_VALUES: &[u8] = b"=?utf-8?Q?=C3=A4?=\nc@d\n";
 
 // The values of the fields of a name go out, or the first part of them.
 fn check_values(
@@ -444,8 +444,8 @@ fn check_values(
     }
 }
 
-// Asks for the values of the fields of a name, and again where memory was refused.
-fn check_memory(rt: &impl Abort, alloc: Global, form: ValueForm, values: &[u8]) {
+/// Asks for the values of the fields of a name, and again where memory was refused.
+pub fn check_memory(rt: &impl Abort, alloc: Global, form: ValueForm, values: &[u8]) {
     let mut words = LetterWords::none(alloc);
     words.take = Some("A:");
     let (Ok(Some(letters)), Ok(out), Ok(err)) = (
