@@ -17,7 +17,7 @@ def faults():
     for command in ("undo", "redo"):
         yield [command], "error: the following required arguments were not provided:\n  -j <JOURNAL>\n"
     yield ["pack", "-b", "b"], "error: the following required arguments were not provided:\n  <SPEC>...\n"
-    yield ["pack", "-b", "b", "text/plain:none", "x"], "error: invalid value 'x' for '<SPEC>...': write TYPE:FILE, such as image/gif:dot.gif\n"
+    yield ["pack", "-b", "b", "text/plain:none", ""], "error: invalid value '' for '<SPEC>...': write FILE or TYPE:FILE, such as image/gif:dot.gif\n"
     yield ["edit", "none", "-Z"], "error: unexpected argument '-Z' found\n"
 
 

@@ -7,7 +7,7 @@ A_FIELD_OR_NAME = A_FIELD + ", or a name and a colon alone, such as X-Seen:"
 A_NAME = "write a name and a colon, such as Subject:"
 A_NAME_OR_FRONT = A_NAME + ", or with an asterisk before the colon, such as X-*:"
 A_PATH = "write numbers from 1 with dots between them, such as 1.2"
-A_SPEC = "write TYPE:FILE, such as image/gif:dot.gif"
+A_SPEC = "write FILE or TYPE:FILE, such as image/gif:dot.gif"
 A_TEMPLATE = "write the name of a file in ASCII, with one %d or %04d for the number"
 SECONDS = "write a whole number of seconds, from 0 to 4294967295"
 APART = "-x and -X print fields, so neither goes with another letter"
@@ -34,7 +34,7 @@ OPTIONS = {
     "pack": {"-b <BOUNDARY>": "b", "-m <SUBTYPE>": "related", "--charset <NAME>": "utf-8", "--forward <FILE>": "f"},
     "field": {
         "--prepend <NAME:TEXT>": "A:b", "--drop <NAME:>": "A:", "--rename <OLD:NEW>": "A:B", "-a <FIELD>": "A: 1", "-A <FIELD>": "A: 1", "-i <FIELD>": "A: 1", "-I <FIELD>": "A: 1",
-        "-u <NAME:>": "A:", "-U <NAME:>": "A:", "-x <NAME:>": "A:", "-X <NAME:>": "A:",
+        "-u <NAME:>": "A:", "-U <NAME:>": "A:", "-x <NAME:>": "A:", "-X <NAME:>": "A:", "-j <JOURNAL>": "j", "-D <FILE>": "f",
     },
     "reply": {},
     "check": {},
@@ -47,8 +47,8 @@ for command in IN_PLACE:
     OPTIONS[command]["--in-place <FILE>"] = "f"
 
 FLAGS = {
-    "edit": ["--each"], "undo": ["--all"], "redo": ["--all"], "sections": ["--json", "-H", "--each"], "extract": ["--raw", "--head", "--prefix", "--each"], "unpack": ["-f", "-t", "--silent", "--paths", "--utf8", "--each"],
-    "pack": ["--inline", "--utf8"], "field": ["-H", "--each"], "check": ["--json", "-H"], "messages": ["--json", "-H"],
+    "edit": ["--each"], "undo": ["--all"], "redo": ["--all"], "sections": ["--json", "-H", "--each"], "extract": ["--raw", "--head", "--prefix", "--each"], "unpack": ["-f", "--number", "-t", "--messages", "--prefix", "--silent", "--paths", "--utf8", "--content-id", "--each"],
+    "pack": ["--inline", "--utf8"], "field": ["-H", "--each"], "check": ["--json", "-H"], "messages": ["--unique", "--json", "-H"],
     "split": ["-f", "--silent", "--maildir", "--bare", "--unquote"],
 }
 for command in IN_PLACE:
@@ -59,9 +59,9 @@ VALUES = [
     *[(["extract", "-s", value], "-s <PATH>", value, A_PATH)
       for value in ("", "0", "1.0", "01", "1.01", "1.", ".1", "1..2", "-1", "1,2", "a", " 1", "1 ", "1.4294967296", "1\n")],
     *[(["unpack", "-s", "1", "-s", value], "-s <PATH>", value, A_PATH) for value in ("", "0", "1.", "-1", "a")],
-    *[(["pack", "-b", "b", value], "<SPEC>...", value, A_SPEC) for value in ("text", "text/plain", "", "a b")],
-    (["pack", "-b", "b", "text/plain:f", "n"], "<SPEC>...", "n", A_SPEC),
-    *[(["pack", "--part", value], "--part <SPEC>", value, A_SPEC) for value in ("text", "text/plain", "", "a b")],
+    (["pack", "-b", "b", ""], "<SPEC>...", "", A_SPEC),
+    (["pack", "-b", "b", "text/plain:f", ""], "<SPEC>...", "", A_SPEC),
+    (["pack", "--part", ""], "--part <SPEC>", "", A_SPEC),
     *[(["split", "--name", value], "--name <TEMPLATE>", value, A_TEMPLATE)
       for value in ("", "m.eml", "%", "%%d", "%d%d", "%4d", "%0d", "%00d", "%s", "../%d", "a/%d", ".%d", "-%d", "%d\n", "\xe9%d")],
     *[(["field", "--rename", value], "--rename <OLD:NEW>", value, A_PAIR)
@@ -90,6 +90,7 @@ VALUES = [
 # Letters that don't stand beside each other.
 BESIDE = [
     ["-x", "A:", "-X", "A:"],
+    ["-x", "A:", "-x", "B:", "-X", "A:"],
     *[[letter, "A:", *other] for letter in ("-x", "-X") for other in (
         ["--prepend", "A:b"], ["--drop", "A:"], ["--rename", "A:B"], ["-a", "A: 1"], ["-A", "A: 1"], ["-i", "A: 1"], ["-I", "A: 1"], ["-u", "A:"], ["-U", "A:"])],
 ]
@@ -128,13 +129,18 @@ SAID = [
     ("--tempfail with a value", ["undo", "-j", "j", "--tempfail=75"], ["--tempfail", "Usage: mimetool undo"]),
     ("a file for sections", ["sections", "f"], ["unexpected argument 'f' found", "tip: to read the message from a file, write '--from f'", "Usage: mimetool sections"]),
     ("a journal of several files", ["edit", "-e", "undo", "-j", "j", "--in-place", "f", "--in-place", "g"], ["-j goes with one file", "Usage: mimetool edit"]),
+    *[(f"a journal of several messages in {words}", ["field", "-j", "j", *words.split()], ["-j goes with one file", "Usage: mimetool field"])
+      for words in ("--in-place f --in-place g", "--in-place f g", "--from f g")],
     *[(f"-H of {command} without a file", [command, *words, "-H"], ["-H goes only with --from", f"Usage: mimetool {command}"])
       for command, words in (("sections", []), ("field", ["-x", "A:"]), ("check", []), ("messages", []))],
+    ("--addresses without -x", ["field", "--addresses", "-X", "A:"], ["--addresses is for the values that -x prints", "Usage: mimetool field"]),
     ("-H without -x", ["field", "-H", "-A", "A: 1", "--from", "f"], ["-H goes only with -x or -X", "Usage: mimetool field"]),
     ("a file for redo", ["redo", "-j", "j", "f"], ["unexpected argument 'f' found", "'--from f'", "'--in-place f'", "Usage: mimetool redo"]),
     *[(f"{words[0]} of formail", ["field", *words], [f"unexpected argument '{words[0]}' found", tip, "Usage: mimetool field"]) for words, tip in (
         (["-R", "A", "B"], "write '--rename OLD:NEW'"), (["-c", "-x", "A:"], "write '--unfold' with -x"), (["-z"], "'--unfold' with -x"),
-        (["-k"], "the body is always kept"), (["-r"], "write 'mimetool reply'"), (["-D", "99", "f"], "no Message-IDs are kept"))],
+        (["-k"], "the body is always kept"), (["-r"], "write 'mimetool reply'"))],
+    ("-D of formail, with a length", ["field", "-D", "99", "f"], ["unexpected argument 'f' found", "Usage: mimetool field"]),
+    ("-D of one message in place", ["field", "-D", "f", "--in-place", "g"], ["-D goes with --in-place only where -s is there", "Usage: mimetool field"]),
     ("a letter in capitals", ["field", "--Rename", "A:B"], ["unexpected argument '--Rename' found", "Usage: mimetool field"]),
 ]
 
@@ -147,12 +153,17 @@ EXCLUDED = [
     ("field", ["--in-place", "f", "-x", "A:"], ["--in-place <FILE>", "-x <NAME:>"]),
     ("field", ["--in-place", "f", "-X", "A:"], ["--in-place <FILE>", "-X <NAME:>"]),
     ("field", ["-s", "-x", "A:", "--in-place", "f"], ["--in-place <FILE>", "-x <NAME:>"]),
+    *[("field", ["-x", "A:", "--addresses", flag], ["--addresses", flag]) for flag in ("--unfold", "--decode")],
     ("unpack", ["--silent", "--paths"], ["--silent", "--paths"]),
+    ("unpack", ["-f", "--number"], ["-f", "--number"]),
     ("extract", ["--raw", "--head"], ["--raw", "--head"]),
     ("extract", ["--head", "--prefix"], ["--head", "--prefix"]),
     ("extract", ["--prefix", "--raw"], ["--raw", "--prefix"]),
     *[(command, ["--each", "-n", "1"], ["--each", "-n <N>"]) for command in ("edit", "sections", "extract", "unpack")],
-    ("edit", ["--each", "-j", "j"], ["--each", "-j <JOURNAL>"]),
+    *[(command, ["--each", "-j", "j"], ["--each", "-j <JOURNAL>"]) for command in ("edit", "field")],
+    ("field", ["-j", "j", "-D", "f"], ["-j <JOURNAL>", "-D <FILE>"]),
+    ("field", ["-j", "j", "-x", "A:"], ["-j <JOURNAL>", "-x <NAME:>"]),
+    ("field", ["-j", "j", "-X", "A:"], ["-j <JOURNAL>", "-X <NAME:>"]),
     ("edit", ["--each", "--unquote"], ["--each", "--unquote"]),
     *[(command, ["-H", "--json"], ["-H", "--json"]) for command in ("sections", "check", "messages")],
 ]
@@ -169,7 +180,7 @@ NO_TEXT = [
 
 # Options that may be given again.
 FILES = ["field", "sections", "extract", "unpack", "check", "messages"]
-REPEATED = {*((command, "--from") for command in FILES), ("edit", "--in-place"), ("field", "--in-place"), ("edit", "-e"), ("unpack", "-s"), ("pack", "--forward"), *(("field", letter) for letter in ("--prepend", "--drop", "--rename", "-a", "-A", "-i", "-I", "-u", "-U"))}
+REPEATED = {*((command, "--from") for command in FILES), ("edit", "--in-place"), ("field", "--in-place"), ("edit", "-e"), ("unpack", "-s"), ("extract", "-s"), ("pack", "--forward"), *(("field", letter) for letter in ("--prepend", "--drop", "--rename", "-a", "-A", "-i", "-I", "-u", "-U", "-x", "-X"))}
 
 
 def doubled():

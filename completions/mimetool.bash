@@ -9,12 +9,12 @@ _mimetool_options() {
         journal) options='-j --explain -h --help' ;;
         sections) options='--from -n --each --rfc4155 --mbox --unquote --json -H --utf8 --explain -h --help' ;;
         extract) options='--from -n --each --rfc4155 --mbox --unquote -s --raw --head --prefix --utf8 --explain -h --help' ;;
-        unpack) options='--from -n --each --rfc4155 --mbox --unquote -f -t -s --silent --paths --utf8 -C --explain -h --help' ;;
+        unpack) options='--from -n --each --rfc4155 --mbox --unquote -f --number -t --messages --prefix -s --silent --paths --utf8 --content-id -C --explain -h --help' ;;
         pack) options='-b -m --inline --charset --eol --forward --part --utf8 --explain -h --help' ;;
-        field) options='--from --in-place --wait --tempfail -p --prepend --drop --rename -a -A -i -I -u -U -x -X -H --unfold --decode --encode --eol --refused-ok -s --each --rfc4155 --mbox --explain -h --help' ;;
+        field) options='--from --in-place --wait --tempfail -p --prepend --drop --rename -a -A -i -I -u -U -x -X -H --unfold --decode --addresses --encode --eol --refused-ok -j -D -s --each --rfc4155 --mbox --explain -h --help' ;;
         reply) options='--from -n --rfc4155 --mbox --explain -h --help' ;;
         check) options='--from --json -H -n --rfc4155 --mbox --explain -h --help' ;;
-        messages) options='--from --json -H --rfc4155 --mbox -h --help' ;;
+        messages) options='--from --unique --json -H --rfc4155 --mbox -h --help' ;;
         split) options='--from --name -f --silent --maildir --bare --unquote -C --rfc4155 --mbox --explain -h --help' ;;
         help) options='' ;;
         '') options='-h --help -V --version' ;;
@@ -34,7 +34,7 @@ _mimetool() {
     done
     compopt -o filenames 2>/dev/null
     case $command:$prev in
-        edit:-j | undo:-j | redo:-j | journal:-j | *:--from | *:--in-place | pack:--forward)
+        edit:-j | undo:-j | redo:-j | journal:-j | field:-j | field:-D | *:--from | *:--in-place | pack:--forward)
             mapfile -t COMPREPLY < <(compgen -f -- "$cur")
             return ;;
         unpack:-C | split:-C)
@@ -61,10 +61,10 @@ _mimetool() {
         edit | field | sections | extract | unpack | check | messages)
             mapfile -t COMPREPLY < <(compgen -f -- "$cur") ;;
         pack)
-            # TYPE:FILE. The shell cuts words at a colon, so what is completed is FILE.
+            # FILE or TYPE:FILE. The shell cuts words at a colon, so what is completed is FILE.
             if [[ $cur == : ]]; then
                 mapfile -t COMPREPLY < <(compgen -f)
-            elif [[ $prev == : ]]; then
+            else
                 mapfile -t COMPREPLY < <(compgen -f -- "$cur")
             fi ;;
     esac

@@ -63,8 +63,10 @@ def unpack(chooser):
     folder = chooser.choice([b"", b"d", b"d", b"d/e"])
     files = there_before(chooser, message, folder + b"/" if folder else b"") if chooser.maybe(0.6) else {}
     words = [b"unpack"] + ([b"-C", folder] if folder else [])
-    for flag, chance in ((b"-t", 0.6), (b"-f", 0.3), (b"--silent", 0.2), (b"--utf8", 0.5)):
-        words += [flag] if chooser.maybe(chance) else []
+    options = ((b"-t", 0.6), (b"-f", 0.3), (b"--silent", 0.2), (b"--utf8", 0.5), (b"--number", 0.2), (b"--messages", 0.3),
+               (b"--prefix", 0.4), (b"--content-id", 0.3))
+    for flag, chance in options:
+        words += [flag] if chooser.maybe(chance) and not (flag == b"--number" and b"-f" in words) else []
     yield Run(words, message, files)
 
 
@@ -100,14 +102,14 @@ def field(chooser):
     section = chooser.choice(tree.sections(tree.document(text))) if chooser.maybe(0.3) else tree.root(tree.document(text))
     there = [fields.name(named) for named in section.entity.fields]
     if chooser.maybe(0.2):
-        chosen = [chooser.choice([b"-x", b"-X"])] + chooser.some([b"-x", b"-X", b"-a"], 1)[:chooser.maybe(0.1)]
+        chosen = [chooser.choice([b"-x", b"-X"])] * chooser.choice([1, 1, 1, 2, 3]) + chooser.some([b"-x", b"-X", b"-a"], 1)[:chooser.maybe(0.1)]
     else:
         every = [b"--drop", b"--rename", b"-a", b"-A", b"-i", b"-I", b"-u", b"-U"]
         chosen = chooser.sample(every, chooser.choice([0, 1, 1, 1, 2, 2, 3, 8]))
         for _ in range(chooser.choice([0, 0, 0, 1, 2, 4])):
             chosen.append(chooser.choice(every))
     words = [b"field"] + [word for name in chosen for word in letter(chooser, name, there)]
-    for flag, chance in ((b"-s", each), (b"--decode", 0.4 if b"-x" in chosen else 0.02), (b"--unfold", 0.4 if b"-x" in chosen else 0.02), (b"--refused-ok", 0.2), (b"--encode", 0.3 if chosen else 0.02),
+    for flag, chance in ((b"-s", each), (b"--decode", 0.4 if b"-x" in chosen else 0.02), (b"--unfold", 0.4 if b"-x" in chosen else 0.02), (b"--addresses", 0.2 if b"-x" in chosen else 0.02), (b"--refused-ok", 0.2), (b"--encode", 0.3 if chosen else 0.02),
                          (b"--eol", 0.3 if chosen else 0.02)):
         if chooser.maybe(chance):
             words.insert(chooser.choice([1, len(words)]), flag)
@@ -205,6 +207,8 @@ def pack(chooser):
     files = {chooser.choice(names_of_files): content(chooser) for _ in range(chooser.randint(1, 3))}
     media = MEDIA[:4] if chooser.maybe(0.85) else MEDIA
     specs = [chooser.choice(media) + b":" + chooser.choice(list(files)) for _ in range(chooser.choice([0] + [1, 2, 3] * 5))]
+    specs = [spec if chooser.maybe(0.7) else spec.partition(b":")[2] for spec in specs]
+    specs = [spec if chooser.maybe(0.8) else spec + chooser.choice([b"=", b"=n.txt", b"=a/b=c", b"=\xc3\xa4.pdf"]) for spec in specs]
     specs += [b"text/plain:none"] if chooser.maybe(0.02) else []
     boundary = chooser.choice([b"b", b"=_b", b"a b"] if chooser.maybe(0.8) else messages.BOUNDARIES + [b"-b", b"y" * 71])
     flags = [b"--utf8"] if chooser.maybe(0.5) else []

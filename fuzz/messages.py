@@ -6,6 +6,7 @@ FIELDS = [b"A: b", b"a: c", b"A : b", b"A\t: b", b"A:", b"A: ", b"Subject: t", b
           b"MIME-Version: 1.0", b"mime-version :1", b"Content-X: y", b"content-: z", b"--b: c", b"--a:b", b"--b--:", b"Old-A: z",
           b"X-Y:z\x80\xff", b"Subject: =?utf-8?B?w6Q=?= =?Iso-8859-1?q?=e9_b?= c", b"A: =?utf-8?Q?a=0Ab?=\t=?us-ascii?B?/w==?=",
           b"A:\t=?x?q?a?= =?utf-8?b?YQ==?= =?utf-8?b?YR==?= =?utf-8?q?=?=", b"A:=?utf-8?q??= =?UTF-8?B?=E9?= =?utf-8*en?q?a?=", b"A:b\rc", b"A: b:c", b"!: #", b"Content-Type-: x"]
+IDS = [b" <a@b>", b" <a@b>", b"a", b" <>", b"", b" (x) <a.txt@b>", b" (<x>\\) <y>) <z>", b" <a@b", b" \" <q>", b" <a(1)@b>", b" <../x>", b" (<x>"]
 ENCODINGS = [b"base64", b"base64", b"quoted-printable", b"quoted-printable", b"7bit", b"8BIT", b"binary", b"", b" Base64 (x)",
              b"x-uuencode", b"(7bit)", b"base(x)64", b"base64;", b"quoted-printable (x", b'"base64"', b"7bit 8bit"]
 NAMES = [b"a.txt", b"a b.pdf", b"../x", b"c:\\d\\e", b".x", b"-x", b"", b"a_b.pdf", b"a_b.pdf.1", b"a.txt.1", b"\xc3\xa9", b"a/",
@@ -79,6 +80,8 @@ def leaf_fields(chooser):
         found.append([b"Content-Disposition: " + disposition(chooser)])
     if chooser.maybe(0.5):
         found.append([b"Content-Transfer-Encoding:" + chooser.choice([b"", b" "]) + chooser.choice(ENCODINGS)])
+    if chooser.maybe(0.25):
+        found.append([b"Content-ID:" + chooser.choice(IDS)])
     return found
 
 

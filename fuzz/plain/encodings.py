@@ -52,6 +52,17 @@ def base64_decoded(text):
     return bytes(int(bits[at:at + 8], 2) for at in range(0, size, 8))
 
 
+def base64_front(text):
+    """The most letters from the first on that are whole count (own)."""
+    letters = bytes(letter for letter in text.partition(b"=")[0] if letter in LETTERS)
+    for count in range(len(letters), -1, -1):
+        try:
+            return base64_decoded(letters[:count])
+        except Refused:
+            pass
+    return b""
+
+
 def base64_encoded(text, ending):
     """Six bits make a letter, `=` fills groups of four, 76 letters a line, no ending after the last (RFC 2045, 6.8)."""
     bits = "".join(format(byte, "08b") for byte in text)

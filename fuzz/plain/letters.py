@@ -1,11 +1,11 @@
 """The letters of `field`, and mailboxes."""
 
-from . import edits, fields, lines, session, tree, values, wording
+from . import addresses, edits, fields, lines, session, tree, values, wording
 
 EDITING = ("--drop", "--rename", "-a", "-A", "-i", "-I", "-u", "-U")
 PRINTING = ("-x", "-X")
 WITH_FIELDS = ("-a", "-A", "-i", "-I")
-SHAPES = (b"--unfold", b"--decode")
+SHAPES = (b"--unfold", b"--decode", b"--addresses")
 FORMS = (b"--encode", b"--eol")
 
 
@@ -67,9 +67,9 @@ def is_allowed_letter(letter, word):
 
 
 def are_allowed(given):
-    """`-x` and `-X` stand alone, and each value is of its form (own)."""
-    printing = [letter for letter, _ in given if letter in PRINTING]
-    return not (printing and len(given) > 1) and all(is_allowed_letter(*pair) for pair in given)
+    """`-x` and `-X` stand alone, though each as often as one likes, and each value is of its form (own)."""
+    printing = any(letter in PRINTING for letter, _ in given)
+    return not (printing and len({letter for letter, _ in given}) > 1) and all(is_allowed_letter(*pair) for pair in given)
 
 
 def rounds(given):
@@ -174,7 +174,9 @@ def round_filtered(message, letters, flags, path):
 
 
 def shaped(value, flags):
-    """What stands after a colon, or that on a line, or what it says on a line (own)."""
+    """What stands after a colon, or its addresses, or that on a line, or what it says on a line (own)."""
+    if b"--addresses" in flags:
+        return b"".join(address + b"\n" for address in addresses.found(value))
     if b"--decode" in flags:
         return wording.said(value) + b"\n"
     return wording.unfolded(value) + b"\n" if b"--unfold" in flags else value

@@ -1,5 +1,7 @@
 """The command line: which words mean what, and how a run ends."""
 
+import os
+import re
 from collections import namedtuple
 
 from . import letters, listing, names, packing, scripts, wording
@@ -12,9 +14,9 @@ OPTIONS = {
     b"field": (b"--drop", b"--rename", b"-a", b"-A", b"-i", b"-I", b"-u", b"-U", b"-x", b"-X", b"-p", b"--mbox", b"--from"),
     b"edit": (b"-j", b"-e", b"--from"), b"undo": (b"-j", b"--from"), b"redo": (b"-j", b"--from"), b"pack": (b"-b", b"--forward"),
 }
-FLAGS = {b"unpack": (b"-f", b"-t", b"--silent", b"--utf8"), b"field": (b"-s", b"--unfold", b"--decode", b"--encode", b"--eol", b"--refused-ok"),
+FLAGS = {b"unpack": (b"-f", b"-t", b"--silent", b"--utf8", b"--number", b"--messages", b"--prefix", b"--content-id"), b"field": (b"-s", b"--unfold", b"--decode", b"--addresses", b"--encode", b"--eol", b"--refused-ok"),
          b"pack": (b"--utf8",), b"edit": (b"--all", b"--eol", b"--explain")}
-AGAIN = {b"edit": (b"-e",), b"pack": (b"--forward",), b"field": (b"--drop", b"--rename", b"-a", b"-A", b"-i", b"-I", b"-u", b"-U")}
+AGAIN = {b"edit": (b"-e",), b"pack": (b"--forward",), b"field": (b"--drop", b"--rename", b"-a", b"-A", b"-i", b"-I", b"-u", b"-U", b"-x", b"-X")}
 HOW = (b"any", b"field")                                  # --mbox=date isn't in the plain program
 NEEDED = {b"extract": b"-s", b"undo": b"-j", b"redo": b"-j", b"pack": b"-b"}
 
@@ -67,10 +69,12 @@ def letters_given(found):
 
 
 def are_letters_valid(found):
-    """`--unfold` and `--decode` are for `-x`, `--encode` and `--eol` for letters that take a field, `-p` takes a path, and `--mbox` is for `-s` (own)."""
+    """`--unfold`, `--decode` and `--addresses` are for `-x`, the last without the others, `--encode` and `--eol` for letters that take a field, `-p` takes a path, and `--mbox` is for `-s` (own)."""
     if listing.path_of(found.get(b"-p", b"1")) is None:
         return False
     if b"--mbox" in found and (found[b"--mbox"] not in HOW or b"-s" not in found):
+        return False
+    if b"--addresses" in found and (b"--unfold" in found or b"--decode" in found):
         return False
     given = letters_given(found)
     shapes, adds = any(flag in found for flag in letters.SHAPES), any(letter in letters.WITH_FIELDS for letter, _ in given)
@@ -85,7 +89,7 @@ def are_valid(command, found, others):
     if command == b"edit":
         return all(b"\n" not in line for line in found.get(b"-e", [])) and (b"-e" in found or bool(others))
     if command == b"pack":
-        return bool(others or b"--forward" in found) and all(b":" in word for word in others)
+        return bool(others or b"--forward" in found) and all(others)
     if command == b"extract" and listing.path_of(found[b"-s"]) is None:
         return False
     if command == b"field" and not are_letters_valid(found):
@@ -113,14 +117,30 @@ def run_unpack(found, message, files):
     folder = found[b"-C"] + b"/" if b"-C" in found else b""
     there = {name[len(folder):]: text for name, text in files.items()
              if name.startswith(folder) and b"/" not in name[len(folder):]}
-    output, errors, status, left = names.unpack(message, there, b"-t" in found, b"-f" in found, b"--silent" in found, b"--utf8" in found)
+    output, errors, status, left = names.unpack(message, there, found)
     return output, errors, status, {**files, **{folder + name: text for name, text in left.items()}}
 
 
+def type_of(path):
+    """The media type of a file by its ending, from the table of the page (own)."""
+    with open(os.path.join(os.path.dirname(__file__), "..", "..", "docs", "FORMATS.md"), encoding="utf-8") as page:
+        table = page.read().split("### Types of files")[1].split("\n## ")[0]
+    rows = re.findall(r"^\| `(\S+)` \| (.*) \|$", table, re.M)
+    types = {ending: media for media, endings in rows for ending in re.findall(r"`(\w+)`", endings)}
+    name = path.split(b"/")[-1]
+    ending = name.rpartition(b".")[2].lower().decode("latin-1") if b"." in name else ""
+    return types.get(ending, "application/octet-stream").encode()
+
+
 def run_pack(found, others, message, files):
-    """Each part is a type, a colon and a file, whose name is what follows its last slash; each message is a file (own)."""
-    specs = [word.partition(b":") for word in others]
-    parts = [(media, name.split(b"/")[-1], file_of(files, name)) for media, _, name in specs]
+    """Each part is a file, after its type and a colon or without, and before an equals sign and a name where there is no file of
+    the whole word; a name is what follows the last slash. Each message is a file (own)."""
+    parts = []
+    for word in others:
+        media, colon, name = word.partition(b":") if b":" in word else (None, b"", word)
+        path, equals, other = name.rpartition(b"=")
+        path, name = (path, other) if equals and name not in files else (name, name)
+        parts.append((type_of(path) if media is None else media, name.split(b"/")[-1], file_of(files, path)))
     messages = [file_of(files, name) for name in found.get(b"--forward", [])]
     return packing.run(message, found[b"-b"], parts, b"--utf8" in found, messages)
 
