@@ -1,5 +1,5 @@
 -- What is read before the first space, and then the rest, as it is written.
-use Rattle.std.proofs.Common.{◌≡◌, ◌==◌, ◌<◌, ◌^◌, ℕ, zero, suc, true, false, List, [], ◌∷◌, ◌++◌, Some, None, Option, codes, decimal, map, refl, sym, ap, ◌∙◌, inl, inr, arith}
+use Rattle.std.proofs.Common.{◌≡◌, ◌==◌, ◌<◌, ◌^◌, ℕ, zero, suc, true, false, List, [], ◌∷◌, ◌++◌, Some, None, Option, if◌then◌else◌, codes, decimal, map, refl, sym, ap, ◌∙◌, inl, inr, arith}
 use Rattle.std.proofs.lemmas.Bool.{cases_Bool}
 use Rattle.std.proofs.lemmas.Bool.Decides.{eqb_tells}
 use Rattle.std.proofs.lemmas.Fmt.{decimal_digit}
@@ -9,10 +9,10 @@ use Rattle.std.specs.Option.{option_map, option_and_then}
 use Rattle.std.specs.Str.{bytes_eq}
 use Rattle.mk_line.specs.Ascii.{space, full_stop}
 use Rattle.mk_script.specs.Paths.{parted, number_of, path_of}
-use Rattle.mk_script.specs.Targets.{as_name, is_name, count_of, read_first}
+use Rattle.mk_script.specs.Targets.{as_name, is_file_name, is_name, count_of, parted_last, read_file, read_first}
 use Rattle.mk_script.specs.Written.{IsPath, written_path}
 use Rattle.mk_script.proofs.NumberLemmas.{some_same, none_some, number_of-decimal, number_of-written, decimal_digits}
-use Rattle.mk_script.proofs.PieceLemmas.{HoldsNo, HoldsNo-digits, HoldsNo-join, parted-append, parted-joined}
+use Rattle.mk_script.proofs.PieceLemmas.{HoldsNo, HoldsNo-digits, HoldsNo-join, last-joined, parted-append, parted-joined}
 use Rattle.mk_script.proofs.WrittenLemmas.{decimals_hold, path_of-decimal, path_of-written}
 
 -- a value that is read in two steps was read in the first
@@ -73,6 +73,16 @@ first-read {A} read next text b e =
     let p = and_then-some (λ (p : List ℕ × List ℕ). option_and_then (λ (a : A). next a p.1) (read p.0)) (parted space text) b e in
     let q = and_then-some (λ (a : A). next a p.0.1) (read p.0.0) b p.2 in
     (q.0, p.0.0, p.0.1, q.1, q.2, parted-joined space text p.0 p.1)
+
+-- the name of a file, before the last space
+pub file-read : {B : Type 0} (next : List ℕ → List ℕ → Option B) (text : List ℕ) (b : B) → read_file next text ≡ Some b
+    → (name : List ℕ) × (rest : List ℕ) × (is_file_name name ≡ true) × (next name rest ≡ Some b) × (text ≡ name ++ (space ∷ rest))
+file-read {B} next text b e =
+    let p = and_then-some (λ (p : List ℕ × List ℕ). if is_file_name p.0 then next p.0 p.1 else None) (parted_last space text) b e in
+    elim (cases_Bool (is_file_name p.0.0)) [
+      | inr f ↦ absurd (none_some (rw f at p.2))
+      | inl t ↦ (p.0.0, p.0.1, t, rw t at p.2, last-joined space text p.0 p.1)
+    ]
 
 -- a path
 pub path-read : {B : Type 0} (next : List ℕ → List ℕ → Option B) (text : List ℕ) (b : B) → read_first path_of next text ≡ Some b

@@ -1,5 +1,5 @@
 -- The words of a script that stand for lists of edits, as they are written.
-use Rattle.std.proofs.Common.{◌≡◌, ℕ, true, if◌then◌else◌, List, ◌∷◌, ◌++◌, Option, Some, None, codes, decimal, refl, sym, ap, ◌∙◌, subst, inl, inr}
+use Rattle.std.proofs.Common.{◌≡◌, ℕ, true, if◌then◌else◌, List, ◌∷◌, ◌++◌, Option, Some, None, codes, decimal, refl, sym, ap, ◌∙◌, subst, inl, inr, arith}
 use Rattle.std.proofs.lemmas.Bool.{cases_Bool}
 use Rattle.std.specs.Option.{option_map}
 use Rattle.std.specs.Str.{bytes_eq}
@@ -8,15 +8,15 @@ use Rattle.std.proofs.lemmas.Slice.Eq.{bytes_eq-Decides}
 use Rattle.mk_script.specs.declared.script.ChosenEncoding.{ChosenEncoding}
 use Rattle.mk_script.specs.declared.script.ChosenEncoding.TheVariants.{Qp, QuotedPrintable, Base64, EightBit, Identity}
 use Rattle.mk_script.specs.Paths.{parted, path_of}
-use Rattle.mk_script.specs.Targets.{as_name, is_field_name, is_name, read_first}
+use Rattle.mk_script.specs.Targets.{as_name, is_field_name, is_file_name, is_name, read_file, read_first}
 use Rattle.mk_script.specs.Script.{ScriptWord, SetsContent, SetsText, Encodes, Puts, PutsPiece, DropsAll, Appends, AppendsText, Attaches, AttachesText, chosen, past_charset, piece_of, job_of}
 use Rattle.mk_script.specs.inner.Words.{attaching, attaching_text, content_by, dropping, encoding, placing, putting, with_charset}
 use Rattle.mk_script.specs.Written.{IsPath, IsPiece, encoding_word, written_path, written_place, IsWord, written}
-use Rattle.mk_script.proofs.NumberLemmas.{some_same, none_some}
-use Rattle.mk_script.proofs.PieceLemmas.{parted-append, parted-joined}
+use Rattle.mk_script.proofs.NumberLemmas.{decimal_digits, some_same, none_some}
+use Rattle.mk_script.proofs.PieceLemmas.{HoldsNo-digits, last-append, parted-append, parted-joined}
 use Rattle.mk_script.proofs.PlacedWords.{named, piece-read, piece-written, placing-read, placing-written}
 use Rattle.mk_script.proofs.WrittenLemmas.{path_of-written}
-use Rattle.mk_script.proofs.FirstWords.{and_then-some, map-some, name-read, name_holds, path-read, path_holds}
+use Rattle.mk_script.proofs.FirstWords.{and_then-some, file-read, map-some, name-read, name_holds, path-read, path_holds}
 
 -- the name of a transfer encoding
 chosen-read : (name : List ℕ) (to : ChosenEncoding) → chosen name ≡ Some to → name ≡ encoding_word to
@@ -77,12 +77,12 @@ drop-read count rest word e =
 pub dropping-written : (path name : List ℕ) → IsPath path → is_field_name name ≡ true → dropping (written_path path ++ (space ∷ name)) ≡ Some (DropsAll path name)
 dropping-written path name h n = rw (parted-append space (written_path path) name (path_holds path h), path_of-written path h, n) refl
 
--- a type, a name and a piece
+-- a type, the name of a file and a piece
 attach-read : (count : ℕ) (rest : List ℕ) (word : ScriptWord) → attaching count rest ≡ Some word → IsWord count word × (codes "attach" ++ (space ∷ rest) ≡ written word)
 attach-read count rest word e =
-    let p = path-read (λ path. read_first as_name (λ media. read_first as_name (λ name number. option_map (λ piece. Attaches path media name piece) (piece_of count number)))) rest word e in
-    let m = name-read (λ media. read_first as_name (λ name number. option_map (λ piece. Attaches p.0 media name piece) (piece_of count number))) p.1 word p.3 in
-    let n = name-read (λ name number. option_map (λ piece. Attaches p.0 m.0 name piece) (piece_of count number)) m.1 word m.3 in
+    let p = path-read (λ path. read_first as_name (λ media. read_file (λ name number. option_map (λ piece. Attaches path media name piece) (piece_of count number)))) rest word e in
+    let m = name-read (λ media. read_file (λ name number. option_map (λ piece. Attaches p.0 media name piece) (piece_of count number))) p.1 word p.3 in
+    let n = file-read (λ name number. option_map (λ piece. Attaches p.0 m.0 name piece) (piece_of count number)) m.1 word m.3 in
     let k = map-some (λ piece. Attaches p.0 m.0 n.0 piece) (piece_of count n.1) word n.3 in
     let read = piece-read count n.1 k.0 k.1 in
     let third : m.1 ≡ n.0 ++ (space ∷ decimal k.0) = n.4 ∙ ap (λ l. n.0 ++ (space ∷ l)) read.1 in
@@ -90,10 +90,10 @@ attach-read count rest word e =
     p.4 ∙ ap (λ l. written_path p.0 ++ (space ∷ l)) (m.4 ∙ ap (λ l. m.0 ++ (space ∷ l)) third) in
     subst (λ w. IsWord count w × (codes "attach" ++ (space ∷ rest) ≡ written w)) k.2 ((p.2, m.2, n.2, read.0), ap (λ l. codes "attach" ++ (space ∷ l)) whole)
 
-pub attaching-written : (count : ℕ) (path media name : List ℕ) (piece : ℕ) → IsPath path → is_name media ≡ true → is_name name ≡ true → IsPiece count piece
+pub attaching-written : (count : ℕ) (path media name : List ℕ) (piece : ℕ) → IsPath path → is_name media ≡ true → is_file_name name ≡ true → IsPiece count piece
     → attaching count (written_path path ++ (space ∷ (media ++ (space ∷ (name ++ (space ∷ decimal piece)))))) ≡ Some (Attaches path media name piece)
 attaching-written count path media name piece h m n k =
-    rw (parted-append space (written_path path) (media ++ (space ∷ (name ++ (space ∷ decimal piece)))) (path_holds path h), path_of-written path h, parted-append space media (name ++ (space ∷ decimal piece)) (name_holds media m), m, parted-append space name (decimal piece) (name_holds name n), n, piece-written count piece k) refl
+    rw (parted-append space (written_path path) (media ++ (space ∷ (name ++ (space ∷ decimal piece)))) (path_holds path h), path_of-written path h, parted-append space media (name ++ (space ∷ decimal piece)) (name_holds media m), m, last-append space name (decimal piece) (HoldsNo-digits space (decimal piece) (omega arith) (decimal_digits piece k.fits)), n, piece-written count piece k) refl
 
 -- a type and a piece
 attach_text-read : (count : ℕ) (rest : List ℕ) (word : ScriptWord) → attaching_text count rest ≡ Some word → IsWord count word × (codes "attach-text" ++ (space ∷ rest) ≡ written word)

@@ -1,12 +1,14 @@
 -- Texts in pieces: what is put together is taken apart again.
-use Rattle.std.proofs.Common.{◌≡◌, ◌≢◌, ◌==◌, ◌+◌, ◌<◌, ◌≤◌, ℕ, suc, true, false, nat_lt, List, [], ◌∷◌, ◌++◌, length, Some, None, Option, refl, sym, ap, ◌∙◌, inl, inr, arith}
+use Rattle.std.proofs.Common.{◌≡◌, ◌≢◌, ◌==◌, ◌+◌, ◌-◌, ◌<◌, ◌≤◌, if◌then◌else◌, ℕ, zero, suc, true, false, nat_lt, drop, take, slice_index, List, [], ◌∷◌, ◌++◌, length, Some, None, Option, refl, sym, ap, ◌∙◌, inl, inr, arith}
+use Rattle.std.proofs.lemmas.List.{length-drop, take_all}
 use Rattle.std.proofs.lemmas.Bool.{cases_Bool, eq-eqb, ne_eqb, lt-ltb, le-ltb, ltb-true, ltb-false}
 use Rattle.std.proofs.lemmas.Bool.Decides.{eqb_tells}
 use Rattle.std.specs.List.{join_with_byte, onto_first, position_or_len}
-use Rattle.std.specs.Option.{option_map}
+use Rattle.std.specs.Option.{option_map, option_map_or}
 use Rattle.std.specs.Char.{digit_value}
 use Rattle.std.specs.Str.Parse.{AllDigits}
 use Rattle.mk_script.specs.Paths.{parted}
+use Rattle.mk_script.specs.Targets.{parted_last}
 use Rattle.mk_script.specs.inner.Numbers.{pieces_of}
 use Rattle.mk_script.proofs.NumberLemmas.{some_same, none_some}
 
@@ -134,3 +136,61 @@ parted-joined separator (byte ∷ bytes) p e = elim (eqb_tells byte separator) [
       ap (λ b. b ∷ bytes) h.1 ∙ ap (λ (q : List ℕ × List ℕ). q.0 ++ (separator ∷ q.1)) same
   | inr h ↦ joined-later separator byte bytes p (parted separator bytes) (λ q. parted-joined separator bytes q) (sym (parted-later separator byte bytes h.1) ∙ e)
 ]
+
+-- ---- the text before the last separator, and that after it
+
+pub last-none : (separator : ℕ) (text : List ℕ) → HoldsNo separator text → parted_last separator text ≡ None
+last-none separator [] h = refl
+last-none separator (byte ∷ bytes) h =
+    let other : (byte == separator) ≡ false = ne_eqb byte separator h.0 in
+    rw (last-none separator bytes h.1, other) refl
+
+pub last-append : (separator : ℕ) (front rest : List ℕ) → HoldsNo separator rest → parted_last separator (front ++ (separator ∷ rest)) ≡ Some (front, rest)
+last-append separator [] rest h =
+    let here : (separator == separator) ≡ true = eq-eqb separator separator refl in
+    rw (last-none separator rest h, here) refl
+last-append separator (byte ∷ bytes) rest h = rw (last-append separator bytes rest h) refl
+
+last-later : (separator byte : ℕ) (bytes : List ℕ) (p : List ℕ × List ℕ) (parts : Option (List ℕ × List ℕ))
+    → ((q : List ℕ × List ℕ) → parts ≡ Some q → bytes ≡ q.0 ++ (separator ∷ q.1))
+    → option_map_or (λ q. Some (byte ∷ q.0, q.1)) parts (if byte == separator then Some ([], bytes) else None) ≡ Some p → byte ∷ bytes ≡ p.0 ++ (separator ∷ p.1)
+last-later separator byte bytes p (Some q) joined e =
+    let same : (byte ∷ q.0, q.1) ≡ p = some_same e in
+    ap (λ rest. byte ∷ rest) (joined q refl) ∙ ap (λ (r : List ℕ × List ℕ). r.0 ++ (separator ∷ r.1)) same
+last-later separator byte bytes p None joined e = elim (eqb_tells byte separator) [
+  | inl h ↦
+      let same : ([], bytes) ≡ p = some_same (rw h.0 at e) in
+      ap (λ b. b ∷ bytes) h.1 ∙ ap (λ (q : List ℕ × List ℕ). q.0 ++ (separator ∷ q.1)) same
+  | inr h ↦ absurd (none_some (rw h.0 at e))
+]
+
+pub last-joined : (separator : ℕ) (text : List ℕ) (p : List ℕ × List ℕ) → parted_last separator text ≡ Some p → text ≡ p.0 ++ (separator ∷ p.1)
+last-joined separator [] p e = absurd (none_some e)
+last-joined separator (byte ∷ bytes) p e = last-later separator byte bytes p (parted_last separator bytes) (λ q. last-joined separator bytes q) e
+
+-- read from the end on, the separator that is found is the last
+pub last-found : (separator : ℕ) (text : List ℕ) (end : ℕ) → end < length text → slice_index text end ≡ separator → parted_last separator (drop (suc end) text) ≡ None
+    → parted_last separator text ≡ Some (take end text, drop (suc end) text)
+last-found separator [] end small is none = absurd (omega arith)
+last-found separator (byte ∷ bytes) zero small is none =
+    let here : (byte == separator) ≡ true = eq-eqb byte separator is in
+    rw (none, here) refl
+last-found separator (byte ∷ bytes) (suc end) small is none =
+    rw (last-found separator bytes end (omega arith) is none) refl
+
+pub last-before : (separator : ℕ) (text : List ℕ) (end : ℕ) → end < length text → (slice_index text end == separator) ≡ false → parted_last separator (drop (suc end) text) ≡ None
+    → parted_last separator (drop end text) ≡ None
+last-before separator [] end small is none = absurd (omega arith)
+last-before separator (byte ∷ bytes) zero small is none = rw (none, is) refl
+last-before separator (byte ∷ bytes) (suc end) small is none = last-before separator bytes end (omega arith) is none
+
+-- the parts as the code slices them
+pub last-sliced : (separator : ℕ) (text : List ℕ) (end : ℕ) → end ≤ length text → 0 < end → slice_index text (end - 1) ≡ separator → parted_last separator (drop end text) ≡ None
+    → Some (take (end - 1) text, take (length text - (end - 1 + 1)) (drop (end - 1 + 1) text)) ≡ parted_last separator text
+last-sliced separator text zero fits some is none = absurd (omega arith)
+last-sliced separator text (suc end) fits some is none =
+    let less : suc end - 1 ≡ end = omega arith in
+    let one : end + 1 ≡ suc end = omega arith in
+    let found = last-found separator text end (omega arith) (ap (slice_index text) (sym less) ∙ is) none in
+    let whole : take (length text - suc end) (drop (suc end) text) ≡ drop (suc end) text = take_all (length text - suc end) (drop (suc end) text) (omega (arith, length-drop (suc end) text)) in
+    rw (less, one, whole) (sym found)

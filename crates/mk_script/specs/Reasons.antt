@@ -14,7 +14,7 @@ use Rattle.mk_script.specs.declared.reasons.LineFault.TheVariants.{UnknownWord, 
 use Rattle.mk_script.specs.Paths.{number_of, path_of}
 use Rattle.mk_script.specs.Script.{ScriptLine, Edits, Undoes, Redoes, Begins, Ends, line_of, past_charset}
 use Rattle.mk_script.specs.ScriptSteps.{ScriptStep, script_as_one, script_of}
-use Rattle.mk_script.specs.Targets.{count_of, is_field_name, is_name}
+use Rattle.mk_script.specs.Targets.{count_of, is_field_name, is_file_name, is_name, parted_last}
 
 -- the words of scripts, and what they take
 abbrev pub words : List (List (List ℕ) × List Argument)
@@ -29,7 +29,7 @@ words =
     ∷ (codes "wrap" ∷ [], takes.Path ∷ takes.Name ∷ takes.Text ∷ [])
     ∷ (codes "encode" ∷ [], takes.Path ∷ takes.Encoding ∷ [])
     ∷ (codes "drop" ∷ [], takes.Path ∷ takes.FieldName ∷ [])
-    ∷ (codes "attach" ∷ [], takes.Path ∷ takes.Name ∷ takes.Name ∷ takes.Piece ∷ [])
+    ∷ (codes "attach" ∷ [], takes.Path ∷ takes.Name ∷ takes.NameAndPiece ∷ [])
     ∷ (codes "attach-text" ∷ [], takes.Path ∷ takes.Name ∷ takes.Piece ∷ [])
     ∷ (codes "undo" ∷ codes "redo" ∷ codes "begin" ∷ codes "end" ∷ [], [])
     ∷ []
@@ -48,6 +48,15 @@ is_argument takes.Paths text = true
 is_argument takes.Piece text = true
 is_argument takes.Encoding text = true
 is_argument takes.Text text = true
+is_argument takes.NameAndPiece text = true
+
+-- what is wrong with a piece
+abbrev pub piece_fault : List ℕ → LineFault
+piece_fault text = if is_some (number_of text) then NoSuchPiece else BadNumber
+
+-- what is wrong with the name of a file and a piece after the last space: no space stands at an end of either
+abbrev pub named_piece_fault : List ℕ × List ℕ → LineFault
+named_piece_fault p = if is_file_name p.0 && not (is_nil p.1) then piece_fault p.1 else Spaces
 
 -- what is wrong with an argument; a name can only be empty or hold a space
 abbrev pub fault_of : Argument → List ℕ → LineFault
@@ -56,14 +65,16 @@ fault_of takes.Paths text = BadPath
 fault_of takes.Name text = Spaces
 fault_of takes.FieldName text = BadFieldName
 fault_of takes.Count text = BadNumber
-fault_of takes.Piece text = if is_some (number_of text) then NoSuchPiece else BadNumber
+fault_of takes.Piece text = piece_fault text
 fault_of takes.Encoding text = BadEncoding
 fault_of takes.Text text = Missing
+fault_of takes.NameAndPiece text = option_map_or named_piece_fault (parted_last space text) Missing
 
 -- whether an argument may hold spaces
 abbrev pub holds_spaces : Argument → Bool
 holds_spaces takes.Paths = true
 holds_spaces takes.Text = true
+holds_spaces takes.NameAndPiece = true
 holds_spaces _ = false
 
 -- what is wrong with the last argument, where the others are right

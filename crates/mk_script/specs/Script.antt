@@ -8,7 +8,7 @@ use Rattle.mk_line.specs.Lines.{TextLine, cut}
 use Rattle.mk_script.specs.declared.script.ChosenEncoding.{ChosenEncoding}
 use Rattle.mk_script.specs.declared.script.ChosenEncoding.TheVariants.{Qp, QuotedPrintable, Base64, EightBit, Identity}
 use Rattle.mk_script.specs.Paths.{parted, number_of, read_each, path_of}
-use Rattle.mk_script.specs.Targets.{Target, as_name, is_name, is_field_name, count_of, read_first, whole_target, target_front}
+use Rattle.mk_script.specs.Targets.{Target, as_name, is_name, is_field_name, count_of, read_file, read_first, whole_target, target_front}
 
 -- b'#'
 abbrev pub number_sign : ℕ
@@ -67,8 +67,8 @@ past_charset rest = option_and_then (λ p. if bytes_eq p.0 (codes "--charset") t
 
 -- a word that stands for more than one edit, where there are so many pieces. `content`, `put-piece`, `append` and `append-text`
 -- are given a path and a piece, and `content` a charset before them after `--charset`; `encode` a path and a transfer encoding;
--- `put` a path and a field; `drop` a path and the name of fields; `attach` a path, a media type, a name and a piece;
--- `attach-text` the same without the name. A field may hold spaces and may be empty.
+-- `put` a path and a field; `drop` a path and the name of fields; `attach` a path, a media type, the name of a file and a piece;
+-- `attach-text` the same without the name. A field may hold spaces and may be empty; the name of a file may hold spaces.
 abbrev pub job_of : ℕ → List ℕ × List ℕ → Option ScriptWord
 job_of count p =
     if bytes_eq p.0 (codes "content") then option_map_or (read_first as_name (λ charset place. option_map (λ q. SetsText charset q.0 q.1) (placed count place))) (past_charset p.1) (option_map (λ q. SetsContent q.0 q.1) (placed count p.1))
@@ -78,7 +78,7 @@ job_of count p =
     else (if bytes_eq p.0 (codes "drop") then read_first path_of (λ path name. if is_field_name name then Some (DropsAll path name) else None) p.1
     else (if bytes_eq p.0 (codes "append") then option_map (λ q. Appends q.0 q.1) (placed count p.1)
     else (if bytes_eq p.0 (codes "append-text") then option_map (λ q. AppendsText q.0 q.1) (placed count p.1)
-    else (if bytes_eq p.0 (codes "attach") then read_first path_of (λ path. read_first as_name (λ media. read_first as_name (λ name number. option_map (λ piece. Attaches path media name piece) (piece_of count number)))) p.1
+    else (if bytes_eq p.0 (codes "attach") then read_first path_of (λ path. read_first as_name (λ media. read_file (λ name number. option_map (λ piece. Attaches path media name piece) (piece_of count number)))) p.1
     else (if bytes_eq p.0 (codes "attach-text") then read_first path_of (λ path. read_first as_name (λ media number. option_map (λ piece. AttachesText path media piece) (piece_of count number))) p.1 else None))))))))
 
 -- a word that changes more than fields, where there are so many pieces. `body` and `replace` are given a path and a piece;

@@ -1,5 +1,5 @@
 -- How a script picks a field (own): by a path, a name, and its number among the fields of that name, parted by one space.
-use Rattle.std.specs.Prelude.{◌==◌, ◌&&◌, if◌then◌else◌, ℕ, Bool, not, List, Option, None, Some, codes}
+use Rattle.std.specs.Prelude.{◌==◌, ◌-◌, ◌&&◌, if◌then◌else◌, ℕ, Bool, not, List, [], ◌∷◌, Option, None, Some, codes, length, slice_index}
 use Rattle.std.specs.List.{list_any}
 use Rattle.std.specs.Option.{option_map, option_map_or, option_and_then}
 use Rattle.std.specs.Str.{bytes_eq}
@@ -17,6 +17,15 @@ pub record Target : Type 0 where
 -- a name is not empty and holds no space
 abbrev pub is_name : List ℕ → Bool
 is_name text = not (is_nil text) && not (list_any (λ byte. byte == space) text)
+
+-- the name of a file may hold spaces, but not at its ends, and isn't empty
+abbrev pub is_file_name : List ℕ → Bool
+is_file_name text = not (is_nil text) && not (slice_index text 0 == space) && not (slice_index text (length text - 1) == space)
+
+-- what stands before the last separator and what follows it, where there is one
+abbrev pub parted_last : ℕ → List ℕ → Option (List ℕ × List ℕ)
+parted_last separator [] = None
+parted_last separator (byte ∷ bytes) = option_map_or (λ p. Some (byte ∷ p.0, p.1)) (parted_last separator bytes) (if byte == separator then Some ([], bytes) else None)
 
 -- the name of fields that a text writes: what stands before a colon at its end, or the whole text where there is none
 abbrev pub field_name_in : List ℕ → List ℕ
@@ -37,6 +46,10 @@ read_first read next text = option_and_then (λ p. option_and_then (λ first. ne
 -- a text, where it is a name
 abbrev pub as_name : List ℕ → Option (List ℕ)
 as_name text = if is_name text then Some text else None
+
+-- what stands before the last space, where it is the name of a file, and then what follows it
+abbrev pub read_file : {B : Type 0} → (List ℕ → List ℕ → Option B) → List ℕ → Option B
+read_file next text = option_and_then (λ p. if is_file_name p.0 then next p.0 p.1 else None) (parted_last space text)
 
 -- the field that a whole text picks: a path, a name, and the number among the fields of the name
 abbrev pub whole_target : List ℕ → Option Target

@@ -5,7 +5,7 @@ use Rattle.mk_line.specs.Ascii.{space, full_stop}
 use Rattle.mk_script.specs.declared.script.ChosenEncoding.{ChosenEncoding}
 use Rattle.mk_script.specs.declared.script.ChosenEncoding.TheVariants.{Qp, QuotedPrintable, Base64, EightBit, Identity}
 use Rattle.mk_script.specs.Paths.{max_components}
-use Rattle.mk_script.specs.Targets.{Target, is_field_name, is_name}
+use Rattle.mk_script.specs.Targets.{Target, is_field_name, is_file_name, is_name}
 use Rattle.mk_script.specs.Script.{ScriptWord, Adds, Deletes, Renames, Sets, Bodies, Replaces, Inserts, Removes, Wraps, SetsContent, SetsText, Encodes, Puts, PutsPiece, DropsAll, Appends, AppendsText, Attaches, AttachesText, ScriptLine, Edits, Undoes, Redoes, Begins, Ends}
 
 -- numbers that may lead to a section: from 1 on, and each fits 32 bits
@@ -53,7 +53,7 @@ IsWord count (PutsPiece path piece) = IsPath path × IsPiece count piece
 IsWord count (DropsAll path name) = IsPath path × (is_field_name name ≡ true)
 IsWord count (Appends path piece) = IsPath path × IsPiece count piece
 IsWord count (AppendsText path piece) = IsPath path × IsPiece count piece
-IsWord count (Attaches path media name piece) = IsPath path × (is_name media ≡ true) × (is_name name ≡ true) × IsPiece count piece
+IsWord count (Attaches path media name piece) = IsPath path × (is_name media ≡ true) × (is_file_name name ≡ true) × IsPiece count piece
 IsWord count (AttachesText path media piece) = IsPath path × (is_name media ≡ true) × IsPiece count piece
 
 -- a line that may be written where there are so many pieces

@@ -9,7 +9,7 @@ ghost use Rattle.mk_script.specs.ScriptViews.{said_by};
 use crate::paths::{parted, path};
 use crate::pieces::{piece, placed};
 use crate::script::{ChosenEncoding, Word};
-use crate::targets::{SPACE, is_field_name, is_name};
+use crate::targets::{SPACE, is_field_name, is_file_name, is_name, parted_last};
 use std::alloc::{AllocError, Global};
 
 /// The option of `content` that names a charset.
@@ -197,7 +197,7 @@ fn read_append_text(alloc: Global, rest: &[u8], pieces: usize) -> Result<Option<
     }
 }
 
-// The word for a file as the last part, which is given a path, a media type, a name and a piece.
+// The word for a file as the last part, which is given a path, a media type, the name of the file and a piece.
 fn read_attach(alloc: Global, rest: &[u8], pieces: usize) -> Result<Option<Word>, AllocError>
     ensures { IfOk result (λ word. option_map said_by word ≡ attaching pieces rest.now) }
 {
@@ -213,10 +213,10 @@ fn read_attach(alloc: Global, rest: &[u8], pieces: usize) -> Result<Option<Word>
     if !is_name(media) {
         return Ok(None);
     }
-    let Some((name, number)) = parted(more, SPACE) else {
+    let Some((name, number)) = parted_last(more, SPACE) else {
         return Ok(None);
     };
-    if !is_name(name) {
+    if !is_file_name(name) {
         return Ok(None);
     }
     let Some(piece) = piece(number, pieces) else {

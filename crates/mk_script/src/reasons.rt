@@ -9,7 +9,7 @@ ghost use Rattle.mk_line.specs.Ascii.{space};
 ghost use Rattle.mk_line.specs.Lines.{cut as lines_of_text, is_nil};
 ghost use Rattle.mk_line.specs.Parting.{before, following};
 ghost use Rattle.mk_script.specs.declared.reasons.LineFault.TheVariants.{Missing, Spaces, UnknownWord};
-ghost use Rattle.mk_script.specs.Reasons.{arguments_fault as fault_of_arguments, arguments_of, fault_of as own_fault_of, first_invalid as first_invalid_line, given_fault as fault_of_given, holds_spaces as may_hold_spaces, is_argument as may_stand, last_fault as fault_of_last, line_text as text_of_line, place_fault as fault_of_place, steps_of, word_fault as fault_of_word, words};
+ghost use Rattle.mk_script.specs.Reasons.{arguments_fault as fault_of_arguments, arguments_of, fault_of as own_fault_of, first_invalid as first_invalid_line, given_fault as fault_of_given, holds_spaces as may_hold_spaces, is_argument as may_stand, last_fault as fault_of_last, line_text as text_of_line, named_piece_fault as fault_of_named, piece_fault as own_fault_of_piece, place_fault as fault_of_place, steps_of, word_fault as fault_of_word, words};
 ghost use Rattle.mk_script.specs.Script.{past_charset};
 ghost use Rattle.mk_script.specs.inner.Lines.{line_by};
 
@@ -17,7 +17,7 @@ use crate::groups::{ScriptError, steps, steps_as_one};
 use crate::jobs::after_charset;
 use crate::paths::{count, number, path};
 use crate::script::{Said, read_line};
-use crate::targets::{SPACE, is_field_name, is_name};
+use crate::targets::{SPACE, is_field_name, is_file_name, is_name, parted_last};
 use mk_line::{cut, split_at_first};
 use std::alloc::{AllocError, Global};
 
@@ -41,12 +41,7 @@ const SET: &[Argument] = &[
 ];
 
 /// What `attach` takes.
-const ATTACHED: &[Argument] = &[
-    Argument::Path,
-    Argument::Name,
-    Argument::Name,
-    Argument::Piece,
-];
+const ATTACHED: &[Argument] = &[Argument::Path, Argument::Name, Argument::NameAndPiece];
 
 /// What a word takes at a place.
 #[derive(Clone, Copy, Debug, PartialEq, Eq)]
@@ -62,6 +57,8 @@ pub(crate) enum Argument {
     Encoding,
     /// All that is left of the line, which may be empty.
     Text,
+    /// The name of a file, which may hold spaces, and a piece.
+    NameAndPiece,
 }
 
 /// Why a line of a script is invalid.
@@ -339,7 +336,11 @@ fn is_argument(alloc: Global, argument: Argument, text: &[u8]) -> Result<bool, A
         Argument::Name => Ok(is_name(text)),
         Argument::FieldName => Ok(is_field_name(text)),
         Argument::Count => Ok(count(text).is_some()),
-        Argument::Paths | Argument::Piece | Argument::Encoding | Argument::Text => Ok(true),
+        Argument::Paths
+        | Argument::Piece
+        | Argument::Encoding
+        | Argument::Text
+        | Argument::NameAndPiece => Ok(true),
     }
 }
 
@@ -361,7 +362,10 @@ fn last_fault(argument: Argument, text: &[u8]) -> LineFault
 fn holds_spaces(argument: Argument) -> bool
     ensures { result ≡ may_hold_spaces argument }
 {
-    matches!(argument, Argument::Paths | Argument::Text)
+    matches!(
+        argument,
+        Argument::Paths | Argument::Text | Argument::NameAndPiece
+    )
 }
 
 // What is wrong with an argument. An empty one stands where a space stands twice.
@@ -383,9 +387,34 @@ fn own_fault(argument: Argument, text: &[u8]) -> LineFault
         Argument::Name => LineFault::Spaces,
         Argument::FieldName => LineFault::BadFieldName,
         Argument::Count => LineFault::BadNumber,
-        Argument::Piece if number(text).is_some() => LineFault::NoSuchPiece,
-        Argument::Piece => LineFault::BadNumber,
+        Argument::Piece => piece_fault(text),
         Argument::Encoding => LineFault::BadEncoding,
         Argument::Text => LineFault::Missing,
+        Argument::NameAndPiece => match parted_last(text, SPACE) {
+            Some((name, piece)) => named_piece_fault(name, piece),
+            None => LineFault::Missing,
+        },
+    }
+}
+
+// What is wrong with a piece.
+fn piece_fault(text: &[u8]) -> LineFault
+    ensures { result ≡ own_fault_of_piece text.now }
+{
+    if number(text).is_some() {
+        LineFault::NoSuchPiece
+    } else {
+        LineFault::BadNumber
+    }
+}
+
+// What is wrong with the name of a file and the piece after it. An empty one stands where a space stands twice.
+fn named_piece_fault(name: &[u8], piece: &[u8]) -> LineFault
+    ensures { result ≡ fault_of_named (name.now, piece.now) }
+{
+    if is_file_name(name) && !piece.is_empty() {
+        piece_fault(piece)
+    } else {
+        LineFault::Spaces
     }
 }

@@ -3,7 +3,7 @@
 ghost use Rattle.std.specs.Prelude.{◌≡◌, IfOk};
 ghost use Rattle.std.specs.Option.{option_map};
 ghost use Rattle.mk_script.specs.ScriptViews.{picked_by};
-ghost use Rattle.mk_script.specs.Targets.{field_name_in, is_field_name as names_fields, is_name as names, whole_target as whole_of, target_front as front_of};
+ghost use Rattle.mk_script.specs.Targets.{field_name_in, is_field_name as names_fields, is_file_name as names_file, is_name as names, parted_last as parted_at_last, whole_target as whole_of, target_front as front_of};
 ghost use Rattle.mk_script.specs.inner.Words.{target_of};
 
 use crate::paths::{count, parted, path};
@@ -28,6 +28,27 @@ pub fn is_name(text: &[u8]) -> bool
     ensures { result ≡ names text.now }
 {
     !text.is_empty() && !text.contains(&SPACE)
+}
+
+/// Whether the text may be the name of a file in a line: it isn't empty, and no space stands at its start or end.
+pub(crate) fn is_file_name(text: &[u8]) -> bool
+    ensures { result ≡ names_file text.now }
+{
+    !text.is_empty() && text[0] != SPACE && text[text.len() - 1] != SPACE
+}
+
+/// What stands before the last separator and what follows it, where there is one.
+pub(crate) fn parted_last(text: &[u8], separator: u8) -> Option<(&[u8], &[u8])>
+    ensures { option_map (λ p. (p.0.now, p.1.now)) result ≡ parted_at_last separator text.now }
+{
+    let mut end = text.len();
+    'each: while end > 0 {
+        end -= 1;
+        if text[end] == separator {
+            return Some((&text[..end], &text[end + 1..]));
+        }
+    }
+    None
 }
 
 /// The name of fields that a text writes: without the colon at its end, where it has one.

@@ -5,7 +5,7 @@ use Rattle.std.specs.Option.{option_map, option_map_or, option_and_then}
 use Rattle.mk_line.specs.Ascii.{space}
 use Rattle.mk_script.specs.Paths.{path_of, read_each}
 use Rattle.mk_script.specs.Script.{ScriptWord, Adds, Deletes, Renames, Sets, Inserts, Removes, Wraps, SetsContent, SetsText, Encodes, Puts, DropsAll, Attaches, AttachesText, chosen, piece_of, placed}
-use Rattle.mk_script.specs.Targets.{Target, as_name, count_of, is_field_name, is_name, read_first, target_front, whole_target}
+use Rattle.mk_script.specs.Targets.{as_name, count_of, is_field_name, is_name, read_file, read_first, Target, target_front, whole_target}
 
 -- the field that is picked by the texts of a path, a name and a number
 abbrev pub target_of : List ℕ → List ℕ → List ℕ → Option Target
@@ -58,7 +58,7 @@ dropping rest = read_first path_of (λ path name. if is_field_name name then Som
 
 -- `attach`
 abbrev pub attaching : ℕ → List ℕ → Option ScriptWord
-attaching count rest = read_first path_of (λ path. read_first as_name (λ media. read_first as_name (λ name number. option_map (λ piece. Attaches path media name piece) (piece_of count number)))) rest
+attaching count rest = read_first path_of (λ path. read_first as_name (λ media. read_file (λ name number. option_map (λ piece. Attaches path media name piece) (piece_of count number)))) rest
 
 -- `attach-text`
 abbrev pub attaching_text : ℕ → List ℕ → Option ScriptWord
