@@ -1,5 +1,5 @@
 -- The boundary that is made of what is packed is one.
-use Rattle.std.proofs.Common.{◌≡◌, ◌≤◌, ◌==◌, ℕ, zero, suc, true, false, List, [], ◌∷◌, refl, length, take, arith, nat_le}
+use Rattle.std.proofs.Common.{◌≡◌, ◌≤◌, ◌==◌, ℕ, zero, suc, true, false, List, [], ◌∷◌, ◌++◌, refl, length, take, arith, nat_le}
 use Rattle.std.specs.List.{list_all}
 use Rattle.mk_line.specs.Ascii.{space}
 use Rattle.mk_head.specs.Boundaries.{ends_in_space, is_boundary, is_boundary_byte}
@@ -8,7 +8,7 @@ use Rattle.mk_splice.specs.Grammar.{is_hex}
 use Rattle.mk_splice.specs.Journals.{digest_of}
 use Rattle.mk_splice.proofs.Hexes.{digest_good}
 use Rattle.mk_build.specs.Building.{Attached}
-use Rattle.mk_pack.specs.OwnBoundary.{all_packed, own_boundary}
+use Rattle.mk_pack.specs.OwnBoundary.{all_packed, boundary_beside, measured, own_boundary}
 
 -- digits alone
 abbrev pub AreHex : List ℕ → Type 0
@@ -46,7 +46,12 @@ short n h = grind (arith, h)
 good : (cs : List ℕ) → AreHex cs → length cs ≤ 24 → is_boundary (61 ∷ 95 ∷ cs) ≡ true
 good cs h less = rw (all_stand cs h, ends_well 95 cs refl h, short (length cs) less) refl
 
+-- the digest of any text
+digest_is_boundary : (text : List ℕ) → is_boundary (61 ∷ 95 ∷ take 24 (digest_of text)) ≡ true
+digest_is_boundary text = good (take 24 (digest_of text)) (taken 24 64 (digest_of text) (digest_good text)) (few 24 (digest_of text))
+
 pub own_is_boundary : (fields : List (List ℕ)) (parts : List Attached) → is_boundary (own_boundary fields parts) ≡ true
-own_is_boundary fields parts =
-    let digest = digest_of (all_packed fields parts) in
-    good (take 24 digest) (taken 24 64 digest (digest_good (all_packed fields parts))) (few 24 digest)
+own_is_boundary fields parts = digest_is_boundary (all_packed fields parts)
+
+pub beside_is_boundary : (section part : List ℕ) → is_boundary (boundary_beside section part) ≡ true
+beside_is_boundary section part = digest_is_boundary (measured section ++ measured part)

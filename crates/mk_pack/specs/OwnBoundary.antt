@@ -24,3 +24,7 @@ digits_kept = 24
 -- `=_`, which stands in no line of quoted-printable or base64 (RFC 2045, 6.7), and the first digits of the SHA-256
 abbrev pub own_boundary : List (List ℕ) → List Attached → List ℕ
 own_boundary fields parts = codes "=_" ++ take digits_kept (digest_of (all_packed fields parts))
+
+-- the same for a multipart of a section and a part that is put beside it: made of both
+abbrev pub boundary_beside : (section part : List ℕ) → List ℕ
+boundary_beside section part = codes "=_" ++ take digits_kept (digest_of (measured section ++ measured part))

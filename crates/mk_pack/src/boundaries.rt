@@ -1,6 +1,6 @@
 //! The boundary that is made of what is packed.
 
-ghost use Rattle.std.specs.Prelude.{◌≡◌, ◌++◌, List, ℕ, unwrap_or, map, [], IfOk};
+ghost use Rattle.std.specs.Prelude.{◌≡◌, ◌++◌, List, ℕ, codes, take, unwrap_or, map, [], IfOk};
 ghost use Rattle.std.specs.List.{flat_map};
 ghost use Rattle.hex.specs.Hex.{encode_lower};
 ghost use Rattle.sha2.specs.Hashers.{Holds256};
@@ -8,7 +8,7 @@ ghost use Rattle.mk_build.specs.BuildViews.{attached_of};
 ghost use Rattle.mk_build.specs.ForwardViews.{forwarded_of};
 ghost use Rattle.mk_splice.specs.Journals.{digest_of};
 ghost use Rattle.mk_pack.specs.FreeBoundary.{all_packed_with, are_clear as are_all_clear, first_boundary as first_of_all, free_boundary as boundary_of, measured_message, number_mark};
-ghost use Rattle.mk_pack.specs.OwnBoundary.{measured, measured_part};
+ghost use Rattle.mk_pack.specs.OwnBoundary.{boundary_beside as boundary_of_both, digits_kept, measured, measured_part};
 
 use hex::encode_to_slice;
 use itoa::Buffer;
@@ -57,10 +57,35 @@ fn first_boundary(
 ) -> Result<Vec<u8>, AllocError>
     ensures { IfOk result (λ b. b.items ≡ first_of_all (map (λ f. f.items) fields.now) (map attached_of parts.now) (map forwarded_of messages.now)) }
 {
+    marked(alloc, &digest(fields, parts, messages))
+}
+
+/// The boundary of a multipart of a section and of the part that is put beside it: made of both, so that in practice it stands
+/// in neither.
+pub fn boundary_beside(alloc: Global, section: &[u8], part: &[u8]) -> Result<Vec<u8>, AllocError>
+    ensures { IfOk result (λ b. b.items ≡ boundary_of_both section.now part.now) }
+{
+    marked(alloc, &digest_of_both(section, part))
+}
+
+// The mark and the first digits of a digest.
+fn marked(alloc: Global, digest: &[u8; 64]) -> Result<Vec<u8>, AllocError>
+    ensures { IfOk result (λ b. b.items ≡ codes "=_" ++ take digits_kept digest.now) }
+{
     let mut boundary = Vec::from_slice(alloc, MARK)?;
-    boundary.extend_from_slice(&digest(fields, parts, messages))?;
+    boundary.extend_from_slice(digest)?;
     boundary.truncate(LENGTH);
     Ok(boundary)
+}
+
+// The digest of two texts, each after its length, in hexadecimal digits.
+fn digest_of_both(first: &[u8], second: &[u8]) -> [u8; 64]
+    ensures { result ≡ digest_of (measured first.now ++ measured second.now) }
+{
+    let mut hasher = Sha256::new();
+    add_measured(&mut hasher, first);
+    add_measured(&mut hasher, second);
+    hexed(&hasher.finalize())
 }
 
 // The boundary of a number after the first one.

@@ -6,7 +6,7 @@ ghost use Rattle.mk_head.specs.Boundaries.{is_boundary};
 ghost use Rattle.mk_build.specs.Building.{Attached};
 ghost use Rattle.mk_build.specs.Forwards.{Forwarded};
 ghost use Rattle.mk_pack.specs.FreeBoundary.{are_clear, free_boundary, last_number, line_count};
-ghost use Rattle.mk_pack.specs.OwnBoundary.{measured, own_boundary};
+ghost use Rattle.mk_pack.specs.OwnBoundary.{boundary_beside, measured, own_boundary};
 ghost use Rattle.mk_pack.specs.Packing.{BodiesAreRefused};
 
 /// A text with a body is never packed: its first field that can't be at the start is named, or else their number.
@@ -17,6 +17,11 @@ pub fn bodies_are_refused()
 /// The boundary that is made of what is packed is always valid.
 pub fn own_boundaries_are_boundaries()
     ensures { (fields : List (List ℕ)) (parts : List Attached) → is_boundary (own_boundary fields parts) ≡ true }
+{}
+
+/// The boundary that is made of a section and a part beside it is always valid.
+pub fn boundaries_beside_are_boundaries()
+    ensures { (section part : List ℕ) → is_boundary (boundary_beside section part) ≡ true }
 {}
 
 /// Where no message is forwarded, the boundary is that of the fields and the parts.

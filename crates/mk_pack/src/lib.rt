@@ -26,6 +26,7 @@ mod packing;
 mod parts;
 
 pub use alone::try_part;
+pub use boundaries::boundary_beside;
 pub use mk_build::{AttachOptions, Forward, MIXED};
 pub use packing::{PackOptions, run_pack, try_pack, turned_parts};
 pub use parts::Spec;
