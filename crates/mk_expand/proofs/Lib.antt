@@ -16,3 +16,4 @@ pub mod NewParts
 pub mod TextsPut
 pub mod RemovalOrder
 pub mod RemovalsMade
+pub mod BesideKept

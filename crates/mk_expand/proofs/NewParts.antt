@@ -1,36 +1,40 @@
--- Where `append` to a multipart is accepted, the new part stands at its number, and is read from the text that was given.
-use Rattle.std.proofs.Common.{◌≡◌, ◌||◌, ◌+◌, ◌++◌, if◌then◌else◌, ℕ, zero, suc, Bool, true, false, nat_le, nat_lt, length, Option, None, Some, Result, Ok, Err, List, [], ◌∷◌, refl, ap, sym, ◌∙◌, subst, inl, inr, option_and_then, arith, length-append}
+-- Where `append` is accepted, the new part stands at its number, and is read from the text that was given.
+use Rattle.std.proofs.Common.{codes, ◌≡◌, ◌||◌, ◌+◌, ◌++◌, if◌then◌else◌, ℕ, zero, suc, Bool, true, false, nat_le, nat_lt, length, Option, None, Some, Result, Ok, Err, List, [], ◌∷◌, refl, ap, sym, ◌∙◌, subst, inl, inr, option_and_then, arith, length-append}
 use Rattle.std.proofs.lemmas.Bool.{cases_Bool, le-ltb, leb-false, lt-ltb}
 use Rattle.std.proofs.lemmas.List.{append-nil}
 use Rattle.std.specs.Option.{option_map, option_map_or}
 use Rattle.mk_line.specs.declared.cutting.Ending.{Ending}
 use Rattle.mk_line.specs.declared.marks.Mark.TheVariants.{No, Close}
 use Rattle.mk_line.specs.Lines.{TextLine, cut, ending_bytes, eol_of, text_of}
-use Rattle.mk_line.specs.Marks.{delimiter_line, mark}
+use Rattle.mk_line.specs.Marks.{close_line, delimiter_line, mark}
 use Rattle.mk_line.proofs.Cuts.{text_append}
+use Rattle.mk_head.specs.Boundaries.{is_boundary}
 use Rattle.mk_head.specs.Split.{Head, head_lines}
 use Rattle.mk_head.specs.Fields.{counted}
 use Rattle.mk_tree.specs.Cutting.{tail_lines}
 use Rattle.mk_tree.specs.Reading.{Closes}
 use Rattle.mk_tree.specs.Documents.{Document, IsStable, document_lines, levels, tree}
 use Rattle.mk_tree.specs.Places.{Frame, in_message, in_multi, append_parts, default_at, left_at, part_at, place_at, placed, plug, put}
-use Rattle.mk_tree.specs.Sections.{Placed, children, has_part, parts_placed, section_at}
+use Rattle.mk_tree.specs.Sections.{Placed, children, has_part, parts_placed, raw_of, section_at}
 use Rattle.mk_tree.proofs.TreeNames.{has_tail}
 use Rattle.mk_tree.specs.Spans.{digest_below, size}
 use Rattle.mk_tree.specs.Tree.{Entity, leaf, message, multi, Parts, no_parts, part, print, print_parts, read}
 use Rattle.mk_tree.proofs.FieldsChanged.{stable_well}
 use Rattle.mk_tree.proofs.Plugs.{own_of}
 use Rattle.mk_tree.proofs.Stability.{read_stable}
-use Rattle.mk_decide.specs.Edits.{Refusal, InsertPart, SetSection}
+use Rattle.mk_decide.specs.Edits.{Refusal, InsertPart, SetSection, Wrap}
 use Rattle.mk_decide.specs.Outcomes.{edited}
-use Rattle.mk_decide.specs.Plans.{Plan, part_plan, parts_at, place_of, plan_of}
+use Rattle.mk_decide.specs.Plans.{Plan, part_plan, parts_at, place_of, plan_at, plan_of, wrap}
+use Rattle.mk_decide.specs.Wrapping.{inner_part, outer_head, wrapped}
 use Rattle.mk_decide.proofs.PlanNames.{insert_between, part_read}
 use Rattle.mk_decide.proofs.Accepted.{none_some, ok_same, plan_by, some_same, there_again}
 use Rattle.mk_decide.proofs.EveryEdit.{plan_there}
 use Rattle.mk_decide.proofs.Late.{fair}
 use Rattle.mk_decide.proofs.PlacesAgain.{PathAgain, below_place, path_again, section_there}
 use Rattle.mk_view.specs.Listed.{greatest_number}
-use Rattle.mk_expand.specs.Appends.{appended, follows_last, follows_preamble, last_divided, new_number}
+use Rattle.mk_pack.specs.OwnBoundary.{boundary_beside}
+use Rattle.mk_pack.proofs.OwnBoundaries.{beside_is_boundary}
+use Rattle.mk_expand.specs.Appends.{appended, beside, follows_last, follows_preamble, last_divided, new_number}
 use Rattle.mk_expand.specs.Contents.{divided}
 use Rattle.mk_expand.specs.ExpandLaws.{IsMultipart, all_edited}
 use Rattle.mk_expand.proofs.AppendsKept.{around_last, count, count_last, edits_told, last_parts, last_placed, parts_all, place_whole, placed_count, set_last}
@@ -81,11 +85,11 @@ some_rest k n no_parts e h = absurd (omega (arith, e, leb-false n k h))
 some_rest k n (part l x ps) e h = refl
 
 -- a part that was inserted
-record Inserted (text : List ℕ) (place : ℕ) (fs : List Frame) (h : Head) (b : List ℕ) (pre : List TextLine) (ps : Parts) (tail : Option (TextLine × List TextLine)) (u : Document) : Type 0 where
-  apart : Parts × Parts
-  at : parts_at place ps ≡ Some apart
-  delimiter : TextLine
-  root : u.root ≡ plug fs (multi h b pre (append_parts apart.0 (part delimiter (part_read fs h (cut text)) apart.1)) tail)
+pub record Inserted (text : List ℕ) (place : ℕ) (fs : List Frame) (h : Head) (b : List ℕ) (pre : List TextLine) (ps : Parts) (tail : Option (TextLine × List TextLine)) (u : Document) : Type 0 where
+  pub apart : Parts × Parts
+  pub at : parts_at place ps ≡ Some apart
+  pub delimiter : TextLine
+  pub root : u.root ≡ plug fs (multi h b pre (append_parts apart.0 (part delimiter (part_read fs h (cut text)) apart.1)) tail)
 
 err_plan : {A : Type 0} (e : Refusal) (p : Plan) → ◌≡◌ {A = Result Plan Refusal} (Err e) (Ok p) → A
 err_plan e p h = cc
@@ -97,7 +101,7 @@ inserted_by text place t u fs h b pre ps tail p (Some q) at root is =
     let same = ok_same (part_plan (eol_of (document_lines t)) fs h b pre tail (cut text) q) p is in
     record { apart = q; at = at; delimiter = delimiter_line (eol_of (document_lines t)) b; root = root ∙ ap (λ (r : Plan). plug r.around r.new) (sym same) }
 
-inserted : (path text : List ℕ) (place : ℕ) (t u : Document) (fs : List Frame) (h : Head) (b : List ℕ) (pre : List TextLine) (ps : Parts) (tail : Option (TextLine × List TextLine)) → place_of path t.root ≡ Some (fs, multi h b pre ps tail)
+pub inserted : (path text : List ℕ) (place : ℕ) (t u : Document) (fs : List Frame) (h : Head) (b : List ℕ) (pre : List TextLine) (ps : Parts) (tail : Option (TextLine × List TextLine)) → place_of path t.root ≡ Some (fs, multi h b pre ps tail)
     → edited (InsertPart path place text) t ≡ Ok u → Inserted text place fs h b pre ps tail u
 inserted path text place t u fs h b pre ps tail there done =
     let e = InsertPart path place text in
@@ -105,7 +109,7 @@ inserted path text place t u fs h b pre ps tail there done =
     inserted_by text place t u fs h b pre ps tail plan.plan (parts_at place ps) refl (ap (λ (d : Document). d.root) plan.gives) (plan_there e t fs (multi h b pre ps tail) plan.plan there plan.is)
 
 -- whether a line follows a place below others
-flag_after : (f : Bool) (fs gs : List Frame) → flag f (fs ++ gs) ≡ flag (flag f fs) gs
+pub flag_after : (f : Bool) (fs gs : List Frame) → flag f (fs ++ gs) ≡ flag (flag f fs) gs
 flag_after f [] gs = refl
 flag_after f (in_message h ∷ fs) gs = flag_after f fs gs
 flag_after f (in_multi h b pre before l after t ∷ fs) gs = flag_after (has_part after || (has_tail t || f)) fs gs
@@ -285,16 +289,60 @@ multi_new eol path text mail u fs (multi h b pre ps tail) there m done =
           (subst (λ f. goal f greatest_number) (sym (ap (λ x. if x then option_map_or (λ (q : Placed). q.followed) (counted (length parts) parts) (follows_preamble p) else true) more)) new)
     ]
 
-there_new : (eol : Ending) (path text mail : List ℕ) (u : Document) (p : Placed) (o : Option (List Frame × Entity)) → place_of path (tree mail).root ≡ o → option_map (λ r. placed (tree mail).envelope r.0 r.1) o ≡ Some p → IsMultipart p.entity
+-- ---- the part beside a section
+
+-- a section that was wrapped, and then got a part after it
+pub record IsBeside (path text : List ℕ) (t u : Document) (fs : List Frame) (s : Entity) : Type 0 where
+  pub boundary : List ℕ
+  pub made : Document
+  pub wraps : edited (Wrap path (codes "mixed") boundary) t ≡ Ok made
+  pub there : place_of path made.root ≡ Some (fs, wrapped (eol_of (document_lines t)) fs s (codes "mixed") boundary)
+  pub inserts : edited (InsertPart path 1 text) made ≡ Ok u
+
+pub put_beside : (path text : List ℕ) (t u : Document) (fs : List Frame) (s : Entity) → place_of path t.root ≡ Some (fs, s) → all_edited (beside path text (placed t.envelope fs s)) t ≡ Ok u → IsBeside path text t u fs s
+put_beside path text t u fs s there done =
+    let eol = eol_of (document_lines t) in
+    let b = boundary_beside (raw_of (placed t.envelope fs s)) text in
+    let w = Wrap path (codes "mixed") b in
+    let made = in_turn (all_edited (InsertPart path 1 text ∷ [])) (edited w t) u done in
+    let plan = plan_by t made.0 w (plan_of w t) refl (fair w t) made.1 in
+    let good : is_boundary b ≡ true = beside_is_boundary (raw_of (placed t.envelope fs s)) text in
+    let allowed : Ok (wrap eol fs s (codes "mixed") b) ≡ plan_at w eol fs s = rw good refl in
+    let same : wrap eol fs s (codes "mixed") b ≡ plan.plan = ok_same (wrap eol fs s (codes "mixed") b) plan.plan (allowed ∙ plan_there w t fs s plan.plan there plan.is) in
+    let root : made.0.root ≡ plug fs (wrapped eol fs s (codes "mixed") b) = ap (λ (d : Document). d.root) plan.gives ∙ ap (λ (p : Plan). plug p.around p.new) (sym same) in
+    record {
+      boundary = b;
+      made = made.0;
+      wraps = made.1;
+      there = ap (place_of path) root ∙ there_again path t.root fs s (wrapped eol fs s (codes "mixed") b) there;
+      inserts = last_edit (InsertPart path 1 text) made.0 u made.2;
+    }
+
+beside_new : (path text : List ℕ) (t u : Document) (fs : List Frame) (s : Entity) → place_of path t.root ≡ Some (fs, s) → all_edited (beside path text (placed t.envelope fs s)) t ≡ Ok u → IsNew text true (section_at (path ++ 2 ∷ []) u)
+unfolding count
+beside_new path text t u fs s there done =
+    let eol = eol_of (document_lines t) in
+    let is = put_beside path text t u fs s there done in
+    at_end path text is.made u fs (outer_head eol fs s (codes "mixed") is.boundary) is.boundary [] (part (delimiter_line eol is.boundary) (inner_part eol fs s) no_parts) (Some (close_line eol is.boundary, [])) is.there is.inserts
+
+-- ---- either
+
+any_new : (eol : Ending) (path text mail : List ℕ) (u : Document) (fs : List Frame) (s : Entity) → place_of path (tree mail).root ≡ Some (fs, s) → all_edited (appended eol path text (placed (tree mail).envelope fs s)) (tree mail) ≡ Ok u
+    → IsNew text (follows_last (placed (tree mail).envelope fs s)) (section_at (path ++ new_number (placed (tree mail).envelope fs s) ∷ []) u)
+any_new eol path text mail u fs (leaf h ls) there done = beside_new path text (tree mail) u fs (leaf h ls) there done
+any_new eol path text mail u fs (message h x) there done = beside_new path text (tree mail) u fs (message h x) there done
+any_new eol path text mail u fs (multi h b pre ps tail) there done = multi_new eol path text mail u fs (multi h b pre ps tail) there tt done
+
+there_new : (eol : Ending) (path text mail : List ℕ) (u : Document) (p : Placed) (o : Option (List Frame × Entity)) → place_of path (tree mail).root ≡ o → option_map (λ r. placed (tree mail).envelope r.0 r.1) o ≡ Some p
     → all_edited (appended eol path text p) (tree mail) ≡ Ok u → IsNew text (follows_last p) (section_at (path ++ new_number p ∷ []) u)
-there_new eol path text mail u p None there is m done = none_some p is
-there_new eol path text mail u p (Some r) there is m done =
+there_new eol path text mail u p None there is done = none_some p is
+there_new eol path text mail u p (Some r) there is done =
     let t = tree mail in
     let same : placed t.envelope r.0 r.1 ≡ p = some_same (placed t.envelope r.0 r.1) p is in
     subst (λ x. IsNew text (follows_last x) (section_at (path ++ new_number x ∷ []) u)) same
-    (multi_new eol path text mail u r.0 r.1 there (subst (λ (x : Placed). IsMultipart x.entity) (sym same) m) (ap (λ x. all_edited (appended eol path text x) t) same ∙ done))
+    (any_new eol path text mail u r.0 r.1 there (ap (λ x. all_edited (appended eol path text x) t) same ∙ done))
 
 -- the section at the new number
-pub appended_new : (eol : Ending) (path text mail : List ℕ) (u : Document) (p : Placed) → section_at path (tree mail) ≡ Some p → IsMultipart p.entity → all_edited (appended eol path text p) (tree mail) ≡ Ok u
+pub appended_new : (eol : Ending) (path text mail : List ℕ) (u : Document) (p : Placed) → section_at path (tree mail) ≡ Some p → all_edited (appended eol path text p) (tree mail) ≡ Ok u
     → IsNew text (follows_last p) (section_at (path ++ new_number p ∷ []) u)
-appended_new eol path text mail u p found m done = there_new eol path text mail u p (place_of path (tree mail).root) refl (sym (section_there path (tree mail)) ∙ found) m done
+appended_new eol path text mail u p found done = there_new eol path text mail u p (place_of path (tree mail).root) refl (sym (section_there path (tree mail)) ∙ found) done

@@ -16,7 +16,7 @@ use Rattle.mk_decide.specs.Edits.{PlainEdit, AddField, RemoveField, RenameField,
 use Rattle.mk_view.specs.Listing.{encoding_in, type_of}
 use Rattle.mk_build.specs.declared.attaching.AttachError.{AttachError}
 use Rattle.mk_build.specs.declared.attaching.AttachError.TheVariants as attach
-use Rattle.mk_build.specs.Building.{Attached, attach_refusal, closed_field}
+use Rattle.mk_build.specs.Building.{Attached, attach_refusal, closed_field, named_in_utf8}
 use Rattle.mk_build.specs.Multiparts.{attached, attached_as}
 use Rattle.mk_script.specs.Script.{ScriptWord, Adds, Deletes, Renames, Sets, Bodies, Replaces, Inserts, Removes, Wraps, SetsContent, SetsText, Encodes, Puts, PutsPiece, DropsAll, Appends, AppendsText, Attaches, AttachesText}
 use Rattle.mk_script.specs.Targets.{field_name_in}
@@ -88,7 +88,7 @@ abbrev pub text_set : Ending → (path charset bytes : List ℕ) → Option Plac
 text_set eol path charset bytes None = Ok (SetBody path bytes ∷ [])
 text_set eol path charset bytes (Some p) = text_set_in (kind_in p.entity) eol path charset bytes p
 
--- `append`: a part after the others
+-- `append`: a part after the others, or beside a section that is no multipart
 abbrev pub append : Ending → List ℕ → List ℕ → Option Placed → List PlainEdit
 append eol path text None = InsertPart path 0 text ∷ []
 append eol path text (Some p) = appended eol path text p
@@ -131,6 +131,10 @@ attach_text eol path media text p =
 abbrev pub attached_bytes : Pieces → Ending → List ℕ → ℕ → List ℕ
 attached_bytes pieces eol media number = if is_text media then piece_lines pieces eol number else piece_text pieces number
 
+-- a piece as a file under a name, which is also written in UTF-8 where it is a text that isn't printable ASCII
+abbrev pub script_file : Pieces → Ending → (media name : List ℕ) → ℕ → Attached
+script_file pieces eol media name piece = named_in_utf8 (attached_file (record { media = media; path = name }) (attached_bytes pieces eol media piece))
+
 -- what a word stands for in a document, where the script has these pieces and lines that are made get this ending
 abbrev pub meaning_of : Pieces → Ending → Document → ScriptWord → Meaning
 meaning_of pieces eol t (Adds path top field) = Ok (AddField path top (field_text eol field) ∷ [])
@@ -150,7 +154,7 @@ meaning_of pieces eol t (PutsPiece path piece) = Ok (put path (closed_field eol 
 meaning_of pieces eol t (DropsAll path name) = Ok (dropped path (field_name_in name) (section_at path t))
 meaning_of pieces eol t (Appends path piece) = Ok (append eol path (piece_lines pieces eol piece) (section_at path t))
 meaning_of pieces eol t (AppendsText path piece) = Ok (append eol path (text_part eol (piece_lines pieces eol piece) (section_at path t)) (section_at path t))
-meaning_of pieces eol t (Attaches path media name piece) = attach_file eol path (attached_file (record { media = media; path = name }) (attached_bytes pieces eol media piece)) (section_at path t)
+meaning_of pieces eol t (Attaches path media name piece) = attach_file eol path (script_file pieces eol media name piece) (section_at path t)
 meaning_of pieces eol t (AttachesText path media piece) = attach_text eol path media (piece_lines pieces eol piece) (section_at path t)
 
 -- a word that stands for the same edit in every document

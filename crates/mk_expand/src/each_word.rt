@@ -6,13 +6,12 @@ ghost use Rattle.mk_tree.specs.Sections.{section_at};
 ghost use Rattle.mk_build.specs.Building.{closed_field};
 ghost use Rattle.mk_decide.specs.Edits.{AddField, InsertPart, RemoveField, RenameField, SetBody, SetField, SetSection, Wrap};
 ghost use Rattle.mk_script.specs.Targets.{field_name_in};
-ghost use Rattle.mk_pack.specs.Parts.{attached_file};
 ghost use Rattle.mk_expand.specs.Appends.{text_part};
 ghost use Rattle.mk_expand.specs.Encodings.{encoding_set};
 ghost use Rattle.mk_expand.specs.FieldWords.{dropped, put as fields_put};
 ghost use Rattle.mk_expand.specs.Pieces.{piece_lines};
 ghost use Rattle.mk_expand.specs.Views.{pieces_of, plain_edits, IsFault};
-ghost use Rattle.mk_expand.specs.Words.{append as part_appended, attach_file, attach_text as text_attached, attached_bytes as bytes_attached, content_bytes as bytes_of_content, content_set, field_text, text_set};
+ghost use Rattle.mk_expand.specs.Words.{append as part_appended, attach_file, attach_text as text_attached, content_bytes as bytes_of_content, content_set, field_text, script_file, text_set};
 
 use crate::appending::{append, text_to_append};
 use crate::contents::{content_bytes, set_content};
@@ -322,8 +321,8 @@ pub(crate) fn attach_piece(
     eol: Ending,
 ) -> Result<Vec<Edit>, WordError>
     requires { eol ≢ Ending.Missing }
-    ensures edits { IfOk result (λ edits. attach_file eol path.now (attached_file (record { media = media.now; path = name.now }) (bytes_attached (pieces_of pieces.entry) eol media.now piece)) (section_at path.now (tree doc.now)) ≡ Ok (plain_edits edits.items)) }
-    ensures fault { IfErr result (λ error. IsFault error (attach_file eol path.now (attached_file (record { media = media.now; path = name.now }) (bytes_attached (pieces_of pieces.entry) eol media.now piece)) (section_at path.now (tree doc.now)))) }
+    ensures edits { IfOk result (λ edits. attach_file eol path.now (script_file (pieces_of pieces.entry) eol media.now name.now piece) (section_at path.now (tree doc.now)) ≡ Ok (plain_edits edits.items)) }
+    ensures fault { IfErr result (λ error. IsFault error (attach_file eol path.now (script_file (pieces_of pieces.entry) eol media.now name.now piece) (section_at path.now (tree doc.now)))) }
 {
     let file = Spec { media, path: name };
     let text = attached_bytes(alloc, &file, pieces, piece, eol)?;

@@ -1,6 +1,7 @@
 //! The laws of `content`, `encode`, `append`, `drop`, `put` and `remove`, over the definitions alone: each a function with an empty body whose clause is the law.
 
-ghost use Rattle.std.specs.Prelude.{◌↔◌, ◌∷◌, ◌≡◌, ◌≢◌, ◌≤◌, ℕ, List, Ok, Some, [], length, map, true};
+ghost use Rattle.std.specs.Prelude.{◌↔◌, ◌++◌, ◌∷◌, ◌≡◌, ◌≢◌, ◌≤◌, ℕ, List, Ok, Some, [], length, map, true};
+ghost use Rattle.std.specs.Option.{option_map};
 ghost use Rattle.base64.specs.GeneralPurpose.{IsBytes};
 ghost use Rattle.mk_line.specs.Lines.{cut};
 ghost use Rattle.mk_line.specs.declared.cutting.Ending.{Ending};
@@ -9,14 +10,14 @@ ghost use Rattle.mk_head.specs.Fields.{fields_of, is_one_field};
 ghost use Rattle.mk_head.specs.declared.encodings.Encoding.{Encoding as Transfer};
 ghost use Rattle.mk_code.specs.Contents.{IsContent};
 ghost use Rattle.mk_tree.specs.Documents.{Document, tree};
-ghost use Rattle.mk_tree.specs.Sections.{Placed, children, section_at};
+ghost use Rattle.mk_tree.specs.Sections.{Placed, children, content_text, section_at};
 ghost use Rattle.mk_decide.specs.EditLaws.{IsLeaf};
 ghost use Rattle.mk_decide.specs.Edits.{PlainEdit, RemovePart};
 ghost use Rattle.mk_decide.specs.Outcomes.{edited};
 ghost use Rattle.mk_view.specs.Extracts.{IsExtract};
 ghost use Rattle.mk_view.specs.Listed.{greatest_number};
 ghost use Rattle.mk_script.specs.declared.script.ChosenEncoding.{ChosenEncoding};
-ghost use Rattle.mk_expand.specs.Appends.{appended};
+ghost use Rattle.mk_expand.specs.Appends.{appended, beside};
 ghost use Rattle.mk_expand.specs.Encodings.{decoded_in, encoding_set};
 ghost use Rattle.mk_expand.specs.ExpandLaws.{IsMultipart, all_edited};
 ghost use Rattle.mk_expand.specs.FieldWords.{dropped, name_in, put, those};
@@ -49,6 +50,12 @@ pub fn appends_keep_contents()
         section_at path (tree mail) ≡ Some p → IsMultipart p.entity → length (children p) ≤ greatest_number →
         all_edited (appended eol path text p) (tree mail) ≡ Ok u → section_at other (tree mail) ≡ Some q → IsLeaf q.entity →
         IsExtract (Some q) bytes → IsExtract (section_at other u) bytes }
+{}
+
+/// Where `append` or `attach` puts a part beside a leaf, the leaf is the first part of their multipart, and has the content that it had.
+pub fn leaves_keep_contents()
+    ensures { (path text : List ℕ) (t u : Document) (p : Placed) → section_at path t ≡ Some p → IsLeaf p.entity →
+        all_edited (beside path text p) t ≡ Ok u → option_map content_text (section_at (path ++ 1 ∷ []) u) ≡ Some (content_text p) }
 {}
 
 /// No field of the name is left where `drop` was accepted.

@@ -4,7 +4,7 @@ ghost use Rattle.std.specs.Prelude.{◌≡◌, ◌≢◌, ◌∷◌, [], Ok, IfO
 ghost use Rattle.mk_decide.specs.Views.{edit_of};
 ghost use Rattle.mk_tree.specs.Documents.{tree};
 ghost use Rattle.mk_tree.specs.Sections.{section_at};
-ghost use Rattle.mk_build.specs.Building.{closed_field};
+ghost use Rattle.mk_build.specs.Building.{closed_field, named_in_utf8};
 ghost use Rattle.mk_script.specs.ScriptViews.{said_by};
 ghost use Rattle.mk_pack.specs.Parts.{attached_file};
 ghost use Rattle.mk_expand.specs.Views.{pieces_of, plain_edits, IsFault};
@@ -19,7 +19,7 @@ use crate::each_word::{
 use crate::errors::WordError;
 use crate::ordering::removals;
 use crate::pieces::Pieces;
-use mk_build::{AttachError, attach};
+use mk_build::{AttachError, AttachOptions, attach_with};
 use mk_decide::Edit;
 use mk_line::{Ending, ends_open};
 use mk_pack::Spec;
@@ -135,7 +135,7 @@ pub(crate) fn attached_bytes(
     }
 }
 
-/// A file as a part after the others.
+/// A file as a part after the others, or beside a section. A name in UTF-8 is also written as it is (RFC 2231, 4).
 pub(crate) fn attach_to(
     alloc: Global,
     doc: &Doc,
@@ -145,11 +145,15 @@ pub(crate) fn attach_to(
     eol: Ending,
 ) -> Result<Vec<Edit>, WordError>
     requires { eol ≢ Ending.Missing }
-    ensures edits { IfOk result (λ edits. attach_file eol path.items (attached_file (record { media = file.now.media.now; path = file.now.path.now }) text.items) (section_at path.items (tree doc.now)) ≡ Ok (plain_edits edits.items)) }
-    ensures fault { IfErr result (λ error. IsFault error (attach_file eol path.items (attached_file (record { media = file.now.media.now; path = file.now.path.now }) text.items) (section_at path.items (tree doc.now)))) }
+    ensures edits { IfOk result (λ edits. attach_file eol path.items (named_in_utf8 (attached_file (record { media = file.now.media.now; path = file.now.path.now }) text.items)) (section_at path.items (tree doc.now)) ≡ Ok (plain_edits edits.items)) }
+    ensures fault { IfErr result (λ error. IsFault error (attach_file eol path.items (named_in_utf8 (attached_file (record { media = file.now.media.now; path = file.now.path.now }) text.items)) (section_at path.items (tree doc.now)))) }
 {
     let part = file.attach(alloc, text)?;
-    match attach(alloc, &part, eol) {
+    let options = AttachOptions {
+        charset: None,
+        utf8_names: true,
+    };
+    match attach_with(alloc, &part, options, eol) {
         Ok(text) => {
             let text = part_to_append(doc, &path, text, eol)?;
             Ok(append(alloc, doc, path, text, eol)?)
