@@ -1,11 +1,11 @@
 -- The disposition of an attached part says the name that it was made for.
-use Rattle.std.proofs.Common.{◌≡◌, ◌==◌, ◌≤◌, ◌&&◌, ◌++◌, ℕ, zero, suc, Bool, true, false, not, None, Option, Some, List, [], ◌∷◌, refl, ap, ◌∙◌, codes, length, nat_le, arith, if◌then◌else◌}
+use Rattle.std.proofs.Common.{◌≡◌, ◌==◌, ◌≤◌, ◌&&◌, ◌++◌, ℕ, zero, suc, Bool, true, false, not, None, Option, Some, List, [], ◌∷◌, refl, ap, ◌∙◌, codes, length, nat_le, nat_lt, arith, if◌then◌else◌}
 use Rattle.std.proofs.lemmas.Bool.{leb-true}
 use Rattle.std.proofs.lemmas.Str.{IsUtf8-from_ascii, is_utf8-from_IsUtf8}
 use Rattle.std.specs.List.{list_all, onto_first}
 use Rattle.std.specs.Option.{option_or}
 use Rattle.std.specs.Prelude.{unwrap_or}
-use Rattle.std.specs.Str.{IsAscii}
+use Rattle.std.specs.Str.{IsAscii, is_utf8}
 use Rattle.mk_line.specs.declared.cutting.Ending.{Ending}
 use Rattle.mk_line.specs.Lines.{is_nil}
 use Rattle.mk_line.specs.Marks.{trimmed, trimmed_before}
@@ -19,10 +19,12 @@ use Rattle.mk_tree.specs.Sections.{Placed}
 use Rattle.mk_tree.specs.Tree.{field_lines}
 use Rattle.mk_view.specs.FileNames.{disposed_name}
 use Rattle.mk_view.specs.Listing.{type_of}
-use Rattle.mk_view.specs.TextNames.{disposed_text}
+use Rattle.mk_view.specs.TextNames.{disposed_text, text_name}
 use Rattle.mk_build.specs.Building.{Attached, is_name, is_name_byte, longest}
 use Rattle.mk_mail.proofs.BuiltParts.{charset_for, part_entity, part_fields}
 use Rattle.mk_mail.proofs.PartTypes.{InQuotes, both, name_quotes}
+use Rattle.mk_mail.proofs.SaidNames.{disposed, value_of as said_value}
+use Rattle.mk_param.specs.Percents.{percent_encoded}
 use Rattle.mk_run.specs.AttachLaws.{SaysName}
 use Rattle.mk_run.proofs.AttachedParts.{entity_by}
 
@@ -143,6 +145,20 @@ said_by eol charset a name q e n s h =
           ∙ (ap (λ ps. option_or (said_text (codes "filename") ps) (said_text (codes "name") (type_of q).params)) (params_are name quotes)
           ∙ ap (λ o. option_or o (said_text (codes "name") (type_of q).params)) (text_by_params name ∙ plain_is name (name_bytes name h) w));
     }
+
+-- what a part under a name in UTF-8 says
+said_disposition : (eol : Ending) (media : List ℕ) (charset : Option (List ℕ)) (name said : List ℕ) (base64 : Bool)
+    → field_value (codes "Content-Disposition") (part_fields eol media charset (Some name) (Some said) base64) ≡ Some (said_value name (percent_encoded said))
+said_disposition eol media charset name said base64 = ap (λ cs. Some (unwrap_or (following 58 cs) [])) (append_nil (codes "Content-Disposition:" ++ said_value name (percent_encoded said)))
+
+pub says_text : (eol : Ending) (charset : Option (List ℕ)) (a : Attached) (name said : List ℕ) (followed : Bool) (q : Placed) → q.entity ≡ entity_by eol charset a followed → a.name ≡ Some name → a.said ≡ Some said → is_name name ≡ true
+    → list_all (λ byte. nat_lt byte 256) said ≡ true → is_utf8 said ≡ true → text_name q ≡ Some said
+says_text eol charset a name said followed q e n s good bytes utf8 =
+    let here = charset_for charset a.media in
+    ap (λ o. option_or (disposed_text o) (said_text (codes "name") (type_of q).params))
+    (ap (λ x. field_value (codes "Content-Disposition") (field_lines x)) e
+    ∙ ((λ i. field_value (codes "Content-Disposition") (part_fields eol a.media here (n i) (s i) a.base64)) ∙ said_disposition eol a.media here name said a.base64))
+    ∙ ap (λ o. option_or o (said_text (codes "name") (type_of q).params)) (disposed name said (name_quotes name (name_bytes name good)) bytes utf8)
 
 -- what a part that was attached says
 pub says_name : (eol : Ending) (charset : Option (List ℕ)) (a : Attached) (name : List ℕ) (followed : Bool) (q : Placed) → q.entity ≡ entity_by eol charset a followed → a.name ≡ Some name → a.said ≡ None → is_name name ≡ true → SaysName name q

@@ -1,6 +1,7 @@
 -- What was attached is given back, a file under its name.
 use Rattle.mk_mail.specs.BuiltLaws.{AreBytes}
-use Rattle.std.proofs.Common.{◌≡◌, ◌≢◌, if◌then◌else◌, ℕ, Bool, true, false, Option, None, Some, Result, Ok, Err, List, refl, ap, sym, ◌∙◌, subst, codes}
+use Rattle.std.proofs.Common.{◌≡◌, ◌≢◌, ◌&&◌, not, nat_le, length, if◌then◌else◌, ℕ, Bool, true, false, Option, None, Some, Result, Ok, Err, List, refl, ap, sym, ◌∙◌, subst, codes}
+use Rattle.std.specs.List.{list_all}
 use Rattle.std.specs.Option.{option_map_or}
 use Rattle.std.specs.Str.{is_utf8}
 use Rattle.mk_line.specs.declared.cutting.Ending.{Ending}
@@ -12,19 +13,20 @@ use Rattle.mk_decide.specs.Edits.{PlainEdit}
 use Rattle.mk_build.specs.declared.attaching.AttachError.{AttachError}
 use Rattle.mk_build.specs.declared.attaching.AttachError.TheVariants as attach
 use Rattle.mk_build.specs.Multiparts.{attached, attached_as}
-use Rattle.mk_build.specs.Building.{Attached, attach_refusal, is_media, is_name}
+use Rattle.mk_build.specs.Building.{Attached, attach_refusal, is_media, is_name, is_said, longest_said, plain_name}
+use Rattle.mk_code.specs.EncodedWords.{is_shown}
+use Rattle.mk_mail.proofs.PartTypes.{both}
 use Rattle.mk_script.specs.Script.{Attaches, AttachesText}
-use Rattle.mk_pack.specs.Parts.{attached_file, file_name, is_text}
+use Rattle.mk_pack.specs.Parts.{file_name, is_text}
 use Rattle.mk_expand.specs.Appends.{appended, follows_last, made_part}
 use Rattle.mk_expand.specs.Charsets.{are_ascii}
 use Rattle.mk_expand.specs.ExpandLaws.{all_edited}
 use Rattle.mk_expand.specs.Meanings.{Meaning, WordFault, BadCharset, BadType}
 use Rattle.mk_expand.specs.Pieces.{Pieces, piece_lines, piece_text}
-use Rattle.mk_expand.specs.Words.{append, attach_by, attach_fault, attach_file, attach_text, attach_text_by, attached_bytes, said_charset, text_of_type}
+use Rattle.mk_expand.specs.Words.{append, attach_by, attach_fault, attach_file, attach_text, attach_text_by, attached_bytes, said_charset, script_file, text_of_type}
 use Rattle.mk_expand.proofs.NewParts.{appended_new}
-use Rattle.mk_run.specs.AttachLaws.{IsLeafOf, IsWordMade, new_path, SaysName}
-use Rattle.mk_run.proofs.AppendsTo.{appends_to_multipart}
-use Rattle.mk_run.proofs.AttachedNames.{says_name}
+use Rattle.mk_run.specs.AttachLaws.{IsLeafOf, IsWordMade, new_path, SaysFile}
+use Rattle.mk_run.proofs.AttachedNames.{says_name, says_text}
 use Rattle.mk_run.proofs.AttachedParts.{entity_by, given_text, holds_given, not_open, read_given}
 use Rattle.mk_run.proofs.TurnedBytes.{attached_are, lines_given}
 
@@ -59,7 +61,7 @@ attached_there eol path mail charset a edits u p n t found allowed means made =
     let may = allowed_by (is_media a.media) (option_map_or is_name a.name true) allowed in
     let text = given_text eol charset a (follows_last p) in
     let done : all_edited (appended eol path text p) (tree mail) ≡ Ok u = ap (λ es. all_edited es (tree mail)) means ∙ made in
-    let new = appended_new eol path text mail u p found (appends_to_multipart eol path text (tree mail) u p found done) done in
+    let new = appended_new eol path text mail u p found done in
     record {
       part = new.part;
       found = new.found;
@@ -72,7 +74,7 @@ attached_there eol path mail charset a edits u p n t found allowed means made =
 -- ---- a file
 
 file_of : (pieces : Pieces) (eol : Ending) (media name : List ℕ) (piece : ℕ) → Attached
-file_of pieces eol media name piece = attached_file (record { media = media; path = name }) (attached_bytes pieces eol media piece)
+file_of pieces eol media name piece = script_file pieces eol media name piece
 
 file_there : (pieces : Pieces) (eol : Ending) (mail path media name : List ℕ) (piece : ℕ) (u : Document) (p : Placed) → eol ≢ Missing → section_at path (tree mail) ≡ Some p → IsWordMade pieces eol mail (Attaches path media name piece) u
     → IsAttached eol None (file_of pieces eol media name piece) (section_at (new_path path p) u)
@@ -92,12 +94,26 @@ files_given_back pieces eol mail path media name piece u p n small found m =
 some_same : (p q : Placed) → ◌≡◌ {A = Option Placed} (Some p) (Some q) → p ≡ q
 some_same p q e = cc
 
-pub names_said : (pieces : Pieces) (eol : Ending) (mail path media name : List ℕ) (piece : ℕ) (u : Document) (p q : Placed) → eol ≢ Missing → section_at path (tree mail) ≡ Some p → IsWordMade pieces eol mail (Attaches path media name piece) u → section_at (new_path path p) u ≡ Some q → SaysName (file_name name) q
+-- a name that is written in UTF-8 is a text
+said_is_text : (name : List ℕ) → is_said name ≡ true → is_utf8 name ≡ true
+said_is_text name h = (both (is_utf8 name) (not (list_all is_shown name)) (both (nat_le (length name) longest_said) (is_utf8 name && not (list_all is_shown name)) h).1).0
+
+pub names_said : (pieces : Pieces) (eol : Ending) (mail path media name : List ℕ) (piece : ℕ) (u : Document) (p q : Placed) → eol ≢ Missing → section_at path (tree mail) ≡ Some p → IsWordMade pieces eol mail (Attaches path media name piece) u → section_at (new_path path p) u ≡ Some q → SaysFile (file_name name) q
 unfolding file_of
 names_said pieces eol mail path media name piece u p q n found m there =
     let new = file_there pieces eol mail path media name piece u p n found m in
     let same : new.part ≡ q = some_same new.part q (sym new.found ∙ there) in
-    says_name eol None (file_of pieces eol media name piece) (file_name name) new.follows q (ap (λ (x : Placed). x.entity) (sym same) ∙ new.entity) refl refl new.named
+    let file = file_of pieces eol media name piece in
+    let named = file_name name in
+    let is : q.entity ≡ entity_by eol None file new.follows = ap (λ (x : Placed). x.entity) (sym same) ∙ new.entity in
+    record {
+      plain = λ h.
+          let given : file.name ≡ Some named = rw h refl in
+          says_name eol None file named new.follows q is given (rw h refl) (ap (λ o. option_map_or is_name o true) (sym given) ∙ new.named);
+      said = λ h b.
+          let given : file.name ≡ Some (plain_name named) = rw h refl in
+          says_text eol None file (plain_name named) named new.follows q is given (rw h refl) (ap (λ o. option_map_or is_name o true) (sym given) ∙ new.named) b (said_is_text named h);
+    }
 
 -- ---- a text
 

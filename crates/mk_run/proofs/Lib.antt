@@ -1,4 +1,3 @@
-pub mod AppendsTo
 pub mod AttachedNames
 pub mod AttachedParts
 pub mod Attachments

@@ -1,5 +1,6 @@
 -- The laws of `attach` and `attach-text`: what was given is extracted of the new part, and a file has the name that was given (own).
-use Rattle.std.specs.Prelude.{◌≡◌, ◌++◌, ℕ, Option, None, Some, Ok, List, [], ◌∷◌}
+use Rattle.std.specs.Prelude.{◌≡◌, ◌++◌, ℕ, true, false, nat_lt, Option, None, Some, Ok, List, [], ◌∷◌}
+use Rattle.std.specs.List.{list_all}
 use Rattle.mk_line.specs.declared.cutting.Ending.{Ending}
 use Rattle.mk_code.specs.EncodedWords.{words_decoded}
 use Rattle.mk_tree.specs.Documents.{Document, tree}
@@ -9,6 +10,7 @@ use Rattle.mk_decide.specs.EditLaws.{IsLeaf}
 use Rattle.mk_view.specs.Extracts.{IsContentOf}
 use Rattle.mk_view.specs.FileNames.{raw_name}
 use Rattle.mk_view.specs.TextNames.{text_name}
+use Rattle.mk_build.specs.Building.{is_said}
 use Rattle.mk_script.specs.Script.{ScriptWord}
 use Rattle.mk_expand.specs.Appends.{new_number}
 use Rattle.mk_expand.specs.ExpandLaws.{all_edited}
@@ -26,7 +28,7 @@ abbrev pub IsLeafOf : Option Placed → List ℕ → Type 0
 IsLeafOf None bytes = ⊥
 IsLeafOf (Some p) bytes = IsLeaf p.entity × IsContentOf p bytes
 
--- the part after the others of a section, as far as numbers go
+-- the part after the others of a multipart, as far as numbers go, or beside another section
 abbrev pub new_path : List ℕ → Placed → List ℕ
 new_path path p = path ++ new_number p ∷ []
 
@@ -34,3 +36,8 @@ new_path path p = path ++ new_number p ∷ []
 pub record SaysName (name : List ℕ) (p : Placed) : Type 0 where
   pub raw : raw_name p ≡ Some name
   pub text : words_decoded name ≡ name → text_name p ≡ Some name
+
+-- a section says the name of a file that was attached; one in UTF-8 that isn't printable ASCII it says as a text (RFC 2231, 4)
+pub record SaysFile (name : List ℕ) (p : Placed) : Type 0 where
+  pub plain : is_said name ≡ false → SaysName name p
+  pub said : is_said name ≡ true → list_all (λ byte. nat_lt byte 256) name ≡ true → text_name p ≡ Some name

@@ -16,7 +16,7 @@ ghost use Rattle.mk_pack.specs.Parts.{file_name};
 ghost use Rattle.mk_expand.specs.Pieces.{Pieces, piece_lines, piece_text};
 ghost use Rattle.mk_expand.specs.Words.{attached_bytes};
 ghost use Rattle.mk_run.specs.RoundLaws.{JournalsChangeNothing, RoundsAreGroups};
-ghost use Rattle.mk_run.specs.AttachLaws.{IsLeafOf, IsWordMade, SaysName, new_path};
+ghost use Rattle.mk_run.specs.AttachLaws.{IsLeafOf, IsWordMade, SaysFile, SaysName, new_path};
 
 pub use mk_pack::laws::{
     bodies_are_refused, free_boundaries_are_boundaries, free_boundaries_are_free,
@@ -43,7 +43,7 @@ pub fn attached_texts_are_given_back()
 pub fn attached_names_are_said()
     ensures { (pieces : Pieces) (eol : Ending) (mail path media name : List ℕ) (piece : ℕ) (u : Document) (p q : Placed) →
         eol ≢ Missing → section_at path (tree mail) ≡ Some p → IsWordMade pieces eol mail (Attaches path media name piece) u →
-        section_at (new_path path p) u ≡ Some q → SaysName (file_name name) q }
+        section_at (new_path path p) u ≡ Some q → SaysFile (file_name name) q }
 {}
 
 /// Each part of a packed message, of any multipart and with any forwarded messages, says the name of the file that it was made of.

@@ -129,12 +129,12 @@ piece: \ntwo
 output: Content-Type: multipart/mixed; boundary=b\n\n--b\n\none\n\n--b\n\ntwo
 status: Well
 
-== a part of a multipart without any, and of no multipart
+== a part of a multipart without any, and of no section
 message: Content-Type: multipart/mixed; boundary=b\n\n--b--\n
-script: append 1 1\nappend 1.1 1\nappend 1.2 1\n
+script: append 1 1\nappend 1.2 1\n
 piece: \ntwo\n
 output: Content-Type: multipart/mixed; boundary=b\n\n--b\n\ntwo\n--b--\n
-errors: line 2: NotMultipart\nline 3: NoSuchSection\n
+errors: line 2: NoSuchSection\n
 status: Refused
 
 == a file as quoted-printable
@@ -160,11 +160,84 @@ status: Well
 
 == files that aren't attached
 message: Content-Type: multipart/mixed; boundary=b\n\n--b\n\none\n--b--\n
-script: attach 1 multipart/mixed n 1\nattach 1 text/plain a"b 1\nattach 1.1 text/plain n 1\nattach 1.2 text/plain n 1\n
+script: attach 1 multipart/mixed n 1\nattach 1 text/plain a"b 1\nattach 1.2 text/plain n 1\n
 piece: hi
 output: Content-Type: multipart/mixed; boundary=b\n\n--b\n\none\n--b--\n
-errors: line 1: BadType\nline 2: BadName\nline 3: NotMultipart\nline 4: NoSuchSection\n
+errors: line 1: BadType\nline 2: BadName\nline 3: NoSuchSection\n
 status: Refused
+
+== a file beside a text: both become parts
+message: A: 1\nContent-Type: text/plain; charset=utf-8\nB: 2\n\nhello\n
+script: attach 1 text/plain n.txt 1\n
+piece: hi\n
+output: A: 1\nB: 2\nMIME-Version: 1.0\nContent-Type: multipart/mixed; boundary="=_8344553d876f5237a138b961"\n\n--=_8344553d876f5237a138b961\nContent-Type: text/plain; charset=utf-8\n\nhello\n\n--=_8344553d876f5237a138b961\nContent-Type: text/plain; name="n.txt"\nContent-Disposition: attachment; filename="n.txt"\nContent-Transfer-Encoding: quoted-printable\n\nhi\n\n--=_8344553d876f5237a138b961--\n
+status: Well
+
+== which one undo takes back
+message: A: 1\nContent-Type: text/plain; charset=utf-8\nB: 2\n\nhello\n
+script: attach 1 text/plain n.txt 1\nundo\nundo\n
+piece: hi\n
+output: A: 1\nContent-Type: text/plain; charset=utf-8\nB: 2\n\nhello\n
+errors: line 3: NothingToUndo\n
+status: Refused
+
+== a second file goes after the first
+message: A: 1\nContent-Type: text/plain; charset=utf-8\nB: 2\n\nhello\n
+script: attach 1 text/plain n.txt 1\nattach 1 image/gif a.gif 2\n
+piece: hi\n
+piece: hi
+output: A: 1\nB: 2\nMIME-Version: 1.0\nContent-Type: multipart/mixed; boundary="=_8344553d876f5237a138b961"\n\n--=_8344553d876f5237a138b961\nContent-Type: text/plain; charset=utf-8\n\nhello\n\n--=_8344553d876f5237a138b961\nContent-Type: text/plain; name="n.txt"\nContent-Disposition: attachment; filename="n.txt"\nContent-Transfer-Encoding: quoted-printable\n\nhi\n\n--=_8344553d876f5237a138b961\nContent-Type: image/gif; name="a.gif"\nContent-Disposition: attachment; filename="a.gif"\nContent-Transfer-Encoding: base64\n\naGk=\n--=_8344553d876f5237a138b961--\n
+status: Well
+
+== beside a text that nothing ends, which keeps its content
+message: MIME-Version: 1.0\r\nA: 1\r\n\r\nhello
+script: attach 1 image/gif a.gif 1\n
+piece: hi
+output: MIME-Version: 1.0\r\nA: 1\r\nContent-Type: multipart/mixed; boundary="=_439099c8bd4e3956ef9d018e"\r\n\r\n--=_439099c8bd4e3956ef9d018e\r\n\r\nhello\r\n--=_439099c8bd4e3956ef9d018e\r\nContent-Type: image/gif; name="a.gif"\r\nContent-Disposition: attachment; filename="a.gif"\r\nContent-Transfer-Encoding: base64\r\n\r\naGk=\r\n--=_439099c8bd4e3956ef9d018e--\r\n
+status: Well
+
+== beside a part, in its place
+message: Content-Type: multipart/alternative; boundary=b\n\n--b\n\none\n--b\n\ntwo\n--b--\n
+script: attach 1.1 image/gif a.gif 1\n
+piece: hi
+output: Content-Type: multipart/alternative; boundary=b\n\n--b\nContent-Type: multipart/mixed; boundary="=_b748e01587a89d56696daeb3"\n\n--=_b748e01587a89d56696daeb3\n\none\n--=_b748e01587a89d56696daeb3\nContent-Type: image/gif; name="a.gif"\nContent-Disposition: attachment; filename="a.gif"\nContent-Transfer-Encoding: base64\n\naGk=\n--=_b748e01587a89d56696daeb3--\n--b\n\ntwo\n--b--\n
+status: Well
+
+== beside a message
+message: Content-Type: message/rfc822\n\nS: t\n\none\n
+script: attach 1 image/gif a.gif 1\n
+piece: hi
+output: MIME-Version: 1.0\nContent-Type: multipart/mixed; boundary="=_383fc5c7a3ac7deb1162b4dd"\n\n--=_383fc5c7a3ac7deb1162b4dd\nContent-Type: message/rfc822\n\nS: t\n\none\n--=_383fc5c7a3ac7deb1162b4dd\nContent-Type: image/gif; name="a.gif"\nContent-Disposition: attachment; filename="a.gif"\nContent-Transfer-Encoding: base64\n\naGk=\n--=_383fc5c7a3ac7deb1162b4dd--\n
+status: Well
+
+== an entity beside a text
+message: A: 1\n\nhello\n
+script: append 1 1\n
+piece: \ntwo\n
+output: A: 1\nMIME-Version: 1.0\nContent-Type: multipart/mixed; boundary="=_69e02ae8ae8a1f9f20469331"\n\n--=_69e02ae8ae8a1f9f20469331\n\nhello\n\n--=_69e02ae8ae8a1f9f20469331\n\ntwo\n--=_69e02ae8ae8a1f9f20469331--\n
+status: Well
+
+== an entity without an ending has no place before the close line
+message: A: 1\n\nhello\n
+script: append 1 1\n
+piece: \ntwo
+output: A: 1\n\nhello\n
+errors: line 1: OpenLine\n
+status: Refused
+
+== a name with spaces
+message: Content-Type: multipart/mixed; boundary=b\n\n--b\n\none\n--b--\n
+script: attach 1 application/pdf my files/a b  c.pdf 1\n
+piece: hi
+output: Content-Type: multipart/mixed; boundary=b\n\n--b\n\none\n--b\nContent-Type: application/pdf; name="a b  c.pdf"\nContent-Disposition: attachment; filename="a b  c.pdf"\nContent-Transfer-Encoding: base64\n\naGk=\n--b--\n
+status: Well
+
+== a name in UTF-8 is written a second time as it is
+message: Content-Type: multipart/mixed; boundary=b\n\n--b\n\none\n--b--\n
+script: attach 1 application/pdf Jahr für 1.pdf 1\n
+piece: hi
+output: Content-Type: multipart/mixed; boundary=b\n\n--b\n\none\n--b\nContent-Type: application/pdf; name="Jahr f__r 1.pdf"\nContent-Disposition: attachment; filename="Jahr f__r 1.pdf"; filename*=utf-8''Jahr%20f%C3%BCr%201.pdf\nContent-Transfer-Encoding: base64\n\naGk=\n--b--\n
+status: Well
 
 == a group of such words is made in turn, and is one step
 message: Content-Type: multipart/mixed; boundary=b\nA: 1\nA: 2\n\n--b\n\none\n--b--\n
@@ -185,10 +258,10 @@ status: Well
 
 == a refused word of a group undoes the others
 message: A: 1\nA: 2\n\nx\n
-script: begin\ndrop 1 A\nadd 1 B: 3\n\nappend 1 1\nend\nadd 1 C: 4\n
+script: begin\ndrop 1 A\nadd 1 B: 3\n\nappend 1.2 1\nend\nadd 1 C: 4\n
 piece: y\n
 output: A: 1\nA: 2\nC: 4\n\nx\n
-errors: line 5: NotMultipart\n
+errors: line 5: NoSuchSection\n
 status: Refused
 
 == a word of a group that stands for no edits undoes the others
@@ -227,6 +300,8 @@ step: remove 1.2 1.2 1.10
 == a path, a type, a name and a piece
 step: attach 1 text/plain n.txt 1
 step: attach 1.1 x a/b\\c 2
+step: attach 1 text/plain a b  c.txt 1
+step: attach 1 text/plain 1 2 2
 
 == something is missing
 fault: content 1
@@ -250,7 +325,10 @@ fault: drop 1 A B
 fault: drop 1 A\x20
 fault: remove 1.1  1.2
 fault: remove 1.1 1.2\x20
-fault: attach 1 text/plain a b 1
+fault: attach 1 text/plain  a 1
+fault: attach 1 text/plain a  1
+fault: attach 1  text/plain a 1
+fault: attach 1 text/plain a 1\x20
 
 == paths that aren't plain ones
 fault: remove 1.1 x

@@ -43,12 +43,12 @@ piece: two
 output: Content-Type: multipart/mixed; boundary=b\n\npreamble\n--b\n\ntwo
 status: Well
 
-== what isn't a multipart, and what isn't there
+== a text beside a text, one after both, and one that has no place
 message: A: 1\n\none\n
-script: append-text 1 1\nappend-text 1.1 1\nattach-text 1 text/plain 1\n
+script: append-text 1 1\nattach-text 1 text/plain 1\nappend-text 2 1\n
 piece: two\n
-output: A: 1\n\none\n
-errors: line 1: NotMultipart\nline 2: NoSuchSection\nline 3: NotMultipart\n
+output: A: 1\nMIME-Version: 1.0\nContent-Type: multipart/mixed; boundary="=_146ee66050d3a2a407d8a28c"\n\n--=_146ee66050d3a2a407d8a28c\n\none\n\n--=_146ee66050d3a2a407d8a28c\n\ntwo\n\n--=_146ee66050d3a2a407d8a28c\nContent-Type: text/plain\nContent-Transfer-Encoding: quoted-printable\n\ntwo\n\n--=_146ee66050d3a2a407d8a28c--\n
+errors: line 3: NoSuchSection\n
 status: Refused
 
 == a text holds a delimiter of the multipart
