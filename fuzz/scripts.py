@@ -11,15 +11,15 @@ FAULTY_PATHS = [b"0", b"1.0", b"01", b"1.", b".1", b"", b"1.4294967296", b"x", b
 FAULTY_LINES = [b" ", b"undo ", b"Undo", b"add", b"add 1", b"del 1 A", b"del 1 A 1 ", b"del 1  A 1", b"ren 1 A 1 ", b"ren 1 A 1 b c",
                 b"set 1 A 1", b"set 1  1 A: b", b"body 1 0", b"body 1 01", b"body 1 99", b"insert 1 00 1", b"insert 1 0", b"wrap 1 mixed",
                 b"wrap 1  b", b"remove 1 x", b"remove", b"content 1 0", b"content 1", b"encode 1 7bit", b"encode 1", b"encode 1 qp ", b"put 1", b"drop 1", b"drop 1 A B", b"put-piece 1 99", b"append 1  1",
-                b"attach 1 text/plain n", b"attach 1 text/plain a b 1", b"remove 1.1 1.2 ", b"contents 1 1", b"bogus", b" # x", b"begin x", b"end ", b"del 1 A 4294967296", b"del 1 A -1",
+                b"attach 1 text/plain n", b"attach 1 text/plain a  1", b"attach 1 text/plain  a 1", b"attach 1 text/plain a 1 ", b"attach 1 text/plain 1", b"remove 1.1 1.2 ", b"contents 1 1", b"bogus", b" # x", b"begin x", b"end ", b"del 1 A 4294967296", b"del 1 A -1",
                 b"replace 1", b"\xff", b"redo 1", b"begin", b"end"]
 SUBTYPES = [b"mixed", b"mixed", b"digest", b"Digest", b"alternative", b"x-y", b"a/b", b"\xff", b"mi\txed", b"\"x\""]
 LIMITS = [b"0", b"1", b"2", b"99999999999999999999", b"100000000000000000000", b"18446744073709551615", b"18446744073709551616", b"01", b"-1"]
 WORDS = [("add", 5), ("top", 3), ("del", 3), ("ren", 3), ("set", 3), ("body", 3), ("replace", 3), ("insert", 9), ("remove", 4), ("wrap", 5),
          ("content", 4), ("encode", 4), ("put", 3), ("put-piece", 2), ("drop", 2), ("append", 4), ("append-text", 3), ("attach", 3), ("undo", 4), ("redo", 2)]
-OF_LEAVES, OF_MULTIPARTS = ("body", "content", "encode"), ("insert", "append", "append-text", "attach")
+OF_LEAVES, OF_MULTIPARTS = ("body", "content", "encode"), ("insert",)
 OF_PIECES = ("body", "replace", "insert", "content", "put-piece", "append", "append-text", "attach")
-FILES = [b"n.txt", b"a/b.gif", b"x", b"-n", b"a/", b"a\\b", b"q\"q", b"\xc3\xa9", b"n" * 101]
+FILES = [b"n.txt", b"a/b.gif", b"x", b"-n", b"a/", b"a\\b", b"q\"q", b"\xc3\xa9", b"a b  c.txt", b"\xc3\xa9 1/\xe2\x82\xac 2.pdf", b"\xff", b"n" * 101]
 TYPES = [b"text/plain", b"image/gif", b"application/x-y", b"TEXT/html", b"multipart/mixed", b"message/rfc822", b"text", b"a/" + b"b" * 99]
 
 

@@ -1,5 +1,6 @@
 """What a word of a script stands for in a document: edits, made one after another."""
 
+import hashlib
 from dataclasses import dataclass, replace
 
 from . import edits, encodings, fields, lines, listing, packing, tree, values
@@ -119,16 +120,30 @@ def drop(job, document, section, ending):
     return [edits.Edit("del", job.path, name=job.name, number=1)] * count
 
 
+def is_multipart(section):
+    return isinstance(section.entity.body, tree.Multi)
+
+
 def is_last_followed(document, section):
-    """A line follows the last part, or else the preamble: the close line, or one after the section (own)."""
+    """A line follows the last part, or else the preamble: the close line, or one after the section; beside another section the close line does (own)."""
+    if not is_multipart(section):
+        return True
     parts = tree.children(section)
     if parts:
         return tree.is_followed(document, parts[-1])
     return bool(getattr(section.entity.body, "tail", ())) or tree.is_followed(document, section)
 
 
+def beside(job, raw):
+    """A section and a part become a multipart, whose boundary is made of the digest of both, each after its length (own)."""
+    digest = hashlib.sha256(b"".join(b"%d:" % len(text) + text for text in (raw, job.text))).hexdigest()
+    return [edits.Edit("wrap", job.path, subtype=b"mixed", boundary=b"=_" + digest[:24].encode()), edits.Edit("insert", job.path, place=1, text=job.text)]
+
+
 def append(job, document, section, ending):
-    """A part goes after the others; the last one gets an ending where nothing follows it (own)."""
+    """A part goes after the others, or beside a section that is no multipart; the last one gets an ending where nothing follows it (own)."""
+    if section is not None and not is_multipart(section):
+        return beside(job, lines.printed(tree.entity_lines(section.entity)))
     parts = tree.children(section) if section else []
     found = []
     if parts and not tree.is_followed(document, parts[-1]):
@@ -139,11 +154,11 @@ def append(job, document, section, ending):
 
 def attach(job, document, section, ending):
     """A file is packed as a part, which ends with an ending where a line is to follow (RFC 2046, 5.1.1)."""
-    name = job.name.rpartition(b"/")[2]
-    reason = packing.refusal([], [(job.media, (name, b""), job.text)], b"b")
+    names = packing.names_of(job.name.rpartition(b"/")[2], True)
+    reason = packing.refusal([], [(job.media, names, job.text)], b"b")
     if reason:
         raise Fault(reason.split(" ")[0])
-    part = packing.part(job.media, (name, b""), job.text, ending)
+    part = packing.part(job.media, names, job.text, ending)
     followed = section is not None and is_last_followed(document, section)
     return append(replace(job, text=part + ending if followed else part), document, section, ending)
 

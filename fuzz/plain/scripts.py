@@ -42,6 +42,13 @@ def word_of(given):
     return given
 
 
+def file_of(given):
+    """The name of a file may hold spaces, but not at its ends (own)."""
+    if given.strip(b" ") != given:
+        raise Fault
+    return word_of(given)
+
+
 def name_of(given):
     """The name of fields may have its colon (RFC 5322, 2.2; own)."""
     name = given.removesuffix(b":")
@@ -55,7 +62,11 @@ def parts_of(content):
     word = content.split(b" ")[0].decode("latin-1")
     if word not in WORDS:
         raise Fault
-    found = content.split(b" ", WORDS[word] - 1) if word in REST else content.split(b" ")
+    if word == "attach":
+        front, _, piece = content.rpartition(b" ")
+        found = front.split(b" ", WORDS[word] - 2) + [piece]
+    else:
+        found = content.split(b" ", WORDS[word] - 1) if word in REST else content.split(b" ")
     if len(found) != WORDS[word] and not (word == "remove" and len(found) > WORDS[word]):
         raise Fault
     return word, found[1:]
@@ -75,7 +86,7 @@ def job_of(word, given, pieces):
     if word == "drop":
         return jobs.Job(word, where, name=name_of(given[1]))
     if word == "attach":
-        return jobs.Job(word, where, text=piece(given[3], pieces), name=word_of(given[2]), media=word_of(given[1]))
+        return jobs.Job(word, where, text=piece(given[3], pieces), name=file_of(given[2]), media=word_of(given[1]))
     text = piece(given[1], pieces)
     return jobs.Job(word, where, text=text, given=text, piece=int(given[1]))
 
