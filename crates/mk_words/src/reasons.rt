@@ -13,7 +13,7 @@ const REASONS: [(&str, &str); 28] = [
     ),
     (
         "NotMultipart",
-        "this section isn't a multipart; 'wrap' puts it into one",
+        "this section isn't a multipart; 'append' and 'attach' put it into one",
     ),
     (
         "NotLeaf",

@@ -17,10 +17,10 @@ pub const EDIT_HELP: &str = "Lines of a script:
   encode PATH ENCODING       Encode the content of a leaf as quoted-printable, base64 or 8bit
   replace PATH PIECE         Replace the section with the one in a piece
   insert PATH PLACE PIECE    Insert the section in a piece into a multipart, after PLACE parts
-  append PATH PIECE          Insert the section in a piece after the last part
+  append PATH PIECE          Insert the section in a piece after the last part, or beside a leaf
   append-text PATH PIECE     Insert a part there with a piece as its content
   attach PATH TYPE NAME PIECE
-                             Insert a piece as a file after the last part, encoded
+                             Insert a piece there as a file, encoded
   attach-text PATH TYPE PIECE
                              Insert a piece there as a text to be shown, encoded
   remove PATH ..             Remove parts
