@@ -4,8 +4,8 @@ use Rattle.std.specs.Global.{Vec}
 use Rattle.std.specs.List.Sorted.{IsNonDecreasingBy}
 use Rattle.std.proofs.lemmas.List.{get_or-map, length-map}
 use Rattle.std.proofs.lemmas.List.Sorted.{IsPermutation-map}
-use Rattle.mk_field.specs.RoundsAsked.{word_of}
-use Rattle.mk_field.specs.declared.words.LetterWord.{LetterWord}
+use Rattle.mk_letters.specs.RoundsAsked.{word_of}
+use Rattle.mk_letters.specs.declared.words.LetterWord.{LetterWord}
 use Rattle.mk_asked.specs.Found.{AreInOrder, PlacedWord}
 use Rattle.mk_asked.specs.inner.Placed.{placed_word}
 

@@ -4,9 +4,9 @@ use Rattle.std.specs.List.Sorted.{IsNonDecreasingBy}
 use Rattle.std.specs.Option.{option_map}
 use Rattle.clap.specs.declared.parser.matches.Found.{Found}
 use Rattle.clap.specs.Matches.{matched_of, raw_values}
-use Rattle.mk_field.specs.RoundsAsked.{PlainWord}
-use Rattle.mk_field.specs.declared.words.Letter.{Letter}
-use Rattle.mk_field.specs.declared.words.Letter.TheVariants.{Prepend, Drops, Rename, AddIf, Add, Prefixed, Only, First, Last, Take, Whole}
+use Rattle.mk_letters.specs.RoundsAsked.{PlainWord}
+use Rattle.mk_letters.specs.declared.words.Letter.{Letter}
+use Rattle.mk_letters.specs.declared.words.Letter.TheVariants.{Prepend, Drops, Rename, AddIf, Add, Prefixed, Only, First, Last, Take, Whole}
 
 -- a letter with its word, and its place on the command line
 pub record PlacedWord : Type 0 where

@@ -2,7 +2,7 @@
 
 ghost use Rattle.std.specs.Prelude.{◌≡◌, ◌++◌, map, IfOk, OnOk};
 ghost use Rattle.clap.specs.Matches.{found_of};
-ghost use Rattle.mk_field.specs.RoundsAsked.{word_of};
+ghost use Rattle.mk_letters.specs.RoundsAsked.{word_of};
 ghost use Rattle.mk_asked.specs.Found.{AreInOrder, letter_found, letters_found, words_placed};
 ghost use Rattle.mk_asked.specs.inner.Placed.{placed_word};
 

@@ -139,12 +139,6 @@ pub some_there : (path : List ℕ) (rs : List PlainRound) (place : Option Place)
     → IsEdited (fitted place (section_made path rs text)) text refusal left
 some_there path rs place text left refusal t h = rw t h
 
--- the rest of a list from an index on
-pub raw_next : {X : Type 0} (i : ℕ) (xs : List X) (x : X) → i < length xs → x ≡ get_or xs i x → drop i xs ≡ x ∷ drop (i + 1) xs
-raw_next i [] x h e = absurd (omega (arith, h))
-raw_next zero (y ∷ ys) x h e = ap (λ z. z ∷ ys) (sym e)
-raw_next (suc i) (y ∷ ys) x h e = let n : suc (i + 1) ≡ suc i + 1 = omega arith in raw_next i ys x (omega (arith, h)) e ∙ ap (λ k. x ∷ drop k (y ∷ ys)) n
-
 -- a round that comes next may be asked for
 pub round_at : (rs : List Round) (i : ℕ) (x : Round) (rest : List Round) → drop i rs ≡ x ∷ rest → list_all is_round (map round_of rs) ≡ true → is_round (round_of x) ≡ true
 round_at [] zero x rest e h = cc

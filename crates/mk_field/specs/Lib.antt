@@ -1,7 +1,4 @@
-pub mod Asked
-pub mod RoundsAsked
 pub mod Wording
-pub mod FieldForms
 pub mod Filtering
 pub mod FilterViews
 pub mod FilterClauses

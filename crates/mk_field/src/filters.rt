@@ -4,10 +4,11 @@ ghost use Rattle.std.specs.Prelude.{◌≡◌, map, IfOk};
 ghost use Rattle.std.specs.List.{list_all, list_any};
 ghost use Rattle.mk_mail.specs.LetterViews.{letters_of};
 ghost use Rattle.mk_field.specs.Filtering.{ask as do_ask};
-ghost use Rattle.mk_field.specs.RoundsAsked.{round_letters};
+ghost use Rattle.mk_letters.specs.RoundsAsked.{round_letters};
 ghost use Rattle.mk_field.specs.FilterViews.{ask_alone as do_ask_alone, is_round, round_asks, round_asks_always, round_of};
 
 use mk_line::{Ending, eol_of};
+use mk_letters::RoundLetters;
 use mk_mail::{FromLines, Letters};
 use std::alloc::{AllocError, Global};
 
@@ -83,15 +84,6 @@ impl<'a> Round<'a> {
     {
         ask(self.lf) && ask(self.crlf)
     }
-}
-
-/// The letters of a round in memory.
-#[derive(Debug, Drop)]
-pub struct RoundLetters {
-    /// The letters for a text whose lines end with LF.
-    pub lf: Letters,
-    /// Those for a text whose lines end with CR LF.
-    pub crlf: Letters,
 }
 
 /// The rounds of these letters.

@@ -23,18 +23,15 @@
 mod fields;
 mod filtering;
 mod filters;
-mod forms;
 mod giving;
 mod headers;
-mod letters;
 mod telling;
 pub mod word_laws;
 mod wording;
-mod words;
 
 pub use filtering::{filter_one, run_field, try_field};
-pub use filters::{FieldFilter, Round, RoundLetters, ValueForm, rounds};
-pub use forms::FieldForm;
-pub use letters::LetterWords;
+pub use filters::{FieldFilter, Round, ValueForm, rounds};
+pub use mk_letters::{
+    FieldForm, Letter, LetterWord, LetterWords, RoundLetters, letters_of_rounds, rounds_of_words,
+};
 pub use mk_wording::takes_words;
-pub use words::{Letter, LetterWord, letters_of_rounds, rounds_of_words};

@@ -1,7 +1,7 @@
 -- A word and its place in memory as plain data.
 use Rattle.std.specs.Prelude.{ℕ}
-use Rattle.mk_field.specs.RoundsAsked.{word_of}
-use Rattle.mk_field.specs.declared.words.LetterWord.{LetterWord}
+use Rattle.mk_letters.specs.RoundsAsked.{word_of}
+use Rattle.mk_letters.specs.declared.words.LetterWord.{LetterWord}
 use Rattle.mk_asked.specs.Found.{PlacedWord}
 
 -- what is in memory

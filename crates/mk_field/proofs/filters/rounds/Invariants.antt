@@ -1,6 +1,6 @@
 use Rattle.std.proofs.Common.{◌≡◌, map, take}
 use Rattle.mk_field.specs.FilterViews.{round_of}
-use Rattle.mk_field.specs.RoundsAsked.{round_letters}
+use Rattle.mk_letters.specs.RoundsAsked.{round_letters}
 use Rattle.mk_field.proofs.filters.rounds.Given as goal
 
 abbrev pub invariant-loop-round : goal.invariant-loop-round

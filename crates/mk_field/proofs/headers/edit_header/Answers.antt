@@ -10,7 +10,8 @@ use Rattle.mk_mail.specs.Rounds.{letters_for}
 use Rattle.mk_field.specs.FilterViews.{round_of}
 use Rattle.mk_field.proofs.FilterLemmas.{allowed_for}
 use Rattle.mk_field.proofs.HeaderRounds.{SoFarBy, refused_round, round_by}
-use Rattle.mk_field.proofs.RoundLemmas.{raw_next, round_at}
+use Rattle.mk_letters.proofs.RoundWords.{raw_next}
+use Rattle.mk_field.proofs.RoundLemmas.{round_at}
 use Rattle.mk_field.proofs.headers.edit_header.Goals as goal
 
 pub field_edits_at-requires : goal.field_edits_at-requires

@@ -5,8 +5,8 @@ ghost use Rattle.std.specs.List.{list_all};
 ghost use Rattle.std.specs.Option.{option_and_then, option_map, option_map_or};
 ghost use Rattle.mk_line.specs.Ascii.{colon};
 ghost use Rattle.mk_mail.specs.LetterViews.{pattern_of, prepend_of};
-ghost use Rattle.mk_field.specs.Asked.{is_name_word, is_pair_word, name_in as name_in_word, pattern_asked, pattern_in, prepend_in};
-ghost use Rattle.mk_field.specs.FieldForms.{in_form as made_in_form};
+ghost use Rattle.mk_letters.specs.Asked.{is_name_word, is_pair_word, name_in as name_in_word, pattern_asked, pattern_in, prepend_in};
+ghost use Rattle.mk_letters.specs.FieldForms.{in_form as made_in_form};
 ghost use Rattle.mk_script.specs.Paths.{parted as parted_at};
 
 use crate::forms::{FieldForm, in_form};
@@ -51,8 +51,8 @@ impl LetterWords<'_> {
     ghost use Rattle.std.specs.Prelude.{◌≡◌, ◌≢◌, IfOk, OnOk};
     ghost use Rattle.std.specs.Option.{option_map};
     ghost use Rattle.mk_mail.specs.LetterViews.{letters_of};
-    ghost use Rattle.mk_field.specs.Asked.{asked, have_colons as words_have_colons, letters_asked, words_of};
-    ghost use Rattle.mk_field.specs.RoundsAsked.{letters_if, letters_in};
+    ghost use Rattle.mk_letters.specs.Asked.{asked, have_colons as words_have_colons, letters_asked, words_of};
+    ghost use Rattle.mk_letters.specs.RoundsAsked.{letters_if, letters_in};
 
     /// What the words ask for. `None` if a name has no colon after it.
     pub fn letters(&self, alloc: Global) -> Result<Option<Letters>, AllocError>

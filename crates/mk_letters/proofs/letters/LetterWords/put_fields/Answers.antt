@@ -1,4 +1,4 @@
-use Rattle.mk_field.proofs.letters.LetterWords.put_fields.Goals as goal
+use Rattle.mk_letters.proofs.letters.LetterWords.put_fields.Goals as goal
 
 pub returns : goal.returns
 returns c = λ same. λ i. record {

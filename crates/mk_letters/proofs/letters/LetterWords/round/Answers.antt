@@ -1,8 +1,8 @@
 use Rattle.mk_line.specs.declared.cutting.Ending.TheVariants.{Crlf, Lf}
 use Rattle.mk_mail.specs.LetterViews.{letters_of}
-use Rattle.mk_field.specs.Asked.{words_of}
-use Rattle.mk_field.proofs.RoundWords.{no_round, round_some}
-use Rattle.mk_field.proofs.letters.LetterWords.round.Goals as goal
+use Rattle.mk_letters.specs.Asked.{words_of}
+use Rattle.mk_letters.proofs.RoundWords.{no_round, round_some}
+use Rattle.mk_letters.proofs.letters.LetterWords.round.Goals as goal
 
 pub returns-in_default : goal.returns-in_default
 returns-in_default c = no_round c.args.form Lf (words_of c.args.self.now) (rw c.in_default.is at c.in_ok-lf.ensures)

@@ -6,13 +6,13 @@ use Rattle.mk_line.specs.declared.cutting.Ending.TheVariants.{Crlf, Lf}
 use Rattle.mk_mail.specs.LetterViews.{letters_of}
 use Rattle.mk_mail.specs.Letters.{PlainLetters}
 use Rattle.mk_mail.specs.Rounds.{PlainRound}
-use Rattle.mk_field.specs.Asked.{PlainWords, have_colons, letters_asked}
-use Rattle.mk_field.specs.FieldForms.{words_in_form}
-use Rattle.mk_field.specs.declared.filters.RoundLetters.{RoundLetters}
-use Rattle.mk_field.specs.declared.forms.FieldForm.{FieldForm}
-use Rattle.mk_field.specs.declared.words.Letter.{Letter}
-use Rattle.mk_field.specs.declared.words.Letter.TheVariants.{Prepend, Drops, Rename, AddIf, Add, Prefixed, Only, First, Last, Take, Whole}
-use Rattle.mk_field.specs.declared.words.LetterWord.{LetterWord}
+use Rattle.mk_letters.specs.Asked.{PlainWords, have_colons, letters_asked}
+use Rattle.mk_letters.specs.FieldForms.{words_in_form}
+use Rattle.mk_letters.specs.declared.words.RoundLetters.{RoundLetters}
+use Rattle.mk_letters.specs.declared.forms.FieldForm.{FieldForm}
+use Rattle.mk_letters.specs.declared.words.Letter.{Letter}
+use Rattle.mk_letters.specs.declared.words.Letter.TheVariants.{Prepend, Drops, Rename, AddIf, Add, Prefixed, Only, First, Last, Take, Whole}
+use Rattle.mk_letters.specs.declared.words.LetterWord.{LetterWord}
 
 -- a letter, and the word after it
 pub record PlainWord : Type 0 where

@@ -1,14 +1,20 @@
 -- Words of the command line put into rounds, and what rounds of words ask for.
-use Rattle.std.proofs.Common.{◌≡◌, ◌++◌, ◌&&◌, if◌then◌else◌, ℕ, Bool, true, false, Option, None, Some, List, [], ◌∷◌, zero, suc, ◌+◌, ◌<◌, length, take, get_or, arith, refl, ap, sym, ◌∙◌, map, append_assoc}
+use Rattle.std.proofs.Common.{◌≡◌, ◌++◌, ◌&&◌, if◌then◌else◌, ℕ, Bool, true, false, Option, None, Some, List, [], ◌∷◌, zero, suc, ◌+◌, ◌<◌, length, take, drop, get_or, arith, refl, ap, sym, ◌∙◌, map, append_assoc}
 use Rattle.std.proofs.lemmas.List.{map-append}
 use Rattle.mk_line.specs.declared.cutting.Ending.{Ending}
 use Rattle.mk_line.specs.declared.cutting.Ending.TheVariants.{Crlf, Lf}
 use Rattle.mk_mail.specs.Letters.{PlainLetters}
-use Rattle.mk_field.specs.declared.forms.FieldForm.{FieldForm}
+use Rattle.mk_letters.specs.declared.forms.FieldForm.{FieldForm}
 use Rattle.std.specs.List.{list_all}
-use Rattle.mk_field.specs.Asked.{PlainWords, asked, have_colons, letters_asked}
-use Rattle.mk_field.specs.RoundsAsked.{PlainWord, is_given, letters_if, letters_in, no_words, round_if, round_in, rounds_asked, rounds_from, with_word}
+use Rattle.mk_letters.specs.Asked.{PlainWords, asked, have_colons, letters_asked}
+use Rattle.mk_letters.specs.RoundsAsked.{PlainWord, is_given, letters_if, letters_in, no_words, round_if, round_in, rounds_asked, rounds_from, with_word}
 use Rattle.mk_mail.specs.Rounds.{PlainRound}
+
+-- the rest of a list from an index on
+pub raw_next : {X : Type 0} (i : ℕ) (xs : List X) (x : X) → i < length xs → x ≡ get_or xs i x → drop i xs ≡ x ∷ drop (i + 1) xs
+raw_next i [] x h e = absurd (omega (arith, h))
+raw_next zero (y ∷ ys) x h e = ap (λ z. z ∷ ys) (sym e)
+raw_next (suc i) (y ∷ ys) x h e = let n : suc (i + 1) ≡ suc i + 1 = omega arith in raw_next i ys x (omega (arith, h)) e ∙ ap (λ k. x ∷ drop k (y ∷ ys)) n
 
 -- a word more in the round that has begun
 pub word_on : (done all : List PlainWords) (w : PlainWords) (x : PlainWord) (rest : List PlainWord) → done ++ rounds_from w (x ∷ rest) ≡ all → is_given x.letter w ≡ false → done ++ rounds_from (with_word x w) rest ≡ all

@@ -2,13 +2,13 @@
 
 ghost use Rattle.std.specs.Prelude.{◌≡◌, map, IfOk};
 ghost use Rattle.std.specs.Option.{option_map};
-ghost use Rattle.mk_field.specs.Asked.{words_of};
-ghost use Rattle.mk_field.specs.RoundsAsked.{round_letters, rounds_asked, rounds_given, word_of};
+ghost use Rattle.mk_letters.specs.Asked.{words_of};
+ghost use Rattle.mk_letters.specs.RoundsAsked.{round_letters, rounds_asked, rounds_given, word_of};
 
-use crate::filters::RoundLetters;
 use crate::forms::FieldForm;
 use crate::letters::LetterWords;
 use mk_line::Ending;
+use mk_mail::Letters;
 use std::alloc::{AllocError, Global};
 use std::mem;
 
@@ -46,6 +46,15 @@ pub struct LetterWord<'a> {
     pub letter: Letter,
     /// Its word.
     pub word: &'a str,
+}
+
+/// The letters of a round in memory.
+#[derive(Debug, Drop)]
+pub struct RoundLetters {
+    /// The letters for a text whose lines end with LF.
+    pub lf: Letters,
+    /// Those for a text whose lines end with CR LF.
+    pub crlf: Letters,
 }
 
 /// The rounds of letters that are given in this order. A letter that its round has already begins another.
@@ -88,8 +97,8 @@ pub fn letters_of_rounds(
 impl<'a> LetterWords<'a> {
     ghost use Rattle.std.specs.Prelude.{◌≡◌, ◌∷◌, [], IfOk, OnOk};
     ghost use Rattle.std.specs.Option.{option_map};
-    ghost use Rattle.mk_field.specs.Asked.{have_colons as words_have_colons, words_of};
-    ghost use Rattle.mk_field.specs.RoundsAsked.{is_given, no_words, round_if, round_letters, with_word, word_of};
+    ghost use Rattle.mk_letters.specs.Asked.{have_colons as words_have_colons, words_of};
+    ghost use Rattle.mk_letters.specs.RoundsAsked.{is_given, no_words, round_if, round_letters, with_word, word_of};
 
     /// No words.
     pub fn none(alloc: Global) -> LetterWords<'a>

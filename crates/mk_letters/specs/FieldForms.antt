@@ -3,9 +3,9 @@ use Rattle.std.specs.Prelude.{if◌then◌else◌, ℕ, List}
 use Rattle.std.specs.Option.{option_map}
 use Rattle.mk_line.specs.declared.cutting.Ending.{Ending}
 use Rattle.mk_script.specs.Endings.{turned_to}
-use Rattle.mk_field.specs.Asked.{PlainWords}
+use Rattle.mk_letters.specs.Asked.{PlainWords}
 use Rattle.mk_wording.specs.Wording.{worded_field}
-use Rattle.mk_field.specs.declared.forms.FieldForm.{FieldForm}
+use Rattle.mk_letters.specs.declared.forms.FieldForm.{FieldForm}
 
 -- a field in a form, for a message whose lines end so: in encoded words (`--encode`), and with the ending of the message at each of
 -- its lines (`--eol`), where these are asked for

@@ -1,8 +1,8 @@
 use Rattle.std.proofs.Common.{◌≡◌, drop, map, take}
 use Rattle.std.specs.List.{list_all}
-use Rattle.mk_field.specs.Asked.{have_colons, words_of}
-use Rattle.mk_field.specs.RoundsAsked.{round_in, round_letters}
-use Rattle.mk_field.proofs.words.letters_of_rounds.Given as goal
+use Rattle.mk_letters.specs.Asked.{have_colons, words_of}
+use Rattle.mk_letters.specs.RoundsAsked.{round_in, round_letters}
+use Rattle.mk_letters.proofs.words.letters_of_rounds.Given as goal
 
 abbrev pub invariant-loop-words : goal.invariant-loop-words
 invariant-loop-words l = record {

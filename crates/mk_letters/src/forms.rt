@@ -1,7 +1,7 @@
 //! The forms in which the fields of letters go into a message.
 
 ghost use Rattle.std.specs.Prelude.{◌≡◌, ◌≢◌, if◌then◌else◌, IfOk};
-ghost use Rattle.mk_field.specs.FieldForms.{in_form as field_in_form};
+ghost use Rattle.mk_letters.specs.FieldForms.{in_form as field_in_form};
 ghost use Rattle.mk_wording.specs.Wording.{worded_field as field_in_words};
 
 use mk_line::Ending;

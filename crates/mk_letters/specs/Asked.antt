@@ -8,7 +8,7 @@ use Rattle.mk_line.specs.Lines.{is_nil}
 use Rattle.mk_mail.specs.Letters.{PlainLetters, PlainPattern}
 use Rattle.mk_mail.specs.Prepended.{PlainPrepend}
 use Rattle.mk_script.specs.Paths.{parted}
-use Rattle.mk_field.specs.declared.letters.LetterWords.{LetterWords}
+use Rattle.mk_letters.specs.declared.letters.LetterWords.{LetterWords}
 
 -- the words that stand after letters, each where its letter was given
 pub record PlainWords : Type 0 where

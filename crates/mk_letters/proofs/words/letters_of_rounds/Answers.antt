@@ -1,10 +1,9 @@
 use Rattle.std.proofs.Common.{◌≡◌, ◌∙◌, ◌+◌, ◌∷◌, ap, sym, drop, map, arith}
 use Rattle.std.specs.List.{list_all}
-use Rattle.mk_field.specs.Asked.{have_colons, words_of}
-use Rattle.mk_field.specs.RoundsAsked.{round_in, round_letters}
-use Rattle.mk_field.proofs.RoundLemmas.{raw_next}
-use Rattle.mk_field.proofs.RoundWords.{colons_on, made_more, none_asked, round_is, round_none}
-use Rattle.mk_field.proofs.words.letters_of_rounds.Goals as goal
+use Rattle.mk_letters.specs.Asked.{have_colons, words_of}
+use Rattle.mk_letters.specs.RoundsAsked.{round_in, round_letters}
+use Rattle.mk_letters.proofs.RoundWords.{raw_next, colons_on, made_more, none_asked, round_is, round_none}
+use Rattle.mk_letters.proofs.words.letters_of_rounds.Goals as goal
 
 pub returns-in-None : goal.returns-in-None
 returns-in-None c =
