@@ -33,7 +33,7 @@ OPTIONS = {
     "unpack": {"-C <DIR>": "d", "-s <PATH>": "1"},
     "pack": {"-b <BOUNDARY>": "b", "-m <SUBTYPE>": "related", "--charset <NAME>": "utf-8", "--forward <FILE>": "f"},
     "field": {
-        "--prepend <NAME:TEXT>": "A:b", "--drop <NAME:>": "A:", "--rename <OLD:NEW>": "A:B", "-a <FIELD>": "A: 1", "-A <FIELD>": "A: 1", "-i <FIELD>": "A: 1", "-I <FIELD>": "A: 1",
+        "--prepend <NAME:TEXT>": "A:b", "--drop <NAME:>": "A:", "--keep <NAME:>": "A:", "--keep-only <NAME:>": "A:", "--rename <OLD:NEW>": "A:B", "-a <FIELD>": "A: 1", "-A <FIELD>": "A: 1", "-i <FIELD>": "A: 1", "-I <FIELD>": "A: 1",
         "-u <NAME:>": "A:", "-U <NAME:>": "A:", "-x <NAME:>": "A:", "-X <NAME:>": "A:", "-j <JOURNAL>": "j", "-D <FILE>": "f",
     },
     "reply": {},
@@ -72,8 +72,8 @@ VALUES = [
       for letter in ("-i", "-I") for value in ("", "x", ":", ": x", "A b: c", "A: b\n", "A: b\nC: d")],
     *[(["field", "--prepend", value], "--prepend <NAME:TEXT>", value, A_TEXT)
       for value in ("", "A", ":", "A:", "A: ", "A:\t", ":b", "A b:c", "A:b\nc", "A:b\r")],
-    *[(["field", "--drop", value], "--drop <NAME:>", value, A_NAME_OR_FRONT)
-      for value in ("", "A", ":", "A: b", "A b:", "A:B:", "*:", "*", "A b*:", "A*")],
+    *[(["field", letter, value], f"{letter} <NAME:>", value, A_NAME_OR_FRONT)
+      for letter in ("--drop", "--keep", "--keep-only") for value in ("", "A", ":", "A: b", "A b:", "A:B:", "*:", "*", "A b*:", "A*")],
     (["field", "--drop", "A:", "--drop", "B"], "--drop <NAME:>", "B", A_NAME_OR_FRONT),
     (["field", "-u", "A", "--drop", "B"], "--drop <NAME:>", "B", A_NAME_OR_FRONT),
     (["field", "-A", "A: 1", "-A", "x"], "-A <FIELD>", "x", A_FIELD),
@@ -92,7 +92,7 @@ BESIDE = [
     ["-x", "A:", "-X", "A:"],
     ["-x", "A:", "-x", "B:", "-X", "A:"],
     *[[letter, "A:", *other] for letter in ("-x", "-X") for other in (
-        ["--prepend", "A:b"], ["--drop", "A:"], ["--rename", "A:B"], ["-a", "A: 1"], ["-A", "A: 1"], ["-i", "A: 1"], ["-I", "A: 1"], ["-u", "A:"], ["-U", "A:"])],
+        ["--prepend", "A:b"], ["--drop", "A:"], ["--keep", "A:"], ["--keep-only", "A:"], ["--rename", "A:B"], ["-a", "A: 1"], ["-A", "A: 1"], ["-i", "A: 1"], ["-I", "A: 1"], ["-u", "A:"], ["-U", "A:"])],
 ]
 
 # Other command lines, and all that has to be said of each.
@@ -180,7 +180,7 @@ NO_TEXT = [
 
 # Options that may be given again.
 FILES = ["field", "sections", "extract", "unpack", "check", "messages"]
-REPEATED = {*((command, "--from") for command in FILES), ("edit", "--in-place"), ("field", "--in-place"), ("edit", "-e"), ("unpack", "-s"), ("extract", "-s"), ("pack", "--forward"), *(("field", letter) for letter in ("--prepend", "--drop", "--rename", "-a", "-A", "-i", "-I", "-u", "-U", "-x", "-X"))}
+REPEATED = {*((command, "--from") for command in FILES), ("edit", "--in-place"), ("field", "--in-place"), ("edit", "-e"), ("unpack", "-s"), ("extract", "-s"), ("pack", "--forward"), *(("field", letter) for letter in ("--prepend", "--drop", "--keep", "--keep-only", "--rename", "-a", "-A", "-i", "-I", "-u", "-U", "-x", "-X"))}
 
 
 def doubled():

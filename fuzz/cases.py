@@ -83,7 +83,7 @@ def letter(chooser, name, there):
         old = a_name(chooser, there)
         new = old.swapcase() if chooser.maybe(0.2) else a_name(chooser, there)
         return [name, chooser.choice(FAULTY_NAMES) if odd else old + b":" + new]
-    if name == b"--drop":
+    if name in (b"--drop", b"--keep", b"--keep-only"):
         dropped = a_name(chooser, there)
         front = dropped[:chooser.choice([1, 2, 4])] + b"*"
         return [name, chooser.choice(FAULTY_NAMES + [b"*:"]) if odd else (front if chooser.maybe(0.4) else dropped) + b":"]
@@ -104,8 +104,8 @@ def field(chooser):
     if chooser.maybe(0.2):
         chosen = [chooser.choice([b"-x", b"-X"])] * chooser.choice([1, 1, 1, 2, 3]) + chooser.some([b"-x", b"-X", b"-a"], 1)[:chooser.maybe(0.1)]
     else:
-        every = [b"--drop", b"--rename", b"-a", b"-A", b"-i", b"-I", b"-u", b"-U"]
-        chosen = chooser.sample(every, chooser.choice([0, 1, 1, 1, 2, 2, 3, 8]))
+        every = [b"--drop", b"--keep", b"--keep-only", b"--rename", b"-a", b"-A", b"-i", b"-I", b"-u", b"-U"]
+        chosen = chooser.sample(every, chooser.choice([0, 1, 1, 1, 2, 2, 3, 10]))
         for _ in range(chooser.choice([0, 0, 0, 1, 2, 4])):
             chosen.append(chooser.choice(every))
     words = [b"field"] + [word for name in chosen for word in letter(chooser, name, there)]

@@ -2,7 +2,8 @@
 
 from . import addresses, edits, fields, lines, session, tree, values, wording
 
-EDITING = ("--drop", "--rename", "-a", "-A", "-i", "-I", "-u", "-U")
+EDITING = ("removal", "--rename", "-a", "-A", "-i", "-I", "-u", "-U")
+BY_NAMES = ("--drop", "--keep", "--keep-only")
 PRINTING = ("-x", "-X")
 WITH_FIELDS = ("-a", "-A", "-i", "-I")
 SHAPES = (b"--unfold", b"--decode", b"--addresses")
@@ -61,7 +62,7 @@ def is_allowed_letter(letter, word):
         return bool(colon) and lines.is_name(old) and lines.is_name(new)
     if letter in ("-u", "-U", "-x", "-X"):
         return word.endswith(b":") and lines.is_name(word[:-1])
-    if letter == "--drop":
+    if letter in BY_NAMES:
         return word.endswith(b":") and lines.is_name(pattern(word)[0])
     return is_open_field(word) and not (letter in ("-a", "-A") and is_bare(word))
 
@@ -73,11 +74,11 @@ def are_allowed(given):
 
 
 def rounds(given):
-    """A letter that its round has already begins another; `--drop` never does (own)."""
+    """A letter that its round has already begins another; `--drop`, `--keep` and `--keep-only` never do (own)."""
     found = [{}]
     for letter, word in given:
-        if letter == "--drop":
-            found[-1].setdefault(letter, []).append(word)
+        if letter in BY_NAMES:
+            found[-1].setdefault("removal", []).append((letter, word))
             continue
         if letter in found[-1]:
             found.append({})
@@ -99,16 +100,26 @@ def rename_edits(head, word, path):
             for number in range(1, len(fields.numbers(head, old)) + 1)]
 
 
-def drop_edits(head, words, path):
-    """The fields that are meant go, each as the first of its name (own)."""
+def goes(given, name):
+    """A name goes that is dropped, and where some are kept each other one; what says the structure stays then, unless
+    `--keep-only` was given (own; RFC 2045, 4 and 9)."""
+    dropped = any(is_meant(word, name) for letter, word in given if letter == "--drop")
+    kept = [word for letter, word in given if letter != "--drop"]
+    structural = name.lower() == b"mime-version" or name.lower().startswith(b"content-")
+    only = any(letter == "--keep-only" for letter, _ in given)
+    return dropped or (bool(kept) and not any(is_meant(word, name) for word in kept) and (only or not structural))
+
+
+def removal_edits(head, given, path):
+    """The fields go whose names go, each as the first of its name (own)."""
     names = [fields.name(field) for field in head]
-    return [edits.Edit("del", path, name=name, number=1) for name in names if any(is_meant(word, name) for word in words)]
+    return [edits.Edit("del", path, name=name, number=1) for name in names if goes(given, name)]
 
 
 def letter_edits(letter, word, head, ending, path):
     """The edits of one letter on the fields that are there (own)."""
-    if letter == "--drop":
-        return drop_edits(head, word, path)
+    if letter == "removal":
+        return removal_edits(head, word, path)
     name = word[:-1] if letter in ("-u", "-U") else lines.name_of(word)
     there = fields.numbers(head, name)
     adding = [edits.Edit("add", path, text=word + ending)]

@@ -6,7 +6,7 @@ use Rattle.clap.specs.declared.parser.matches.Found.{Found}
 use Rattle.clap.specs.Matches.{matched_of, raw_values}
 use Rattle.mk_letters.specs.RoundsAsked.{PlainWord}
 use Rattle.mk_letters.specs.declared.words.Letter.{Letter}
-use Rattle.mk_letters.specs.declared.words.Letter.TheVariants.{Prepend, Drops, Rename, AddIf, Add, Prefixed, Only, First, Last, Take, Whole}
+use Rattle.mk_letters.specs.declared.words.Letter.TheVariants.{Prepend, Drops, Keeps, KeepsOnly, Rename, AddIf, Add, Prefixed, Only, First, Last, Take, Whole}
 
 -- a letter with its word, and its place on the command line
 pub record PlacedWord : Type 0 where
@@ -35,7 +35,9 @@ letter_found found letter option = words_placed letter (words_found found option
 abbrev pub letters_found : Found → List PlacedWord
 letters_found found =
     letter_found found Prepend (codes "prepend")
-    ++ letter_found found Drops (codes "drop") ++ letter_found found Rename (codes "rename")
+    ++ letter_found found Drops (codes "drop")
+    ++ letter_found found Keeps (codes "keep") ++ letter_found found KeepsOnly (codes "keep-only")
+    ++ letter_found found Rename (codes "rename")
     ++ letter_found found AddIf (codes "add-if") ++ letter_found found Add (codes "add")
     ++ letter_found found Prefixed (codes "prefixed") ++ letter_found found Only (codes "only")
     ++ letter_found found First (codes "first") ++ letter_found found Last (codes "last")

@@ -9,8 +9,8 @@ ghost use Rattle.mk_asked.specs.inner.Placed.{placed_word};
 use clap::ArgMatches;
 use mk_field::{Letter, LetterWord, LetterWords, takes_words};
 use mk_words::options::{
-    ADD, ADD_IF, ADDRESSES, DECODE, DROP, ENCODE, EOL, FIRST, LAST, ONLY, PREFIXED, PREPEND,
-    RENAME, TAKE, UNFOLD, WHOLE,
+    ADD, ADD_IF, ADDRESSES, DECODE, DROP, ENCODE, EOL, FIRST, KEEP, KEEP_ONLY, LAST, ONLY,
+    PREFIXED, PREPEND, RENAME, TAKE, UNFOLD, WHOLE,
 };
 use std::alloc::{AllocError, Global};
 
@@ -46,6 +46,8 @@ pub(crate) fn placed_words<'a>(
     let mut placed = Vec::new(alloc);
     place(&mut placed, matches, Letter::Prepend, PREPEND)?;
     place(&mut placed, matches, Letter::Drops, DROP)?;
+    place(&mut placed, matches, Letter::Keeps, KEEP)?;
+    place(&mut placed, matches, Letter::KeepsOnly, KEEP_ONLY)?;
     place(&mut placed, matches, Letter::Rename, RENAME)?;
     place(&mut placed, matches, Letter::AddIf, ADD_IF)?;
     place(&mut placed, matches, Letter::Add, ADD)?;
@@ -234,6 +236,8 @@ fn shown(letter: Letter) -> (&'static str, &'static str) {
     match letter {
         Letter::Prepend => ("--prepend <NAME:TEXT>", A_TEXT),
         Letter::Drops => ("--drop <NAME:>", A_NAME_OR_FRONT),
+        Letter::Keeps => ("--keep <NAME:>", A_NAME_OR_FRONT),
+        Letter::KeepsOnly => ("--keep-only <NAME:>", A_NAME_OR_FRONT),
         Letter::Rename => ("--rename <OLD:NEW>", A_PAIR),
         Letter::AddIf => ("-a <FIELD>", A_FIELD),
         Letter::Add => ("-A <FIELD>", A_FIELD),

@@ -15,6 +15,8 @@ pub fn no_letters(alloc: Global) -> Letters {
     Letters {
         prepend: None,
         drops: Vec::new(alloc),
+        keeps: Vec::new(alloc),
+        keep_only: false,
         rename: None,
         add_if: None,
         add: None,

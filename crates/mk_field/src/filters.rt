@@ -7,8 +7,8 @@ ghost use Rattle.mk_field.specs.Filtering.{ask as do_ask};
 ghost use Rattle.mk_letters.specs.RoundsAsked.{round_letters};
 ghost use Rattle.mk_field.specs.FilterViews.{ask_alone as do_ask_alone, is_round, round_asks, round_asks_always, round_of};
 
-use mk_line::{Ending, eol_of};
 use mk_letters::RoundLetters;
+use mk_line::{Ending, eol_of};
 use mk_mail::{FromLines, Letters};
 use std::alloc::{AllocError, Global};
 

@@ -16,6 +16,10 @@ pub record PlainWords : Type 0 where
   pub prepend : Option (List ℕ)
   -- --drop, each time
   pub drops : List (List ℕ)
+  -- --keep and --keep-only, each time
+  pub keeps : List (List ℕ)
+  -- whether one of these is --keep-only
+  pub keep_only : Bool
   -- --rename
   pub rename : Option (List ℕ)
   -- -a
@@ -40,6 +44,8 @@ abbrev pub words_of : LetterWords → PlainWords
 words_of w = record {
   prepend = option_map (λ s. s.now) w.prepend;
   drops = map (λ s. s.now) w.drops.items;
+  keeps = map (λ s. s.now) w.keeps.items;
+  keep_only = w.keep_only;
   rename = option_map (λ s. s.now) w.rename;
   add_if = option_map (λ s. s.now) w.add_if;
   add = option_map (λ s. s.now) w.add;
@@ -79,13 +85,15 @@ prepend_in p = record { name = p.0; text = drop (prefix_len is_blank p.1) p.1 }
 -- the words that take names have their colons
 abbrev pub have_colons : PlainWords → Bool
 have_colons w =
-    list_all is_name_word w.drops && option_map_or is_name_word w.first true && (option_map_or is_name_word w.last true && (option_map_or is_name_word w.take true && (option_map_or is_name_word w.whole true && (option_map_or is_pair_word w.rename true && option_map_or is_pair_word w.prepend true))))
+    list_all is_name_word w.drops && list_all is_name_word w.keeps && option_map_or is_name_word w.first true && (option_map_or is_name_word w.last true && (option_map_or is_name_word w.take true && (option_map_or is_name_word w.whole true && (option_map_or is_pair_word w.rename true && option_map_or is_pair_word w.prepend true))))
 
 -- what words ask for, each by the letter that takes it
 abbrev pub letters_asked : PlainWords → PlainLetters
 letters_asked w = record {
   prepend = option_map prepend_in (option_and_then (parted colon) w.prepend);
   drops = map pattern_asked w.drops;
+  keeps = map pattern_asked w.keeps;
+  keep_only = w.keep_only;
   rename = option_and_then (parted colon) w.rename;
   add_if = w.add_if;
   add = w.add;

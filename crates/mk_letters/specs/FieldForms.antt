@@ -19,6 +19,8 @@ abbrev pub words_in_form : FieldForm → Ending → PlainWords → PlainWords
 words_in_form form eol w = record {
   prepend = w.prepend;
   drops = w.drops;
+  keeps = w.keeps;
+  keep_only = w.keep_only;
   rename = w.rename;
   add_if = option_map (in_form form eol) w.add_if;
   add = option_map (in_form form eol) w.add;

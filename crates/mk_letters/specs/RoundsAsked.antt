@@ -1,5 +1,5 @@
 -- Letters of a command line in rounds (own).
-use Rattle.std.specs.Prelude.{◌++◌, if◌then◌else◌, ℕ, Bool, false, Option, None, Some, List, [], ◌∷◌, is_some, map}
+use Rattle.std.specs.Prelude.{◌++◌, if◌then◌else◌, ℕ, Bool, true, false, Option, None, Some, List, [], ◌∷◌, is_some, map}
 use Rattle.std.specs.List.{list_all}
 use Rattle.mk_line.specs.declared.cutting.Ending.{Ending}
 use Rattle.mk_line.specs.declared.cutting.Ending.TheVariants.{Crlf, Lf}
@@ -11,7 +11,7 @@ use Rattle.mk_letters.specs.FieldForms.{words_in_form}
 use Rattle.mk_letters.specs.declared.words.RoundLetters.{RoundLetters}
 use Rattle.mk_letters.specs.declared.forms.FieldForm.{FieldForm}
 use Rattle.mk_letters.specs.declared.words.Letter.{Letter}
-use Rattle.mk_letters.specs.declared.words.Letter.TheVariants.{Prepend, Drops, Rename, AddIf, Add, Prefixed, Only, First, Last, Take, Whole}
+use Rattle.mk_letters.specs.declared.words.Letter.TheVariants.{Prepend, Drops, Keeps, KeepsOnly, Rename, AddIf, Add, Prefixed, Only, First, Last, Take, Whole}
 use Rattle.mk_letters.specs.declared.words.LetterWord.{LetterWord}
 
 -- a letter, and the word after it
@@ -25,12 +25,14 @@ word_of w = record { letter = w.letter; word = w.word.now }
 
 -- no words
 abbrev pub no_words : PlainWords
-no_words = record { prepend = None; drops = []; rename = None; add_if = None; add = None; prefixed = None; only = None; first = None; last = None; take = None; whole = None }
+no_words = record { prepend = None; drops = []; keeps = []; keep_only = false; rename = None; add_if = None; add = None; prefixed = None; only = None; first = None; last = None; take = None; whole = None }
 
--- whether a round has its one word of a letter; it may have any number of `--drop`
+-- whether a round has its one word of a letter; it may have any number of `--drop`, `--keep` and `--keep-only`
 abbrev pub is_given : Letter → PlainWords → Bool
 is_given Prepend w = is_some w.prepend
 is_given Drops w = false
+is_given Keeps w = false
+is_given KeepsOnly w = false
 is_given Rename w = is_some w.rename
 is_given AddIf w = is_some w.add_if
 is_given Add w = is_some w.add
@@ -45,6 +47,8 @@ is_given Whole w = is_some w.whole
 abbrev pub with_letter : Letter → List ℕ → PlainWords → PlainWords
 with_letter Prepend word w = record w { prepend = Some word }
 with_letter Drops word w = record w { drops = w.drops ++ word ∷ [] }
+with_letter Keeps word w = record w { keeps = w.keeps ++ word ∷ [] }
+with_letter KeepsOnly word w = record w { keeps = w.keeps ++ word ∷ []; keep_only = true }
 with_letter Rename word w = record w { rename = Some word }
 with_letter AddIf word w = record w { add_if = Some word }
 with_letter Add word w = record w { add = Some word }

@@ -27,6 +27,10 @@ pub struct LetterWords<'a> {
     pub prepend: Option<&'a str>,
     /// `--drop NAME:` and `--drop NAME*:`, each time
     pub drops: Vec<&'a str>,
+    /// `--keep NAME:` and `--keep-only NAME:`, each time
+    pub keeps: Vec<&'a str>,
+    /// Whether one of these is `--keep-only`
+    pub keep_only: bool,
     /// `--rename OLD:NEW`
     pub rename: Option<&'a str>,
     /// `-a FIELD`
@@ -64,6 +68,8 @@ impl LetterWords<'_> {
         Ok(Some(Letters {
             prepend: prepend(alloc, self.prepend)?,
             drops: patterns(alloc, &self.drops)?,
+            keeps: patterns(alloc, &self.keeps)?,
+            keep_only: self.keep_only,
             rename: names(alloc, self.rename)?,
             add_if: field(alloc, self.add_if)?,
             add: field(alloc, self.add)?,
@@ -117,6 +123,7 @@ impl LetterWords<'_> {
         ensures { result ≡ words_have_colons (words_of self.now) }
     {
         are_names(&self.drops)
+            && are_names(&self.keeps)
             && may_name(self.first)
             && may_name(self.last)
             && may_name(self.take)

@@ -1,5 +1,15 @@
 //! The letters of `field` as words of the command line: their rounds, and the forms in which fields go into a message.
 //!
+//! ```
+//! let (letter, word) = (Letter::Only, "A: 9");
+//! let rounds = rounds_of_words(alloc, &[LetterWord { letter, word }])?;
+//! let form = FieldForm::default();
+//! let made = letters_of_rounds(alloc, &rounds, form)?.expect(&rt, "letters");
+//! assert!(rt; matches!(made.as_slice(), [round] if round.lf.ok()));
+//! ```
+//!
+//! The example is run by `words_are_letters` in `mk_run_tests/src/tests/examples.rt`.
+//!
 //! Tests: `mk_run_tests/src/tests/letters.rt`, `mk_run_tests/src/tests/rounds.rt`.
 #![tactic(auto)]
 

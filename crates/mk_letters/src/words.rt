@@ -19,6 +19,10 @@ pub enum Letter {
     Prepend,
     /// `--drop`, which may be given again in a round
     Drops,
+    /// `--keep`, which may be given again in a round
+    Keeps,
+    /// `--keep-only`, which may be given again in a round
+    KeepsOnly,
     /// `--rename`
     Rename,
     /// `-a`
@@ -107,6 +111,8 @@ impl<'a> LetterWords<'a> {
         LetterWords {
             prepend: None,
             drops: Vec::new(alloc),
+            keeps: Vec::new(alloc),
+            keep_only: false,
             rename: None,
             add_if: None,
             add: None,
@@ -125,7 +131,7 @@ impl<'a> LetterWords<'a> {
     {
         match letter {
             Letter::Prepend => self.prepend.is_some(),
-            Letter::Drops => false,
+            Letter::Drops | Letter::Keeps | Letter::KeepsOnly => false,
             Letter::Rename => self.rename.is_some(),
             Letter::AddIf => self.add_if.is_some(),
             Letter::Add => self.add.is_some(),
@@ -145,6 +151,11 @@ impl<'a> LetterWords<'a> {
         match word.letter {
             Letter::Prepend => self.prepend = Some(word.word),
             Letter::Drops => self.drops.push(word.word)?,
+            Letter::Keeps => self.keeps.push(word.word)?,
+            Letter::KeepsOnly => {
+                self.keeps.push(word.word)?;
+                self.keep_only = true;
+            }
             Letter::Rename => self.rename = Some(word.word),
             Letter::AddIf => self.add_if = Some(word.word),
             Letter::Add => self.add = Some(word.word),

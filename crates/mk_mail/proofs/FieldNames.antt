@@ -1,7 +1,7 @@
 -- Names of fields: those of a message, and what letters make of them.
-use Rattle.std.proofs.Common.{◌≡◌, ◌&&◌, ◌||◌, ◌⊎◌, ◌++◌, ℕ, Bool, true, false, not, List, [], ◌∷◌, Option, None, Some, refl, ap, sym, ◌∙◌, subst, inl, inr, map, drop, filter, append_assoc, append-nil}
+use Rattle.std.proofs.Common.{◌≡◌, ◌&&◌, ◌||◌, ◌⊎◌, ◌++◌, ℕ, Bool, true, false, not, List, [], ◌∷◌, Option, None, Some, refl, ap, sym, ◌∙◌, subst, inl, inr, map, drop, filter, append_assoc, append-nil, ◌==◌, zero, suc}
 use Rattle.std.specs.List.{list_any}
-use Rattle.std.proofs.lemmas.Bool.{cases_Bool, or_parts}
+use Rattle.std.proofs.lemmas.Bool.{cases_Bool, or_parts, eqb-true}
 use Rattle.std.proofs.lemmas.List.Elements.{filter-append}
 use Rattle.std.proofs.lemmas.List.{map-append}
 use Rattle.std.specs.Option.{option_map_or}
@@ -15,7 +15,8 @@ use Rattle.mk_tree.specs.Sections.{Placed, head_text, section_at, section_fields
 use Rattle.mk_tree.specs.Tree.{field_lines}
 use Rattle.mk_decide.proofs.FieldPlaces.{run_all}
 use Rattle.mk_decide.proofs.SectionSites.{head_cut, head_is_run, site}
-use Rattle.mk_mail.specs.Letters.{PlainPattern, Work, dropped, fields_at, is_dropped, names_at, others, prepending, respelling, respelt, same_name, then_do, those, with_first}
+use Rattle.mk_mail.proofs.PartTypes.{both}
+use Rattle.mk_mail.specs.Letters.{PlainPattern, Work, dropped, fields_at, goes, names_at, others, prepending, respelling, respelt, same_name, then_do, those, with_first}
 use Rattle.mk_mail.specs.Prepended.{PlainPrepend}
 use Rattle.mk_decide.specs.Edits.{PlainEdit, RemoveField}
 use Rattle.mk_mailbox.proofs.Intaking.{true_or_false}
@@ -162,19 +163,23 @@ edits_more f old now new done more x h n m =
 there_still : (p : List ℕ → Bool) (xs more : List (List ℕ)) (x : List ℕ) (t : Bool) → more ≡ xs ++ x ∷ [] → t ≡ list_any p xs → t ≡ true → t ≡ list_any p more
 there_still p xs more x t m e h = h ∙ sym (ap (list_any p) m ∙ (any_on p xs x ∙ ap (λ b. b || p x) (sym e ∙ h)))
 
--- no patterns mean no name
-all_stay : (names : List (List ℕ)) → filter (λ own. not (is_dropped [] own)) names ≡ names
-all_stay [] = refl
-all_stay (own ∷ names) = ap (λ (ns : List (List ℕ)). own ∷ ns) (all_stay names)
+-- where two lists are told to be empty, both are
+pub both_zero : (m n : ℕ) (b : Bool) → b ≡ ((m == 0) && (n == 0)) → b ≡ true → (m ≡ 0) × (n ≡ 0)
+both_zero m n b e h = let p = both (m == 0) (n == 0) (sym e ∙ h) in (eqb-true m 0 p.0, eqb-true n 0 p.1)
 
-none_go : (names : List (List ℕ)) → filter (is_dropped []) names ≡ []
-none_go [] = refl
-none_go (own ∷ names) = none_go names
+-- where nothing is dropped and nothing kept, no name goes
+all_stay : (only : Bool) (names : List (List ℕ)) → filter (λ own. not (goes (record { drops = []; keeps = []; only = only }) own)) names ≡ names
+all_stay only [] = refl
+all_stay only (own ∷ names) = ap (λ (ns : List (List ℕ)). own ∷ ns) (all_stay only names)
 
-pub none_dropped : (path : List ℕ) (w : Work) (ps : List PlainPattern) → ps ≡ [] → w ≡ then_do w (dropped path ps)
-none_dropped path w ps e =
-    sym (ap (λ qs. then_do w (dropped path qs)) e
-    ∙ (λ i. record { names = all_stay w.names i; edits = (ap (λ ns. w.edits ++ map (λ own. RemoveField path own 1) ns) (none_go w.names) ∙ append-nil w.edits) i }))
+none_go : (only : Bool) (names : List (List ℕ)) → filter (goes (record { drops = []; keeps = []; only = only })) names ≡ []
+none_go only [] = refl
+none_go only (own ∷ names) = none_go only names
+
+pub none_dropped : (path : List ℕ) (w : Work) (drops keeps : List PlainPattern) (only : Bool) → drops ≡ [] → keeps ≡ [] → w ≡ then_do w (dropped path (record { drops = drops; keeps = keeps; only = only }))
+none_dropped path w drops keeps only d k =
+    sym ((λ i. then_do w (dropped path (record { drops = d i; keeps = k i; only = only })))
+    ∙ (λ i. record { names = all_stay only w.names i; edits = (ap (λ ns. w.edits ++ map (λ own. RemoveField path own 1) ns) (none_go only w.names) ∙ append-nil w.edits) i }))
 
 -- what stands after one more of a name, of which one was there, has gone
 pub record LaterGone (path name : List ℕ) (k : ℕ) (t : Bool) (list more : List (List ℕ)) (old new : List PlainEdit) : Type 0 where

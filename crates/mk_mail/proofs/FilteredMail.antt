@@ -33,7 +33,7 @@ use Rattle.mk_edit.proofs.GroupFacts.{groups_read_back_lem}
 use Rattle.mk_decide.proofs.Late.{IsFair, fair, told}
 use Rattle.mk_decide.proofs.SectionSites.{head_cut, head_is_run, site}
 use Rattle.mk_mail.specs.Filtered.{IsFielded, filtered, filtered_in, outcome_at, is_left}
-use Rattle.mk_mail.specs.Letters.{PlainLetters, PlainPattern, Work, add_if_letter, added, added_full, dropped, first_letter, is_bare, is_dropped, letter, made_old, name_in, next_number, old_name, only_letter, fields_at, edits_at, letter_edits, most_prepended, prepending, prefixed_letter, removed_all, rename_letter, replaced, respelling, respelt, names_at, root_path, same_name, those, untouched, worked}
+use Rattle.mk_mail.specs.Letters.{Removal, goes, removal_of, PlainLetters, PlainPattern, Work, add_if_letter, added, added_full, dropped, first_letter, is_bare, is_dropped, letter, made_old, name_in, next_number, old_name, only_letter, fields_at, edits_at, letter_edits, most_prepended, prepending, prefixed_letter, removed_all, rename_letter, replaced, respelling, respelt, names_at, root_path, same_name, those, untouched, worked}
 use Rattle.mk_mail.specs.Prepended.{PlainPrepend}
 use Rattle.mk_mailbox.specs.Dates.{ends_with_date}
 use Rattle.mk_mail.proofs.FieldNames.{both_true}
@@ -83,8 +83,8 @@ either_root : (t : Bool) (v w : Work) → HasRootEdits v → HasRootEdits w → 
 either_root true v w h g = h
 either_root false v w h g = g
 
-dropped_root : (ps : List PlainPattern) (names : List (List ℕ)) → HasRootEdits (dropped root_path ps names)
-dropped_root ps names = mapped (λ own. RemoveField root_path own 1) (filter (is_dropped ps) names) (λ own. refl)
+dropped_root : (r : Removal) (names : List (List ℕ)) → HasRootEdits (dropped root_path r names)
+dropped_root r names = mapped (λ own. RemoveField root_path own 1) (filter (goes r) names) (λ own. refl)
 
 rename_root : (p : List ℕ × List ℕ) (names : List (List ℕ)) → HasRootEdits (rename_letter root_path p names)
 rename_root p names =
@@ -121,7 +121,7 @@ letter_root f (Some x) w k h = joined w.edits (f x w.names).edits h (k x w.names
 
 worked_root : (eol : Ending) (l : PlainLetters) (names : List (List ℕ)) → HasRootEdits (worked root_path eol l names)
 worked_root eol l names =
-    let renamed = letter (rename_letter root_path) l.rename (dropped root_path l.drops names) in
+    let renamed = letter (rename_letter root_path) l.rename (dropped root_path (removal_of l) names) in
     let with_if = letter (add_if_letter root_path eol) l.add_if renamed in
     let with_one = letter (added root_path eol) l.add with_if in
     let prefixed = letter (prefixed_letter root_path eol) l.prefixed with_one in
@@ -131,7 +131,7 @@ worked_root eol l names =
     (letter_root (prefixed_letter root_path eol) l.prefixed with_one (λ field ns. prefixed_root eol field ns)
     (letter_root (added root_path eol) l.add with_if (λ field ns. (refl, tt))
     (letter_root (add_if_letter root_path eol) l.add_if renamed (λ field ns. add_if_root eol field ns)
-    (letter_root (rename_letter root_path) l.rename (dropped root_path l.drops names) (λ p ns. rename_root p ns) (dropped_root l.drops names))))))
+    (letter_root (rename_letter root_path) l.rename (dropped root_path (removal_of l) names) (λ p ns. rename_root p ns) (dropped_root (removal_of l) names))))))
 
 named_root : (eol : Ending) (l : PlainLetters) (names : List (List ℕ)) → AreRootEdits (letter_edits root_path eol l names)
 named_root eol l names =

@@ -1,5 +1,5 @@
 -- The names of fields that letters go by are those of the document.
-use Rattle.std.proofs.Common.{◌≡◌, ◌++◌, ◌+◌, ◌&&◌, if◌then◌else◌, ℕ, zero, suc, Bool, true, false, not, Option, None, Some, Result, Ok, Err, List, [], ◌∷◌, bytes_eq, drop, filter, length, map, nat_lt, take, ◌||◌, refl, ap, sym, ◌∙◌, subst, append_assoc, arith, inl, inr}
+use Rattle.std.proofs.Common.{◌≡◌, ◌++◌, ◌+◌, ◌&&◌, if◌then◌else◌, ℕ, zero, suc, Bool, true, false, not, Option, None, Some, Result, Ok, Err, List, [], ◌∷◌, bytes_eq, drop, filter, length, map, nat_lt, take, ◌||◌, refl, ap, sym, ◌∙◌, subst, append_assoc, arith, inl, inr, codes}
 use Rattle.std.specs.List.{list_all, list_any, prefix_len}
 use Rattle.std.specs.Option.{option_map}
 use Rattle.std.specs.Str.{str_to_ascii_lowercase}
@@ -9,7 +9,7 @@ use Rattle.mk_line.specs.Ascii.{is_name_byte}
 use Rattle.mk_line.specs.declared.cutting.Ending.{Ending}
 use Rattle.mk_line.specs.declared.cutting.Ending.TheVariants.{Crlf, Lf, Missing}
 use Rattle.mk_line.specs.Kinds.{is_name}
-use Rattle.mk_line.specs.Lines.{TextLine, cut, ending_bytes}
+use Rattle.mk_line.specs.Lines.{TextLine, cut, ending_bytes, is_nil}
 use Rattle.mk_head.specs.Split.{is_more, is_start}
 use Rattle.mk_head.specs.Fields.{continuations, field_text, fields_of, is_named, is_one_field, name_of, after_more}
 use Rattle.mk_head.proofs.FieldRuns.{more_start}
@@ -31,7 +31,7 @@ use Rattle.mk_decide.proofs.Late.{fair}
 use Rattle.mk_decide.proofs.PlacesAgain.{section_there}
 use Rattle.mk_decide.proofs.Renaming.{renamed_start}
 use Rattle.mk_edit.specs.Groups.{Together, following, made_on, together}
-use Rattle.mk_mail.specs.Letters.{PlainLetters, PlainPattern, Work, add_if_letter, added, added_full, dropped, first_letter, is_bare, is_dropped, is_meant, letter, made_old, name_in, next_number, old_name, only_letter, others, prefixed_letter, removed_all, rename_letter, replaced, respelling, respelt, same_name, then_do, those, with_first, worked}
+use Rattle.mk_mail.specs.Letters.{Removal, goes, is_left_out, removal_of, PlainLetters, PlainPattern, Work, add_if_letter, added, added_full, dropped, first_letter, is_bare, is_dropped, is_meant, letter, made_old, name_in, next_number, old_name, only_letter, others, prefixed_letter, removed_all, rename_letter, replaced, respelling, respelt, same_name, then_do, those, with_first, worked}
 use Rattle.mk_view.specs.Listed.{greatest_number}
 use Rattle.mk_mail.specs.Tracked.{own_names}
 use Rattle.mk_mail.proofs.FieldLines.{first_content, name_first, name_one}
@@ -464,6 +464,15 @@ dropped_alike : (ps : List PlainPattern) (x own : List ℕ) → str_to_ascii_low
 dropped_alike [] x own e = refl
 dropped_alike (p ∷ ps) x own e = (λ i. meant_alike p x own e i || dropped_alike ps x own e i)
 
+left_alike : (r : Removal) (x own : List ℕ) → str_to_ascii_lowercase x ≡ str_to_ascii_lowercase own → is_left_out r x ≡ is_left_out r own
+left_alike r x own e = λ i.
+    not (is_nil r.keeps)
+    && (not (dropped_alike r.keeps x own e i)
+    && (r.only || not (meant_alike (record { text = codes "MIME-Version"; is_front = false }) x own e i || meant_alike (record { text = codes "Content-"; is_front = true }) x own e i)))
+
+goes_alike : (r : Removal) (x own : List ℕ) → str_to_ascii_lowercase x ≡ str_to_ascii_lowercase own → goes r x ≡ goes r own
+goes_alike r x own e = λ i. dropped_alike r.drops x own e i || left_alike r x own e i
+
 -- each as the first of its name
 abbrev each_gone : List (List ℕ) → List (List ℕ) → List (List ℕ)
 each_gone [] names = names
@@ -474,35 +483,35 @@ leads_each path [] names = leads_nowhere path names
 leads_each path (x ∷ xs) names =
     leads_on path (RemoveField path x 1) (map (λ own. RemoveField path own 1) xs) names (without_one x zero names) (each_gone xs (without_one x zero names)) (λ t u has done. removed path x zero names t u has done) (leads_each path xs (without_one x zero names))
 
-each_other : (ps : List PlainPattern) (own : List ℕ) (xs names : List (List ℕ)) → is_dropped ps own ≡ false → each_gone (filter (is_dropped ps) xs) (own ∷ names) ≡ own ∷ each_gone (filter (is_dropped ps) xs) names
-each_other ps own [] names h = refl
-each_other ps own (x ∷ xs) names h = elim (cases_Bool (is_dropped ps x)) [
-  | inr miss ↦ rw miss (each_other ps own xs names h)
+each_other : (r : Removal) (own : List ℕ) (xs names : List (List ℕ)) → goes r own ≡ false → each_gone (filter (goes r) xs) (own ∷ names) ≡ own ∷ each_gone (filter (goes r) xs) names
+each_other r own [] names h = refl
+each_other r own (x ∷ xs) names h = elim (cases_Bool (goes r x)) [
+  | inr miss ↦ rw miss (each_other r own xs names h)
   | inl hit ↦
       let differs : same_name x own ≡ false = apart x hit in
       let step : without_one x zero (own ∷ names) ≡ own ∷ without_one x zero names = rw differs refl in
-      rw hit (ap (each_gone (filter (is_dropped ps) xs)) step ∙ each_other ps own xs (without_one x zero names) h)
+      rw hit (ap (each_gone (filter (goes r) xs)) step ∙ each_other r own xs (without_one x zero names) h)
 ]
   where
-    apart : (x : List ℕ) → is_dropped ps x ≡ true → same_name x own ≡ false
+    apart : (x : List ℕ) → goes r x ≡ true → same_name x own ≡ false
     apart x hit = elim (cases_Bool (same_name x own)) [
       | inr other ↦ other
       | inl same ↦
           let alike = (bytes_eq-Decides (str_to_ascii_lowercase own) (str_to_ascii_lowercase x)).0 same in
-          let bad : true ≡ false = sym hit ∙ (dropped_alike ps x own (sym alike) ∙ h) in
+          let bad : true ≡ false = sym hit ∙ (goes_alike r x own (sym alike) ∙ h) in
           absurd (cc)
     ]
 
 self_named : (own : List ℕ) → same_name own own ≡ true
 self_named own = (bytes_eq-Decides (str_to_ascii_lowercase own) (str_to_ascii_lowercase own)).1 refl
 
-all_dropped : (ps : List PlainPattern) (names : List (List ℕ)) → each_gone (filter (is_dropped ps) names) names ≡ filter (λ own. not (is_dropped ps own)) names
-all_dropped ps [] = refl
-all_dropped ps (own ∷ names) = elim (cases_Bool (is_dropped ps own)) [
+all_dropped : (r : Removal) (names : List (List ℕ)) → each_gone (filter (goes r) names) names ≡ filter (λ own. not (goes r own)) names
+all_dropped r [] = refl
+all_dropped r (own ∷ names) = elim (cases_Bool (goes r own)) [
   | inl hit ↦
       let step : without_one own zero (own ∷ names) ≡ names = rw (self_named own) refl in
-      rw hit (ap (each_gone (filter (is_dropped ps) names)) step ∙ all_dropped ps names)
-  | inr miss ↦ rw miss (each_other ps own names names miss ∙ ap (λ (ns : List (List ℕ)). own ∷ ns) (all_dropped ps names))
+      rw hit (ap (each_gone (filter (goes r) names)) step ∙ all_dropped r names)
+  | inr miss ↦ rw miss (each_other r own names names miss ∙ ap (λ (ns : List (List ℕ)). own ∷ ns) (all_dropped r names))
 ]
 
 -- ---- letters
@@ -518,8 +527,8 @@ tracks_letter : {X : Type 0} (path : List ℕ) (names : List (List ℕ)) (f : X 
 tracks_letter path names f None w a b = a
 tracks_letter path names f (Some x) w a b = tracks_then path names w (f x) a (b x)
 
-tracks_dropped : (path : List ℕ) (ps : List PlainPattern) (names : List (List ℕ)) → Tracks path names (dropped path ps names)
-tracks_dropped path ps names = leads_to path (dropped path ps names).edits names _ _ (all_dropped ps names) (leads_each path (filter (is_dropped ps) names) names)
+tracks_dropped : (path : List ℕ) (r : Removal) (names : List (List ℕ)) → Tracks path names (dropped path r names)
+tracks_dropped path r names = leads_to path (dropped path r names).edits names _ _ (all_dropped r names) (leads_each path (filter (goes r) names) names)
 
 tracks_removed : (path name : List ℕ) (names : List (List ℕ)) → Tracks path names (removed_all path name names)
 tracks_removed path name names = leads_to path (removed_all path name names).edits names _ _ (all_gone name names) (leads_gone path name zero (those name names) names)
@@ -569,7 +578,7 @@ tracks_worked path eol l names =
     (tracks_letter path names (prefixed_letter path eol) l.prefixed _
     (tracks_letter path names (added path eol) l.add _
     (tracks_letter path names (add_if_letter path eol) l.add_if _
-    (tracks_letter path names (rename_letter path) l.rename _ (tracks_dropped path l.drops names) (tracks_renamed path)) (tracks_added_if path eol))
+    (tracks_letter path names (rename_letter path) l.rename _ (tracks_dropped path (removal_of l) names) (tracks_renamed path)) (tracks_added_if path eol))
     (tracks_added path eol))
     (λ field ns. tracks_then path ns (made_old path (name_in field) ns) (added_full path eol field) (tracks_old path (name_in field) ns) (tracks_full path eol field)))
     (λ field ns. tracks_then path ns (removed_all path (name_in field) ns) (added_full path eol field) (tracks_removed path (name_in field) ns) (tracks_full path eol field)))

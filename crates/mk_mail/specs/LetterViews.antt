@@ -20,6 +20,8 @@ abbrev pub letters_of : Letters → PlainLetters
 letters_of l = record {
   prepend = option_map prepend_of l.prepend;
   drops = map pattern_of l.drops.items;
+  keeps = map pattern_of l.keeps.items;
+  keep_only = l.keep_only;
   rename = option_map (λ p. (p.0.items, p.1.items)) l.rename;
   add_if = option_map (λ v. v.items) l.add_if;
   add = option_map (λ v. v.items) l.add;

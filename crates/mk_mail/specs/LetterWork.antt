@@ -7,7 +7,9 @@ use Rattle.mk_decide.specs.declared.edits.Edit.{Edit}
 use Rattle.mk_decide.specs.Edits.{PlainEdit}
 use Rattle.mk_decide.specs.Views.{edit_of}
 use Rattle.mk_mail.specs.declared.filtering.Filter.{Filter}
-use Rattle.mk_mail.specs.Letters.{Work}
+use Rattle.mk_mail.specs.declared.patterns.Removal as declared
+use Rattle.mk_mail.specs.LetterViews.{pattern_of}
+use Rattle.mk_mail.specs.Letters.{Removal, Work}
 
 -- names in memory as lists
 abbrev pub texts_of : List (CowSlice ℕ Global) → List (List ℕ)
@@ -20,3 +22,7 @@ plain_edits es = map edit_of es
 -- what was done so far
 abbrev pub work_of : Filter → Work
 work_of f = record { names = texts_of f.names.items; edits = plain_edits f.edits.items }
+
+-- which fields go, as it is
+abbrev pub removal_by : declared.Removal → Removal
+removal_by r = record { drops = map pattern_of r.drops.now; keeps = map pattern_of r.keeps.now; only = r.only }

@@ -6,7 +6,7 @@ use Rattle.std.specs.List.{list_all, list_any, prefix_len}
 use Rattle.std.specs.Str.{bytes_eq, str_to_ascii_lowercase}
 use Rattle.mk_line.specs.declared.cutting.Ending.{Ending}
 use Rattle.mk_line.specs.Ascii.{colon, is_blank, is_name_byte}
-use Rattle.mk_line.specs.Lines.{cut, ending_bytes, eol_of}
+use Rattle.mk_line.specs.Lines.{cut, ending_bytes, eol_of, is_nil}
 use Rattle.mk_head.specs.Fields.{FieldText, is_named, is_one_field}
 use Rattle.mk_line.specs.Parting.{following}
 use Rattle.mk_tree.specs.Documents.{tree}
@@ -27,6 +27,10 @@ pub record PlainLetters : Type 0 where
   pub prepend : Option PlainPrepend
   -- `--drop`: the fields of these names go
   pub drops : List PlainPattern
+  -- `--keep`: where there are some, all fields go but those of these names
+  pub keeps : List PlainPattern
+  -- `--keep-only`: then those go, too, that say the structure of the message
+  pub keep_only : Bool
   -- `--rename`: each field of a name gets another
   pub rename : Option (List ℕ × List ℕ)
   -- `-a`: a field, unless one of its name is there
@@ -58,9 +62,13 @@ is_bare text = list_all is_blank (unwrap_or (following colon text) [])
 abbrev pub is_full_field : List ℕ → Bool
 is_full_field text = is_given_field text && not (is_bare text)
 
+-- whether letters take fields out by their names
+abbrev pub removes_some : PlainLetters → Bool
+removes_some l = not (length l.drops == 0) || not (length l.keeps == 0)
+
 -- whether a letter that edits is there
 abbrev pub edits_some : PlainLetters → Bool
-edits_some l = is_some l.prepend || (not (length l.drops == 0) || is_some l.rename || is_some l.add_if || is_some l.add || is_some l.prefixed || is_some l.only || is_some l.first || is_some l.last)
+edits_some l = is_some l.prepend || (removes_some l || is_some l.rename || is_some l.add_if || is_some l.add || is_some l.prefixed || is_some l.only || is_some l.first || is_some l.last)
 
 -- `-x` and `-X` stand alone
 abbrev pub stand_together : PlainLetters → Bool
@@ -69,7 +77,7 @@ stand_together l = not (is_some l.take && is_some l.whole) && not ((is_some l.ta
 -- the values that letters may have; the text of a pattern is a name
 abbrev pub have_values : PlainLetters → Bool
 have_values l =
-    option_map_or is_prepend l.prepend true && list_all (λ p. is_name p.text) l.drops && option_map_or (λ p. is_name p.0 && is_name p.1) l.rename true && option_map_or is_full_field l.add_if true && option_map_or is_full_field l.add true && option_map_or is_given_field l.prefixed true && option_map_or is_given_field l.only true
+    option_map_or is_prepend l.prepend true && list_all (λ p. is_name p.text) l.drops && list_all (λ p. is_name p.text) l.keeps && option_map_or (λ p. is_name p.0 && is_name p.1) l.rename true && option_map_or is_full_field l.add_if true && option_map_or is_full_field l.add true && option_map_or is_given_field l.prefixed true && option_map_or is_given_field l.only true
     && option_map_or is_name l.first true && option_map_or is_name l.last true && option_map_or is_name l.take true && option_map_or is_name l.whole true
 
 -- letters that may be asked for
@@ -95,6 +103,28 @@ is_meant p own = same_name p.text (if p.is_front then take (length p.text) own e
 -- a name that one of some patterns means
 abbrev pub is_dropped : List PlainPattern → List ℕ → Bool
 is_dropped ps own = list_any (λ p. is_meant p own) ps
+
+-- which fields go by their names: those that are dropped, and where some are kept all others, with the structure or without it
+pub record Removal : Type 0 where
+  pub drops : List PlainPattern
+  pub keeps : List PlainPattern
+  pub only : Bool
+
+-- those of letters
+abbrev pub removal_of : PlainLetters → Removal
+removal_of l = record { drops = l.drops; keeps = l.keeps; only = l.keep_only }
+
+-- a field that says the structure of a message (RFC 2045, 4 and 9)
+abbrev pub is_structural : List ℕ → Bool
+is_structural own = is_meant (record { text = codes "MIME-Version"; is_front = false }) own || is_meant (record { text = codes "Content-"; is_front = true }) own
+
+-- a name that isn't kept, where some are; what says the structure stays, unless it is asked to go
+abbrev pub is_left_out : Removal → List ℕ → Bool
+is_left_out r own = not (is_nil r.keeps) && (not (is_dropped r.keeps own) && (r.only || not (is_structural own)))
+
+-- a name that goes
+abbrev pub goes : Removal → List ℕ → Bool
+goes r own = is_dropped r.drops own || is_left_out r own
 
 -- the names that are not that one
 abbrev pub others : List ℕ → List (List ℕ) → List (List ℕ)
@@ -182,11 +212,11 @@ removed_all path name names = record { names = others name names; edits = map (�
 abbrev pub only_letter : List ℕ → Ending → List ℕ → List (List ℕ) → Work
 only_letter path eol field names = then_do (removed_all path (name_in field) names) (added_full path eol field)
 
--- `--drop`, the first letter: all fields whose names patterns mean go, each as the first of its name
-abbrev pub dropped : List ℕ → List PlainPattern → List (List ℕ) → Work
-dropped path ps names = record {
-  names = filter (λ own. not (is_dropped ps own)) names;
-  edits = map (λ own. RemoveField path own 1) (filter (is_dropped ps) names);
+-- `--drop` and `--keep`, the first letters: all fields whose names go, each as the first of its name
+abbrev pub dropped : List ℕ → Removal → List (List ℕ) → Work
+dropped path r names = record {
+  names = filter (λ own. not (goes r own)) names;
+  edits = map (λ own. RemoveField path own 1) (filter (goes r) names);
 }
 
 -- the names but for those that are one and aren't the first such
@@ -211,7 +241,7 @@ worked path eol l names =
     (letter (prefixed_letter path eol) l.prefixed
     (letter (added path eol) l.add
     (letter (add_if_letter path eol) l.add_if
-    (letter (rename_letter path) l.rename (dropped path l.drops names))))))
+    (letter (rename_letter path) l.rename (dropped path (removal_of l) names))))))
 
 -- the edits of all letters, on fields of these names: `-U` is the last letter
 abbrev pub letter_edits : List ℕ → Ending → PlainLetters → List (List ℕ) → List PlainEdit

@@ -4,12 +4,11 @@ ghost use Rattle.std.specs.Option.{option_map, option_map_or};
 ghost use Rattle.mk_line.specs.Lines.{ending_bytes};
 ghost use Rattle.mk_decide.specs.Edits.{AddField, RemoveField, RenameField};
 ghost use Rattle.mk_decide.specs.Views.{edit_of};
-ghost use Rattle.mk_mail.specs.LetterWork.{plain_edits, texts_of, work_of};
-ghost use Rattle.mk_mail.specs.Letters.{add_if_letter, added as added_field, added_full, dropped, first_letter, is_dropped as is_dropped_name, old_name, only_letter, others, prefixed_letter, rename_letter, replaced, respelling, respelt, names_at, then_do, those, untouched, with_first};
-ghost use Rattle.mk_mail.specs.LetterViews.{pattern_of};
+ghost use Rattle.mk_mail.specs.LetterWork.{plain_edits, removal_by, texts_of, work_of};
+ghost use Rattle.mk_mail.specs.Letters.{add_if_letter, added as added_field, added_full, dropped, first_letter, goes, old_name, only_letter, others, prefixed_letter, rename_letter, replaced, respelling, respelt, names_at, then_do, those, untouched, with_first};
 
 use crate::field_names::{is_bare, name_of};
-use crate::patterns::{NamePattern, is_dropped, is_same};
+use crate::patterns::{Removal, is_same};
 use crate::section_names::{has_name, names_of};
 use mk_edit::Edit;
 use mk_line::Ending;
@@ -39,19 +38,19 @@ impl<'a> Filter<'a> {
         })
     }
 
-    /// Removes the fields whose names patterns mean.
+    /// Removes the fields whose names go.
     pub(crate) fn drop_fields(
         &mut self,
         path: &[u32],
-        drops: &[NamePattern],
+        removal: &Removal<'_>,
     ) -> Result<(), AllocError>
-        ensures { OnOk result (work_of self.new ≡ then_do (work_of self.old) (dropped path.now (map pattern_of drops.now))) }
+        ensures { OnOk result (work_of self.new ≡ then_do (work_of self.old) (dropped path.now (removal_by removal.now))) }
     {
-        if drops.is_empty() {
+        if removal.is_nothing() {
             return Ok(());
         }
         let names = self.take_names();
-        self.names = remove_dropped(path, names, &mut self.edits, drops)?;
+        self.names = remove_dropped(path, names, &mut self.edits, removal)?;
         Ok(())
     }
 
@@ -179,20 +178,20 @@ impl<'a> Filter<'a> {
     }
 }
 
-// Removes the fields whose names patterns mean.
+// Removes the fields whose names go.
 fn remove_dropped<'a>(
     path: &[u32],
     names: Vec<CowSlice<'a, u8>>,
     edits: &mut Vec<Edit>,
-    drops: &[NamePattern],
+    removal: &Removal<'_>,
 ) -> Result<Vec<CowSlice<'a, u8>>, AllocError>
-    ensures names { IfOk result (λ r. texts_of r.items ≡ filter (λ own. not (is_dropped_name (map pattern_of drops.now) own)) (texts_of names.entry.items)) }
-    ensures edits { OnOk result (plain_edits edits.new.items ≡ plain_edits edits.old.items ++ map (λ own. RemoveField path.now own 1) (filter (is_dropped_name (map pattern_of drops.now)) (texts_of names.entry.items))) }
+    ensures names { IfOk result (λ r. texts_of r.items ≡ filter (λ own. not (goes (removal_by removal.now) own)) (texts_of names.entry.items)) }
+    ensures edits { OnOk result (plain_edits edits.new.items ≡ plain_edits edits.old.items ++ map (λ own. RemoveField path.now own 1) (filter (goes (removal_by removal.now)) (texts_of names.entry.items))) }
 {
     let alloc = *names.allocator();
     let mut list = Vec::with_capacity(alloc, names.len())?;
     for own in names {
-        if is_dropped(drops, &own) {
+        if removal.goes(&own) {
             push_removal(edits, path, &own, 1)?;
         } else {
             list.push(own)?;

@@ -6,11 +6,11 @@ ghost use Rattle.mk_decide.specs.Views.{edit_of};
 ghost use Rattle.mk_mail.specs.LetterViews.{letters_of, prepend_of};
 ghost use Rattle.mk_mail.specs.LetterWork.{work_of};
 ghost use Rattle.mk_mail.specs.Prepended.{is_prepend};
-ghost use Rattle.mk_mail.specs.Letters.{add_if_letter, added, are_allowed, edits_at, edits_some as some_edits, first_letter, have_values as values_are_had, is_full_field as full_field, is_given_field as given_field, letter, letter_edits as edits_of_letters, names_at, only_letter, prefixed_letter, rename_letter, root_path, stand_together as stand_so};
+ghost use Rattle.mk_mail.specs.Letters.{add_if_letter, added, are_allowed, edits_at, edits_some as some_edits, first_letter, have_values as values_are_had, is_full_field as full_field, is_given_field as given_field, letter, letter_edits as edits_of_letters, names_at, only_letter, prefixed_letter, removes_some as removes_fields, rename_letter, root_path, stand_together as stand_so};
 
 use crate::field_names::is_bare;
 use crate::filtering::Filter;
-use crate::patterns::{NamePattern, are_patterns};
+use crate::patterns::{NamePattern, Removal, are_patterns};
 use crate::prepending::{Prepend, prepend_edits};
 use mk_edit::Edit;
 use mk_head::one_field;
@@ -21,7 +21,7 @@ use std::alloc::{AllocError, Global};
 /// The path of the root.
 const ROOT: [u32; 1] = [1];
 
-/// What a filter of fields is asked for, each letter at most once except `--drop`. A name has no colon after it, and the
+/// What a filter of fields is asked for, each letter at most once except `--drop` and `--keep`. A name has no colon after it, and the
 /// last line of a field no ending. They work in this order, each on the fields that those before it left.
 #[derive(Debug, Drop)]
 pub struct Letters {
@@ -29,6 +29,11 @@ pub struct Letters {
     pub prepend: Option<Prepend>,
     /// `--drop`: removes the fields of these names.
     pub drops: Vec<NamePattern>,
+    /// `--keep`: where there are some, removes all fields but those of these names and those that say the structure of the
+    /// message: MIME-Version, and those whose names begin with `Content-`.
+    pub keeps: Vec<NamePattern>,
+    /// `--keep-only`: then removes those, too.
+    pub keep_only: bool,
     /// `--rename`: gives each field of the first name the second.
     pub rename: Option<(Vec<u8>, Vec<u8>)>,
     /// `-a`: adds a field, unless there is one of its name.
@@ -63,6 +68,7 @@ impl Letters {
     {
         may_prepend(&self.prepend)
             && are_patterns(&self.drops)
+            && are_patterns(&self.keeps)
             && may_rename(&self.rename)
             && is_full_field(&self.add_if)
             && is_full_field(&self.add)
@@ -89,11 +95,18 @@ impl Letters {
         self.prepend.is_some() || self.edits_by_names()
     }
 
+    // Whether fields are taken out by their names.
+    fn removes_some(&self) -> bool
+        ensures { result ≡ removes_fields (letters_of self.now) }
+    {
+        !self.drops.is_empty() || !self.keeps.is_empty()
+    }
+
     // Whether there is a letter that works by the names of fields.
     fn edits_by_names(&self) -> bool
-        ensures { result ≡ let l = letters_of self.now in not (length l.drops == 0) || is_some l.rename || is_some l.add_if || is_some l.add || is_some l.prefixed || is_some l.only || is_some l.first || is_some l.last }
+        ensures { result ≡ let l = letters_of self.now in removes_fields l || is_some l.rename || is_some l.add_if || is_some l.add || is_some l.prefixed || is_some l.only || is_some l.first || is_some l.last }
     {
-        !self.drops.is_empty()
+        self.removes_some()
             || self.rename.is_some()
             || self.add_if.is_some()
             || self.add.is_some()
@@ -146,7 +159,12 @@ fn letter_edits(
     ensures { IfOk result (λ edits. map edit_of edits.items ≡ edits_of_letters path.now eol (letters_of letters.now) (names_at path.now doc.now)) }
 {
     let mut filter = Filter::new(alloc, doc, path)?;
-    filter.drop_fields(path, &letters.drops)?;
+    let removal = Removal {
+        drops: &letters.drops,
+        keeps: &letters.keeps,
+        only: letters.keep_only,
+    };
+    filter.drop_fields(path, &removal)?;
     rename(&mut filter, path, &letters.rename)?;
     add_if(&mut filter, path, &letters.add_if, eol)?;
     add(&mut filter, path, &letters.add, eol)?;

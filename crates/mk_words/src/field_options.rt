@@ -5,7 +5,7 @@ use crate::edit_options::JOURNAL_OPTION;
 use crate::mailbox_options::{MBOX_OPTION, RFC4155_OPTION};
 use crate::options::{
     ADD, ADD_IF, ADDRESSES, DECODE, DROP, EACH, ENCODE, EOL, FIELD, FIRST, FROM, IDS, JOURNAL,
-    LAST, ONLY, PATH, PREFIXED, PREPEND, REFUSED_OK, RENAME, TAKE, UNFOLD, WHOLE,
+    KEEP, KEEP_ONLY, LAST, ONLY, PATH, PREFIXED, PREPEND, REFUSED_OK, RENAME, TAKE, UNFOLD, WHOLE,
 };
 use crate::shared_options::{
     EXPLAIN_OPTION, FILES_ARGUMENT, FROM_FILES_OPTION, IN_PLACE_FILES_OPTION, LABEL_OPTION,
@@ -24,11 +24,11 @@ const WITH_NAME: Argument = Argument {
     ..OPTION_AGAIN
 };
 
-/// mimetool field [--from FILE..|--in-place FILE..] [-H] [--wait[=SECONDS]] [--tempfail] [-p PATH] [--prepend NAME:TEXT] [--drop NAME:] [-a FIELD] [-A FIELD] [-i FIELD] [-I FIELD] [-u NAME:] [-U NAME:] [-x NAME:].. [-X NAME:].. [--rename OLD:NEW] [--unfold] [--decode] [--addresses] [--encode] [--eol] [--refused-ok] [-j JOURNAL|-D FILE] [-s|--each [--rfc4155|--mbox HOW]]
+/// mimetool field [--from FILE..|--in-place FILE..] [-H] [--wait[=SECONDS]] [--tempfail] [-p PATH] [--prepend NAME:TEXT] [--drop NAME:] [--keep NAME:] [--keep-only NAME:] [-a FIELD] [-A FIELD] [-i FIELD] [-I FIELD] [-u NAME:] [-U NAME:] [-x NAME:].. [-X NAME:].. [--rename OLD:NEW] [--unfold] [--decode] [--addresses] [--encode] [--eol] [--refused-ok] [-j JOURNAL|-D FILE] [-s|--each [--rfc4155|--mbox HOW]]
 pub static FIELD_COMMAND: Subcommand = Subcommand {
     name: FIELD,
     about: "Adds, renames and removes fields of a message, or prints those of a name",
-    after_help: "Letters work in this order, whatever the order of the command line: --prepend, --drop, --rename, -a, -A, -i, -I, -u, -U. A letter that is given again works on the result of the earlier ones, as in a pipe.\n\nExamples:\n  mimetool field -I 'X-Seen: yes' --in-place message\n  mimetool field -x Subject: -H --from one two three\n  mimetool field -I 'X-Seen: yes' -I 'X-By: me' < message\n  mimetool field --prepend 'Subject:[list] ' < message\n  mimetool field -I 'X-Seen: yes' -j journal --in-place message\n  mimetool field -s -x Subject: --from mailbox\n  mimetool field --addresses -x To: -x Cc: < message\n  mimetool field -s -D ids < mailbox > unique\n  mimetool field -p 1.2 -x Content-Type: < message",
+    after_help: "Letters work in this order, whatever the order of the command line: --prepend, --drop and --keep, --rename, -a, -A, -i, -I, -u, -U. A letter that is given again works on the result of the earlier ones, as in a pipe.\n\nExamples:\n  mimetool field -I 'X-Seen: yes' --in-place message\n  mimetool field -x Subject: -H --from one two three\n  mimetool field -I 'X-Seen: yes' -I 'X-By: me' < message\n  mimetool field --prepend 'Subject:[list] ' < message\n  mimetool field --keep From: --keep Subject: --keep Date: < message\n  mimetool field -I 'X-Seen: yes' -j journal --in-place message\n  mimetool field -s -x Subject: --from mailbox\n  mimetool field --addresses -x To: -x Cc: < message\n  mimetool field -s -D ids < mailbox > unique\n  mimetool field -p 1.2 -x Content-Type: < message",
     arguments: &[
         FROM_FILES_OPTION,
         Argument {
@@ -84,6 +84,18 @@ pub static FIELD_COMMAND: Subcommand = Subcommand {
             id: DROP,
             long: Some(DROP),
             help: "Remove the fields NAME; NAME*: means all whose names begin with NAME",
+            ..WITH_NAME
+        },
+        Argument {
+            id: KEEP,
+            long: Some(KEEP),
+            help: "Remove all fields but these, MIME-Version and those whose names begin with Content-; NAME*: as with --drop",
+            ..WITH_NAME
+        },
+        Argument {
+            id: KEEP_ONLY,
+            long: Some(KEEP_ONLY),
+            help: "The same, and remove MIME-Version and those that begin with Content-, too, if they aren't named",
             ..WITH_NAME
         },
         Argument {

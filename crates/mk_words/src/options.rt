@@ -158,6 +158,12 @@ pub const PREPEND: &str = "prepend";
 /// `--drop NAME:`
 pub const DROP: &str = "drop";
 
+/// `--keep NAME:`
+pub const KEEP: &str = "keep";
+
+/// `--keep-only NAME:`
+pub const KEEP_ONLY: &str = "keep-only";
+
 /// `--rename OLD:NEW`
 pub const RENAME: &str = "rename";
 

@@ -13,6 +13,8 @@ pub fn no_letters(alloc: Global) -> Letters {
     Letters {
         prepend: None,
         drops: Vec::new(alloc),
+        keeps: Vec::new(alloc),
+        keep_only: false,
         rename: None,
         add_if: None,
         add: None,
@@ -38,6 +40,12 @@ pub fn letters_in(alloc: Global, row: &Row) -> Result<Letters, AllocError> {
         match cell.key {
             "drop" => letters.drops.push(pattern(value, false))?,
             "drop from" => letters.drops.push(pattern(value, true))?,
+            "keep" => letters.keeps.push(pattern(value, false))?,
+            "keep from" => letters.keeps.push(pattern(value, true))?,
+            "keep only" => {
+                letters.keeps.push(pattern(value, false))?;
+                letters.keep_only = true;
+            }
             "prepend" => {
                 let text = Vec::from_slice(alloc, row.bytes("text"))?;
                 letters.prepend = Some(Prepend { name: value, text });
@@ -161,6 +169,24 @@ gives: no
 == fields that go, and values
 drop: A
 take: B
+gives: no
+
+== names that stay
+keep: A
+keep from: B-
+gives: yes
+
+== a name that stays, and its colon
+keep: A:
+gives: no
+
+== no name that stays
+keep from:
+gives: no
+
+== fields that stay, and values
+keep: A
+take: A
 gives: no
 
 == all letters that change a message
@@ -339,6 +365,49 @@ add: X-New: 1
 add if: X-Old: 2
 message: X-Old: 1\nB: 2\n\n
 gives: B: 2\nX-Old: 2\nX-New: 1\n\n
+
+== all go but one name
+keep: a
+message: A: 1\nAb: 2\nA: 3\nB: A\n\nA: 4\n
+gives: A: 1\nA: 3\n\nA: 4\n
+
+== and those that say how the message is built
+keep: A
+message: MIME-Version: 1.0\nA: 1\nContent-Type: text/html\nB: 2\ncontent-x: 3\nContent: 4\nMIME-Version-2: 5\nContent-: 6\n\n
+gives: MIME-Version: 1.0\nA: 1\nContent-Type: text/html\ncontent-x: 3\nContent-: 6\n\n
+
+== these go, too, where only some are to stay
+keep only: A
+message: MIME-Version: 1.0\nA: 1\nContent-Type: text/html\nB: 2\n\n
+gives: A: 1\n\n
+
+== one of several that asks so is enough
+keep: A
+keep only: B
+message: MIME-Version: 1.0\nA: 1\nB: 2\nC: 3\n\n
+gives: A: 1\nB: 2\n\n
+
+== all stay whose names begin so
+keep from: x-
+message: X-A: 1\nA: 2\nx-b: 3\n 4\nX: 5\nX-: 6\n\n
+gives: X-A: 1\nx-b: 3\n 4\nX-: 6\n\n
+
+== none is there that stays
+keep: C
+message: A: 1\nB: 2\n\nx\n
+gives: \nx\n
+
+== a name that is kept and goes
+keep from: X-
+drop: X-A
+message: X-A: 1\nX-B: 2\nC: 3\n\n
+gives: X-B: 2\n\n
+
+== fields are kept before others are added
+keep: A
+add: B: 3
+message: A: 1\nB: 2\nC: 2\n\n
+gives: A: 1\nB: 3\n\n
 
 == letters that only give fields change nothing
 take: A

@@ -9,8 +9,8 @@ use mk_messages::{InMemory, pick, without_separator};
 use mk_pack::{AttachOptions, Spec, try_part};
 use mk_report::report_refusal;
 use mk_run::{
-    Cause, Journal, LetterWords, Pieces, Status, give_up, read_all, run_edit, run_extract,
-    run_field, write_all,
+    Cause, FieldForm, Journal, Letter, LetterWord, LetterWords, Pieces, Status, give_up,
+    letters_of_rounds, read_all, rounds_of_words, run_edit, run_extract, run_field, write_all,
 };
 use mk_script::{LineFault, Step, Word, first_invalid, steps};
 use mk_tree::Doc;
@@ -120,6 +120,17 @@ fn a_message_is_filtered(rt: HostRuntime) -> Result<(), Fail> {
     let status = run_field(alloc, &mut input, &mut out, &mut err, &letters, false);
     assert_eq!(rt; status, Status::Well);
     assert_eq!(rt; out.bytes(), b"B: 2\nA: 9\n\nx\n".as_slice());
+    Ok(())
+}
+
+#[test]
+fn words_are_letters(rt: HostRuntime) -> Result<(), Fail> {
+    let alloc = rt.alloc();
+    let (letter, word) = (Letter::Only, "A: 9");
+    let rounds = rounds_of_words(alloc, &[LetterWord { letter, word }])?;
+    let form = FieldForm::default();
+    let made = letters_of_rounds(alloc, &rounds, form)?.expect(&rt, "letters");
+    assert!(rt; matches!(made.as_slice(), [round] if round.lf.ok()));
     Ok(())
 }
 

@@ -8,6 +8,8 @@ fn no_letters(alloc: Global) -> Letters {
     Letters {
         prepend: None,
         drops: Vec::new(alloc),
+        keeps: Vec::new(alloc),
+        keep_only: false,
         rename: None,
         add_if: None,
         add: None,

@@ -60,6 +60,22 @@ message: X-A: 0\nB: 0\nC: 0\n\n
 output: C: 0\nX-A: 1\nX-A: 2\n\n
 status: Well
 
+== so is a name that stays
+add: X-A: 1
+keep: X-*:
+keep-only: B:
+add: X-A: 2
+message: MIME-Version: 1.0\nX-A: 0\nB: 0\nC: 0\n\n
+output: X-A: 0\nB: 0\nX-A: 1\nX-A: 2\n\n
+status: Well
+
+== a multipart doesn't lose what says so
+keep-only: A:
+message: A: 1\nContent-Type: multipart/mixed; boundary=b\n\n--b\n\none\n--b--\n
+output: A: 1\nContent-Type: multipart/mixed; boundary=b\n\n--b\n\none\n--b--\n
+errors: message 1: Recut\n
+status: Refused
+
 == what the first round added goes in the second
 add: X-A: 1
 add: X-B: 2
@@ -176,6 +192,8 @@ status: Refused
 fn letter(key: &str) -> Option<Letter> {
     match key {
         "drop" => Some(Letter::Drops),
+        "keep" => Some(Letter::Keeps),
+        "keep-only" => Some(Letter::KeepsOnly),
         "rename" => Some(Letter::Rename),
         "add if" => Some(Letter::AddIf),
         "add" => Some(Letter::Add),

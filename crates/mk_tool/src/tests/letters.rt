@@ -118,6 +118,18 @@ message: A: 1\nB: 2\nA-b: 3\n\nx\n
 output: B: 2\n\nx\n
 status: Well
 
+== one name alone, and what says how the message is built
+words: field|--keep|a:
+message: MIME-Version: 1.0\nA: 1\nB: 2\nA-b: 3\n\nx\n
+output: MIME-Version: 1.0\nA: 1\n\nx\n
+status: Well
+
+== some names, and nothing else
+words: field|--keep|a*:|--keep-only|C:
+message: MIME-Version: 1.0\nA: 1\nB: 2\nA-b: 3\n\nx\n
+output: A: 1\nA-b: 3\n\nx\n
+status: Well
+
 == another name
 words: field|--rename|A:C
 message: A: 1\nB: 2\nA: 3\n\nx\n

@@ -4,6 +4,8 @@ pub returns : goal.returns
 returns c = λ same. λ i. record {
   prepend = (same i).prepend;
   drops = (same i).drops;
+  keeps = (same i).keeps;
+  keep_only = (same i).keep_only;
   rename = (same i).rename;
   add_if = c.in_ok-letters.ensures i;
   add = c.in_ok-letters-2.ensures i;
