@@ -24,7 +24,7 @@ use Rattle.std.specs.Option.{option_map_or}
 use Rattle.mk_mail.specs.Prepended.{is_one_line, is_plain}
 use Rattle.mk_wording.specs.Wording.{field_kind, is_structured, worded_field, worded_field_of, worded_value}
 use Rattle.mk_wording.proofs.FieldLemmas.{text_written}
-use Rattle.mk_field.specs.Wording.{decoded_value, line_byte}
+use Rattle.mk_wording.specs.Values.{decoded_value, line_byte}
 use Rattle.mk_mail.proofs.Plainness.{needed, plain_stays}
 
 -- a text on one line stays as it is

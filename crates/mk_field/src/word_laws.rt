@@ -7,9 +7,9 @@ ghost use Rattle.mk_line.specs.Kinds.{is_name};
 ghost use Rattle.mk_line.specs.declared.cutting.Ending.{Ending};
 ghost use Rattle.mk_head.specs.Values.{stripped};
 ghost use Rattle.mk_mail.specs.Prepended.{is_one_line};
+ghost use Rattle.mk_wording.specs.Values.{decoded_value};
 ghost use Rattle.mk_wording.specs.Wording.{is_structured, worded_field};
 ghost use Rattle.mk_field.specs.Filtering.{after_colon};
-ghost use Rattle.mk_field.specs.Wording.{decoded_value};
 
 /// What goes into a field as encoded words is read again.
 pub fn worded_fields_are_read()

@@ -1,17 +1,15 @@
 //! Values of fields as they are printed, with their encoded words decoded or as they are (RFC 2047).
 
-ghost use Rattle.std.specs.Prelude.{◌≡◌, ◌++◌, IfOk, OnOk, map};
-ghost use Rattle.mk_field.specs.Wording.{line_byte as byte_of_line, one_line as text_on_one_line, printed_value};
+ghost use Rattle.std.specs.Prelude.{◌≡◌, ◌++◌, OnOk};
+ghost use Rattle.mk_field.specs.Wording.{one_line as text_on_one_line, printed_value};
 
 use crate::filters::ValueForm;
 use mk_code::text_decode;
 use mk_head::without_endings;
-use mk_wording::{push_addresses, strip};
+use mk_wording::{on_one_line, push_addresses, strip};
 use std::alloc::{AllocError, Global};
 
 const LINE_FEED: u8 = b'\n';
-
-const CARRIAGE_RETURN: u8 = b'\r';
 
 /// Writes a value after a text, in one of its forms. A line break that an encoded word holds becomes a space.
 pub(crate) fn push_value(
@@ -41,21 +39,4 @@ fn push_line(alloc: Global, text: &mut Vec<u8>, value: &[u8]) -> Result<(), Allo
     text.extend_from_slice(strip(&line))?;
     text.push(LINE_FEED)?;
     Ok(())
-}
-
-// The text with spaces in the places of its line breaks.
-fn on_one_line(alloc: Global, text: &[u8]) -> Result<Vec<u8>, AllocError>
-    ensures { IfOk result (λ line. line.items ≡ map byte_of_line text.now) }
-{
-    text.iter().map(|byte| line_byte(*byte)).collect(alloc)
-}
-
-fn line_byte(byte: u8) -> u8
-    ensures { result ≡ byte_of_line byte }
-{
-    if byte == CARRIAGE_RETURN || byte == LINE_FEED {
-        b' '
-    } else {
-        byte
-    }
 }

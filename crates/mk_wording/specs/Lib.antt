@@ -5,6 +5,7 @@ pub mod Parameters
 pub mod Lists
 pub mod AddressLists
 pub mod AddressLaws
+pub mod Values
 pub mod Wording
 pub mod WordingLaws
 pub mod inner

@@ -23,7 +23,9 @@ mod names;
 mod parameters;
 mod scanning;
 mod stretches;
+mod values;
 mod wording;
 
 pub use address_lists::push_addresses;
+pub use values::on_one_line;
 pub use wording::{strip, takes_words, worded_field};
