@@ -1,2 +1,2 @@
-pub mod RoundWords
+pub mod RoundsOfWords
 pub mod Wordings

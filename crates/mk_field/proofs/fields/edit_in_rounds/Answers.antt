@@ -5,7 +5,7 @@ use Rattle.mk_mail.specs.Letters.{are_allowed}
 use Rattle.mk_mail.specs.Rounds.{letters_for}
 use Rattle.mk_field.specs.FilterViews.{round_of}
 use Rattle.mk_field.proofs.FilterLemmas.{allowed_for}
-use Rattle.mk_letters.proofs.RoundWords.{raw_next}
+use Rattle.mk_letters.proofs.RoundsOfWords.{raw_next}
 use Rattle.mk_field.proofs.RoundLemmas.{SoFar, round_at, round_on, round_refused}
 use Rattle.mk_field.proofs.fields.edit_in_rounds.Goals as goal
 

@@ -10,7 +10,7 @@ use Rattle.mk_mail.specs.Rounds.{letters_for}
 use Rattle.mk_field.specs.FilterViews.{round_of}
 use Rattle.mk_field.proofs.FilterLemmas.{allowed_for}
 use Rattle.mk_field.proofs.HeaderRounds.{SoFarBy, refused_round, round_by}
-use Rattle.mk_letters.proofs.RoundWords.{raw_next}
+use Rattle.mk_letters.proofs.RoundsOfWords.{raw_next}
 use Rattle.mk_field.proofs.RoundLemmas.{round_at}
 use Rattle.mk_field.proofs.headers.edit_header.Goals as goal
 

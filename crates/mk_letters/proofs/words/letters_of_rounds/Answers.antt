@@ -2,7 +2,7 @@ use Rattle.std.proofs.Common.{◌≡◌, ◌∙◌, ◌+◌, ◌∷◌, ap, sym,
 use Rattle.std.specs.List.{list_all}
 use Rattle.mk_letters.specs.Asked.{have_colons, words_of}
 use Rattle.mk_letters.specs.RoundsAsked.{round_in, round_letters}
-use Rattle.mk_letters.proofs.RoundWords.{raw_next, colons_on, made_more, none_asked, round_is, round_none}
+use Rattle.mk_letters.proofs.RoundsOfWords.{raw_next, colons_on, made_more, none_asked, round_is, round_none}
 use Rattle.mk_letters.proofs.words.letters_of_rounds.Goals as goal
 
 pub returns-in-None : goal.returns-in-None

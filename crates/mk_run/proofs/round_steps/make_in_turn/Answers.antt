@@ -6,7 +6,7 @@ use Rattle.mk_decide.specs.Edits.{Group}
 use Rattle.mk_decide.specs.Views.{edit_of}
 use Rattle.mk_edit.specs.Histories.{step}
 use Rattle.mk_field.specs.FilterViews.{round_of}
-use Rattle.mk_letters.proofs.RoundWords.{raw_next}
+use Rattle.mk_letters.proofs.RoundsOfWords.{raw_next}
 use Rattle.mk_field.proofs.RoundLemmas.{round_at}
 use Rattle.mk_run.proofs.InRounds.{in_rounds_begun, in_rounds_done, in_rounds_next, in_rounds_refused}
 use Rattle.mk_run.proofs.round_steps.make_in_turn.Goals as goal

@@ -1,7 +1,7 @@
 use Rattle.mk_mail.specs.LetterViews.{letters_of}
 use Rattle.mk_letters.specs.Asked.{words_of}
 use Rattle.mk_letters.proofs.Wordings.{asked_in_form}
-use Rattle.mk_letters.proofs.RoundWords.{none_in_form}
+use Rattle.mk_letters.proofs.RoundsOfWords.{none_in_form}
 use Rattle.mk_letters.proofs.letters.LetterWords.letters_in.Goals as goal
 
 pub returns-in_default : goal.returns-in_default

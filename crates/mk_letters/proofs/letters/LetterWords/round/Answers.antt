@@ -1,7 +1,7 @@
 use Rattle.mk_line.specs.declared.cutting.Ending.TheVariants.{Crlf, Lf}
 use Rattle.mk_mail.specs.LetterViews.{letters_of}
 use Rattle.mk_letters.specs.Asked.{words_of}
-use Rattle.mk_letters.proofs.RoundWords.{no_round, round_some}
+use Rattle.mk_letters.proofs.RoundsOfWords.{no_round, round_some}
 use Rattle.mk_letters.proofs.letters.LetterWords.round.Goals as goal
 
 pub returns-in_default : goal.returns-in_default
