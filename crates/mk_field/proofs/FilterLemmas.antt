@@ -9,10 +9,10 @@ use Rattle.mk_head.specs.Fields.{FieldText, fields_of, is_named}
 use Rattle.mk_head.specs.Split.{fields_from}
 use Rattle.mk_mailbox.specs.Devices.{IsFull, IsLong}
 use Rattle.mk_mailbox.specs.Held.{Held as Kept}
-use Rattle.mk_mail.specs.Letters.{are_allowed, fields_at, is_root}
+use Rattle.mk_mail.specs.Letters.{PlainLetters, are_allowed, fields_at, is_root}
 use Rattle.mk_tree.specs.Documents.{tree}
 use Rattle.mk_tree.specs.Sections.{root_of, section_fields}
-use Rattle.mk_mail.specs.Rounds.{PlainRound, letters_for}
+use Rattle.mk_mail.specs.Rounds.{ByLetters, letters_by_ending}
 use Rattle.mk_mailbox.specs.Mailboxes.{FitsReads, IsKnownWhole, IsNextPiece, IsOver, read_limit}
 use Rattle.mk_mailbox.specs.Pieces.{mailbox_pieces}
 use Rattle.mk_transfer.specs.declared.status.Status.{Status}
@@ -310,11 +310,11 @@ not_both_stops stop a b = cc
 pub turns_out : (turn kept before reads : ℕ) → 18446744073709551615 ≤ turn → (turn + kept + read_limit * before ≤ read_limit * reads) ⊎ IsFull reads → IsLong before reads
 turns_out turn kept before reads end c = elim c [ inr full ↦ inr full | inl less ↦ inl (omega (arith, end, less)) ]
 
--- the letters for a text may be asked for
-pub allowed_for : (r : PlainRound) (text : List ℕ) → is_round r ≡ true → are_allowed (letters_for r text) ≡ true
-allowed_for r text h = let both = and_parts (are_allowed r.lf) (are_allowed r.crlf) h in either (is_lf (eol_of (cut text))) both.0 both.1
+-- those of two letters that are for a text may be asked for
+pub allowed_for : (lf crlf : PlainLetters) (text : List ℕ) → is_round (ByLetters lf crlf) ≡ true → are_allowed (letters_by_ending lf crlf text) ≡ true
+allowed_for lf crlf text h = let both = and_parts (are_allowed lf) (are_allowed crlf) h in either (is_lf (eol_of (cut text))) both.0 both.1
   where
-    either : (is_lf : Bool) → are_allowed r.lf ≡ true → are_allowed r.crlf ≡ true → are_allowed (if is_lf then r.lf else r.crlf) ≡ true
+    either : (is_lf : Bool) → are_allowed lf ≡ true → are_allowed crlf ≡ true → are_allowed (if is_lf then lf else crlf) ≡ true
     either true a b = a
     either false a b = b
 

@@ -35,9 +35,9 @@ use Rattle.mk_edit.specs.HeaderEdits.{edits_header}
 use Rattle.mk_edit.proofs.GroupsMade.{made_so}
 use Rattle.mk_edit.proofs.HeaderEdits.{answer_there, header_edit, made_in, refused_in}
 use Rattle.mk_edit.proofs.SilentFields.{NamesSilent}
-use Rattle.mk_mail.specs.Filtered.{outcome_at}
 use Rattle.mk_mail.specs.Letters.{PlainLetters, edits_at, fields_at, letter_edits, prepending, root_path}
-use Rattle.mk_mail.specs.Rounds.{Made, PlainRound, letters_for, made_text}
+use Rattle.mk_mail.specs.Rules.{rule_edits}
+use Rattle.mk_mail.specs.Rounds.{ByLetters, ByRule, Made, PlainRound, letters_by_ending, made_text, round_edits, round_outcome}
 use Rattle.mk_field.specs.inner.ByHeaders.{IsHeader}
 
 -- ---- lines after a separator
@@ -216,7 +216,7 @@ group_apart (e ∷ es) a body s h =
     let p = and_parts (edits_header e) (list_all edits_header es) s in
     next_apart e es a body (goes_apart e a body p.0 h) (λ made m. group_apart es made body p.1 m)
 
--- ---- letters
+-- ---- rounds
 
 eol_on : (ls ms : List TextLine) → ls ≢ [] → eol_of (ls ++ ms) ≡ eol_of ls
 eol_on [] ms h = absurd (h refl)
@@ -234,9 +234,6 @@ some_lines a h e = none (ap (λ ls. has_separator (entity_head (document_of ls).
 same_eol : (a body : List ℕ) → IsHeader a → eol_of (cut (a ++ body)) ≡ eol_of (cut a)
 same_eol a body h = ap eol_of (lines_apart a body h) ∙ eol_on (cut a) (cut body) (some_lines a h)
 
-same_letters : (r : PlainRound) (a body : List ℕ) → IsHeader a → letters_for r (a ++ body) ≡ letters_for r a
-same_letters r a body h = ap (λ (eol : Ending). if is_lf eol then r.lf else r.crlf) (same_eol a body h)
-
 same_fields : (a body : List ℕ) → IsHeader a → fields_at root_path (a ++ body) ≡ fields_at root_path a
 same_fields a body h = ap (λ (x : Head). fields_of x.fields) (headed a body h).head
 
@@ -246,11 +243,16 @@ same_edits l a body h = λ i. edits_of (same_eol a body h i) (same_fields a body
     edits_of : Ending → List FieldText → List PlainEdit
     edits_of eol fs = option_map_or (λ p. prepending root_path eol p (Some 1) fs) l.prepend [] ++ letter_edits root_path eol l (map (λ f. f.name) fs)
 
+same_letters : (lf crlf : PlainLetters) (a body : List ℕ) → IsHeader a → letters_by_ending lf crlf (a ++ body) ≡ letters_by_ending lf crlf a
+same_letters lf crlf a body h = ap (λ (eol : Ending). if is_lf eol then lf else crlf) (same_eol a body h)
+
+same_round : (r : PlainRound) (a body : List ℕ) → IsHeader a → round_edits root_path (a ++ body) r ≡ round_edits root_path a r
+same_round (ByLetters lf crlf) a body h = ap (edits_at root_path (a ++ body)) (same_letters lf crlf a body h) ∙ same_edits (letters_by_ending lf crlf a) a body h
+same_round (ByRule rule) a body h = λ i. rule_edits root_path (same_eol a body h i) rule (Some 1) (same_fields a body h i)
+
 -- what a round makes of a message is what it makes of the header
-pub round_apart : (r : PlainRound) (l : PlainLetters) (a body : List ℕ) → l ≡ letters_for r a → list_all edits_header (edits_at root_path a l) ≡ true → IsHeader a
-    → AreMadeApart (made_text (outcome_at root_path l a)) (made_text (outcome_at root_path (letters_for r (a ++ body)) (a ++ body))) body
-round_apart r l a body e s h =
-    let g = group_apart (edits_at root_path a l) a body s h in
-    let same : made_text (outcome_at root_path (letters_for r (a ++ body)) (a ++ body)) ≡ made_text (together (edits_at root_path a l) (tree (a ++ body))) =
-    ap (λ es. made_text (together es (tree (a ++ body)))) (ap (edits_at root_path (a ++ body)) (same_letters r a body h ∙ sym e) ∙ same_edits l a body h) in
-    record { same = same ∙ g.same; header = g.header }
+pub round_apart : (r : PlainRound) (a body : List ℕ) → list_all edits_header (round_edits root_path a r) ≡ true → IsHeader a
+    → AreMadeApart (made_text (round_outcome root_path a r)) (made_text (round_outcome root_path (a ++ body) r)) body
+round_apart r a body s h =
+    let g = group_apart (round_edits root_path a r) a body s h in
+    record { same = ap (λ es. made_text (together es (tree (a ++ body)))) (same_round r a body h) ∙ g.same; header = g.header }

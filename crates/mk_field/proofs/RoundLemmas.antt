@@ -1,4 +1,4 @@
--- Rounds of letters in a session: what was made so far, and all taken back where a round is refused.
+-- Rounds in a session: what was made so far, and all taken back where a round is refused.
 use Rattle.std.proofs.Common.{◌≡◌, ◌+◌, ◌-◌, ◌<◌, ◌++◌, ℕ, Bool, true, false, zero, suc, if◌then◌else◌, Option, None, Some, Result, Ok, Err, List, [], ◌∷◌, refl, ap, sym, ◌∙◌, subst, length, take, drop, map, get_or, slice_index_or, arith, length-append}
 use Rattle.std.specs.List.{list_all}
 use Rattle.std.proofs.lemmas.Bool.{and_parts, lt-ltb}
@@ -19,9 +19,7 @@ use Rattle.mk_line.specs.Lines.{cut}
 use Rattle.mk_mail.specs.Apart.{always_fits, has_section, mail_made, section_made}
 use Rattle.mk_mail.proofs.SectionsApart.{placed_made}
 use Rattle.mk_field.specs.Filtering.{PlainFilter, filter_made}
-use Rattle.mk_mail.specs.Filtered.{outcome_at}
-use Rattle.mk_mail.specs.Letters.{PlainLetters, edits_at}
-use Rattle.mk_mail.specs.Rounds.{Made, PlainRound, letters_for, made_text, rounds_made_at}
+use Rattle.mk_mail.specs.Rounds.{Made, PlainRound, made_text, round_edits, round_outcome, rounds_made_at}
 use Rattle.mk_line.specs.Results.{made_of}
 use Rattle.mk_field.specs.FilterClauses.{AreEditsMade, IsEdited, IsFitted, IsReason, IsRoundMade, fitted}
 use Rattle.mk_field.specs.FilterViews.{is_round, round_of}
@@ -47,9 +45,9 @@ refused_by h (Err q) index reason error e n = n ∙ ap (λ x. Some x) (sym (ap r
 pub edits_refused : (es : List PlainEdit) (old new : History) (index : ℕ) (error : EditError) → new ≡ old → IsGroupRefusedBy (MemberIn index error) (step (Group es) old) → AreEditsMade es (Some error) old new
 edits_refused es old new index error n r = (n, refused_by old (together es (tree (text_now old))) index r.0 error r.2 r.1)
 
--- they are those of letters
-pub letters_made : (path : List ℕ) (l : PlainLetters) (es : List PlainEdit) (refusal : Option EditError) (old new : History) → es ≡ edits_at path (text_now old) l → AreEditsMade es refusal old new → IsRoundMade path l refusal old new
-letters_made path l es refusal old new e h = subst (λ x. AreEditsMade x refusal old new) e h
+-- they are those of a round
+pub edits_of_round : (path : List ℕ) (r : PlainRound) (es : List PlainEdit) (refusal : Option EditError) (old new : History) → es ≡ round_edits path (text_now old) r → AreEditsMade es refusal old new → IsRoundMade path r refusal old new
+edits_of_round path r es refusal old new e h = subst (λ x. AreEditsMade x refusal old new) e h
 
 -- ---- rounds, one after another
 
@@ -95,7 +93,7 @@ group_stands h new (Ok p) room k =
     made_now t = Ok t
 group_stands h new (Err q) room k = cc
 
-steps_on : (path : List ℕ) (all rest : List PlainRound) (r : PlainRound) (text : List ℕ) (h new : History) (o : Together) → o ≡ outcome_at path (letters_for r (text_now h)) (text_now h) → SoFar path all (r ∷ rest) text h → grouped_by h o ≡ Ok new → SoFar path all rest text new
+steps_on : (path : List ℕ) (all rest : List PlainRound) (r : PlainRound) (text : List ℕ) (h new : History) (o : Together) → o ≡ round_outcome path (text_now h) r → SoFar path all (r ∷ rest) text h → grouped_by h o ≡ Ok new → SoFar path all rest text new
 steps_on path all rest r text h new o e s k =
     let g = group_stands h new o s.room k in
     record {
@@ -105,8 +103,8 @@ steps_on path all rest r text h new o e s k =
     }
 
 -- one round more
-pub round_on : (path : List ℕ) (all rest : List PlainRound) (r : PlainRound) (l : PlainLetters) (text : List ℕ) (h new : History) → l ≡ letters_for r (text_now h) → SoFar path all (r ∷ rest) text h → IsRoundMade path l None h new → SoFar path all rest text new
-round_on path all rest r l text h new e s k = steps_on path all rest r text h new (outcome_at path l (text_now h)) (ap (λ x. outcome_at path x (text_now h)) e) s k
+pub round_on : (path : List ℕ) (all rest : List PlainRound) (r : PlainRound) (text : List ℕ) (h new : History) → SoFar path all (r ∷ rest) text h → IsRoundMade path r None h new → SoFar path all rest text new
+round_on path all rest r text h new s k = steps_on path all rest r text h new (round_outcome path (text_now h) r) refl s k
 
 pub refused_now : (m : Made) (error : EditError) (f : List ℕ → Made) → IsReason (Some error) m → IsReason (Some error) (made_of f m)
 refused_now (Ok made) error f h = absurd h
@@ -117,12 +115,11 @@ all_left place text left error made (Ok n) e h s = absurd h
 all_left place text left error made (Err reason) e h s = rw e (record { left_is = s; reason = h })
 
 -- a round is refused, and all is taken back
-pub round_refused : (path : List ℕ) (all rest : List PlainRound) (r : PlainRound) (l : PlainLetters) (place : Option Place) (text left : List ℕ) (h new : History) (error : EditError) → l ≡ letters_for r (text_now h) → SoFar path all (r ∷ rest) text h
-    → IsRoundMade path l (Some error) h new → left ≡ first_text new → IsEdited (fitted place (rounds_made_at path all text)) text (Some error) left
-round_refused path all rest r l place text left h new error e s k back =
-    all_left place text left error (rounds_made_at path all text) (made_of (rounds_made_at path rest) (made_text (outcome_at path (letters_for r (text_now h)) (text_now h)))) s.made
-    (refused_now (made_text (outcome_at path (letters_for r (text_now h)) (text_now h))) error (rounds_made_at path rest) (subst (λ x. IsReason (Some error) (made_text (outcome_at path x (text_now h)))) e k.1))
-    (back ∙ (ap first_text k.0 ∙ s.first))
+pub round_refused : (path : List ℕ) (all rest : List PlainRound) (r : PlainRound) (place : Option Place) (text left : List ℕ) (h new : History) (error : EditError) → SoFar path all (r ∷ rest) text h → IsRoundMade path r (Some error) h new → left ≡ first_text new
+    → IsEdited (fitted place (rounds_made_at path all text)) text (Some error) left
+round_refused path all rest r place text left h new error s k back =
+    let m = made_text (round_outcome path (text_now h) r) in
+    all_left place text left error (rounds_made_at path all text) (made_of (rounds_made_at path rest) m) s.made (refused_now m error (rounds_made_at path rest) k.1) (back ∙ (ap first_text k.0 ∙ s.first))
 
 -- all rounds were made, and what they made fits a place, or all is taken back
 pub rounds_done : (path : List ℕ) (all : List PlainRound) (place : Option Place) (refusal : Option EditError) (text : List ℕ) (h new : History) → SoFar path all [] text h → IsFitted place refusal h new

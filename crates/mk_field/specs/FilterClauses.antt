@@ -14,8 +14,7 @@ use Rattle.mk_mailbox.specs.Mailboxes.{IsKnownWhole}
 use Rattle.mk_mailbox.specs.declared.places.Place.{Place}
 use Rattle.mk_mailbox.specs.Pieces.{mailbox_pieces}
 use Rattle.mk_mailbox.specs.Places.{fits_place}
-use Rattle.mk_mail.specs.Letters.{PlainLetters, edits_at}
-use Rattle.mk_mail.specs.Rounds.{Made, made_text}
+use Rattle.mk_mail.specs.Rounds.{Made, PlainRound, made_text, round_edits}
 use Rattle.std.specs.Result.{result_unwrap_or}
 use Rattle.mk_transfer.specs.declared.status.Status.{Status}
 use Rattle.mk_transfer.specs.declared.status.Status.TheVariants.{Well, Refused, Usage, Fault, Memory}
@@ -96,9 +95,9 @@ abbrev pub AreEditsMade : List PlainEdit → Option EditError → History → Hi
 AreEditsMade es None old new = grouped_by old (together es (tree (text_now old))) ≡ Ok new
 AreEditsMade es (Some e) old new = (new ≡ old) × IsReason (Some e) (made_text (together es (tree (text_now old))))
 
--- what the edits of letters at a path answered and left of it
-abbrev pub IsRoundMade : List ℕ → PlainLetters → Option EditError → History → History → Type 0
-IsRoundMade path l refusal old new = AreEditsMade (edits_at path (text_now old) l) refusal old new
+-- what the edits of a round at a path answered and left of it
+abbrev pub IsRoundMade : List ℕ → PlainRound → Option EditError → History → History → Type 0
+IsRoundMade path r refusal old new = AreEditsMade (round_edits path (text_now old) r) refusal old new
 
 -- a text fits a place, where one is to be kept
 abbrev pub fits : Option Place → List ℕ → Bool

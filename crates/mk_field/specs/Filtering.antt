@@ -1,5 +1,5 @@
 -- Messages whose fields are filtered by letters, or given (own, after formail).
-use Rattle.std.specs.Option.{option_map_or}
+use Rattle.std.specs.Option.{option_and_then, option_map_or}
 use Rattle.std.specs.Prelude.{◌||◌, ◌++◌, ◌∷◌, if◌then◌else◌, [], ℕ, suc, Bool, true, false, Option, None, Some, Ok, Err, List, filter, is_some}
 use Rattle.std.specs.List.{flat_map}
 use Rattle.mk_line.specs.Ascii.{colon}
@@ -19,7 +19,7 @@ use Rattle.mk_field.specs.declared.filters.ValueForm.TheVariants.{AsWritten}
 use Rattle.mk_field.specs.Wording.{printed_value}
 use Rattle.mk_transfer.specs.Said.{Run, shown, Said, said_after, silence}
 
--- what a filter is asked for: rounds of letters, how values are printed, which From-lines begin the messages of a mailbox, and at
+-- what a filter is asked for: rounds, how values are printed, which From-lines begin the messages of a mailbox, and at
 -- which section of a message the letters work
 pub record PlainFilter : Type 0 where
   pub rounds : List PlainRound
@@ -66,7 +66,7 @@ ask l = is_some l.take || is_some l.whole
 -- whether rounds ask for fields of a message: the letters of the first do
 abbrev pub rounds_ask : List PlainRound → List ℕ → Bool
 rounds_ask [] text = false
-rounds_ask (r ∷ rs) text = ask (letters_for r text)
+rounds_ask (r ∷ rs) text = option_map_or ask (letters_for r text) false
 
 -- what one round gives, and then what others give
 abbrev pub given_with : Option (List ℕ) → Option (List ℕ) → Option (List ℕ)
@@ -74,10 +74,14 @@ given_with None others = others
 given_with (Some given) None = Some given
 given_with (Some given) (Some others) = Some (given ++ others)
 
+-- what a round at a path gives of a message, where its letters ask for fields
+abbrev pub given_in : List ℕ → ValueForm → PlainRound → List ℕ → Option (List ℕ)
+given_in path form r text = option_and_then (λ l. given_by path form l.take l.whole text) (letters_for r text)
+
 -- what rounds at a path that ask for fields give of a message, one after another
 abbrev pub given_of : List ℕ → ValueForm → List PlainRound → List ℕ → Option (List ℕ)
 given_of path form [] text = None
-given_of path form (r ∷ rs) text = given_with (given_by path form (letters_for r text).take (letters_for r text).whole text) (given_of path form rs text)
+given_of path form (r ∷ rs) text = given_with (given_in path form r text) (given_of path form rs text)
 
 -- what a filter makes of a message; of one of a mailbox, where `each` says so, only what may stand in its place
 abbrev pub filter_made : Bool → PlainFilter → List ℕ → Made

@@ -1,4 +1,4 @@
-//! One message of which the fields are filtered by letters, or given.
+//! One message of which the fields are filtered by rounds, or given.
 
 ghost use Rattle.std.specs.Prelude.{◌≡◌, ℕ, List, Some, true, false, map, IfOk, IfSome, OnOk};
 ghost use Rattle.std.specs.List.{list_all};
@@ -6,8 +6,7 @@ ghost use Rattle.mk_decide.specs.Answers.{is_memory};
 ghost use Rattle.mk_decide.specs.Views.{edit_of};
 ghost use Rattle.mk_edit.specs.Histories.{first_text, started, text_now};
 ghost use Rattle.mk_mail.specs.Apart.{always_fits as fits_always, section_made};
-ghost use Rattle.mk_mail.specs.LetterViews.{letters_of};
-ghost use Rattle.mk_mail.specs.Letters.{are_allowed, is_root as is_root_path};
+ghost use Rattle.mk_mail.specs.Letters.{is_root as is_root_path};
 ghost use Rattle.mk_mail.specs.Rounds.{rounds_made_at};
 ghost use Rattle.mk_field.specs.FilterClauses.{AreEditsMade, IsEdited, IsFitted, IsRoundMade, fitted};
 ghost use Rattle.mk_field.specs.FilterViews.{filter_of, is_allowed, is_round, round_of};
@@ -20,7 +19,7 @@ use crate::headers::tell_header;
 use crate::telling::{Printed, Told};
 use mk_edit::{Edit, EditError, GroupError, Session};
 use mk_line::Meter;
-use mk_mail::{FromLines, Letters, Place, field_edits_at, head_at};
+use mk_mail::{FromLines, Place, head_at};
 use mk_tree::{Doc, after_envelope};
 use std::alloc::{AllocError, Global};
 
@@ -62,7 +61,7 @@ fn rounds_ask(rounds: &[Round<'_>], message: &[u8]) -> bool
     ensures { result ≡ do_rounds_ask (map round_of rounds.now) message.now }
 {
     match rounds {
-        [round, ..] => ask(round.letters_for(message)),
+        [round, ..] => round.letters_for(message).is_some_and(ask),
         [] => false,
     }
 }
@@ -256,8 +255,7 @@ fn edit_in_rounds(
     ensures named { IfOk result (λ refusal. IfSome refusal (λ error. is_memory error ≡ false)) }
 {
     for round in rounds {
-        let letters = round.letters_for(session.text());
-        let refusal = edit(alloc, path, letters, session)?;
+        let refusal = edit(alloc, path, round, session)?;
         match refusal {
             Some(reason) => {
                 take_back(session)?;
@@ -299,18 +297,18 @@ fn take_back(session: &mut Session) -> Result<(), AllocError>
     Ok(())
 }
 
-// Makes the edits of letters in a message, as one step. Answers the reason if one is refused; nothing is changed then.
+// Makes the edits of a round in a message, as one step. Answers the reason if one is refused; nothing is changed then.
 fn edit(
     alloc: Global,
     path: &[u32],
-    letters: &Letters,
+    round: &Round<'_>,
     session: &mut Session,
 ) -> Result<Option<EditError>, AllocError>
-    requires { are_allowed (letters_of letters.now) ≡ true }
-    ensures made { IfOk result (λ refusal. IsRoundMade path.now (letters_of letters.now) refusal session.old session.new) }
+    requires { is_round (round_of round.now) ≡ true }
+    ensures made { IfOk result (λ refusal. IsRoundMade path.now (round_of round.now) refusal session.old session.new) }
     ensures named { IfOk result (λ refusal. IfSome refusal (λ error. is_memory error ≡ false)) }
 {
-    let edits = field_edits_at(alloc, session.doc(), path, letters)?;
+    let edits = round.edits_at(alloc, session.doc(), path)?;
     make_edits(&edits, session)
 }
 

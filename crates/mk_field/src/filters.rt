@@ -3,13 +3,17 @@
 ghost use Rattle.std.specs.Prelude.{◌≡◌, map, IfOk};
 ghost use Rattle.std.specs.List.{list_all, list_any};
 ghost use Rattle.mk_mail.specs.LetterViews.{letters_of};
+ghost use Rattle.mk_mail.specs.Rounds.{letters_by_ending};
 ghost use Rattle.mk_field.specs.Filtering.{ask as do_ask};
 ghost use Rattle.mk_letters.specs.RoundsAsked.{round_letters};
 ghost use Rattle.mk_field.specs.FilterViews.{ask_alone as do_ask_alone, is_round, round_asks, round_asks_always, round_of};
 
+use mk_edit::Edit;
 use mk_letters::RoundLetters;
 use mk_line::{Ending, eol_of};
-use mk_mail::{FromLines, Letters};
+use mk_mail::{FromLines, Letters, field_edits_at};
+use mk_texts::TextRule;
+use mk_tree::Doc;
 use std::alloc::{AllocError, Global};
 
 /// How `-x` prints the values of fields.
@@ -27,40 +31,58 @@ pub enum ValueForm {
     Addresses,
 }
 
-/// One round of letters. They may depend on how the lines of a text end, since a field that they add may have more than one
-/// line.
-#[derive(Clone, Copy, Debug)]
-pub struct Round<'a> {
-    /// The letters for a text whose lines end with LF.
-    pub lf: &'a Letters,
-    /// Those for a text whose lines end with CR LF.
-    pub crlf: &'a Letters,
+/// One round: letters, or a rule for the texts of fields.
+#[derive(Clone, Copy)]
+pub enum Round<'a> {
+    /// Letters. They may depend on how the lines of a text end, since a field that they add may have more than one line.
+    Letters {
+        /// The letters for a text whose lines end with LF.
+        lf: &'a Letters,
+        /// Those for a text whose lines end with CR LF.
+        crlf: &'a Letters,
+    },
+    /// A rule.
+    Rule(&'a TextRule),
 }
 
 impl<'a> Round<'a> {
-    ghost use Rattle.std.specs.Prelude.{◌≡◌};
+    ghost use Rattle.std.specs.Prelude.{◌≡◌, map, true, IfOk};
+    ghost use Rattle.std.specs.Option.{option_map};
+    ghost use Rattle.mk_decide.specs.Views.{edit_of};
     ghost use Rattle.mk_mail.specs.LetterViews.{letters_of};
-    ghost use Rattle.mk_mail.specs.Rounds.{letters_for as are_for, round_of_letters};
-    ghost use Rattle.mk_field.specs.Filtering.{ask};
+    ghost use Rattle.mk_mail.specs.Rounds.{letters_for as are_for, round_edits, round_of_letters};
     ghost use Rattle.mk_field.specs.FilterViews.{is_round, round_asks, round_asks_always, round_of};
 
     /// The same letters for each text.
     pub fn new(letters: &'a Letters) -> Round<'a>
         ensures { round_of result ≡ round_of_letters (letters_of letters.now) }
     {
-        Round {
+        Round::Letters {
             lf: letters,
             crlf: letters,
         }
     }
 
-    /// The letters for a text, by how its lines end.
-    pub fn letters_for(&self, text: &[u8]) -> &'a Letters
-        ensures { letters_of result.now ≡ are_for (round_of self.now) text.now }
+    /// The letters for a text, by how its lines end. `None` if it is a rule.
+    pub fn letters_for(&self, text: &[u8]) -> Option<&'a Letters>
+        ensures { option_map (λ l. letters_of l.now) result ≡ are_for (round_of self.now) text.now }
     {
-        match eol_of(text) {
-            Ending::Crlf => self.crlf,
-            Ending::Lf | Ending::Missing => self.lf,
+        match self {
+            Round::Letters { lf, crlf } => Some(by_ending(lf, crlf, text)),
+            Round::Rule(_) => None,
+        }
+    }
+
+    /// The edits of the round on the fields of the section at a path. If there is no such section, there are no fields in it.
+    pub fn edits_at(&self, alloc: Global, doc: &Doc, path: &[u32]) -> Result<Vec<Edit>, AllocError>
+        requires { is_round (round_of self.now) ≡ true }
+        ensures { IfOk result (λ edits. map edit_of edits.items ≡ round_edits path.now doc.now (round_of self.now)) }
+    {
+        match self {
+            Round::Letters { lf, crlf } => {
+                field_edits_at(alloc, doc, path, by_ending(lf, crlf, doc.text()))
+            }
+            Round::Rule(rule) => rule.edits(alloc, doc, path, eol_of(doc.text())),
         }
     }
 
@@ -68,36 +90,62 @@ impl<'a> Round<'a> {
     fn ok(&self) -> bool
         ensures { result ≡ is_round (round_of self.now) }
     {
-        self.lf.ok() && self.crlf.ok()
+        match self {
+            Round::Letters { lf, crlf } => lf.ok() && crlf.ok(),
+            Round::Rule(_) => true,
+        }
     }
 
     // Whether it asks for fields.
     fn asks(&self) -> bool
         ensures { result ≡ round_asks (round_of self.now) }
     {
-        ask(self.lf) || ask(self.crlf)
+        match self {
+            Round::Letters { lf, crlf } => ask(lf) || ask(crlf),
+            Round::Rule(_) => false,
+        }
     }
 
     // Whether it asks for fields of each text.
     fn asks_always(&self) -> bool
         ensures { result ≡ round_asks_always (round_of self.now) }
     {
-        ask(self.lf) && ask(self.crlf)
+        match self {
+            Round::Letters { lf, crlf } => ask(lf) && ask(crlf),
+            Round::Rule(_) => false,
+        }
     }
 }
 
-/// The rounds of these letters.
+// Those of two letters that are for a text.
+fn by_ending<'a>(lf: &'a Letters, crlf: &'a Letters, text: &[u8]) -> &'a Letters
+    ensures { letters_of result.now ≡ letters_by_ending (letters_of lf.now) (letters_of crlf.now) text.now }
+{
+    match eol_of(text) {
+        Ending::Crlf => crlf,
+        Ending::Lf | Ending::Missing => lf,
+    }
+}
+
+/// The rounds of these letters and rules.
 pub fn rounds<'a>(alloc: Global, letters: &'a [RoundLetters]) -> Result<Vec<Round<'a>>, AllocError>
     ensures { IfOk result (λ rounds. map round_of rounds.items ≡ map round_letters letters.now) }
 {
     let mut rounds = Vec::new(alloc);
     for round in letters {
-        rounds.push(Round {
-            lf: &round.lf,
-            crlf: &round.crlf,
-        })?;
+        rounds.push(round_with(round))?;
     }
     Ok(rounds)
+}
+
+// The round of letters or of a rule.
+fn round_with(round: &RoundLetters) -> Round<'_>
+    ensures { round_of result ≡ round_letters round.now }
+{
+    match round {
+        RoundLetters::Letters { lf, crlf } => Round::Letters { lf, crlf },
+        RoundLetters::Rule(rule) => Round::Rule(rule),
+    }
 }
 
 /// Whether letters ask for fields.
@@ -111,7 +159,7 @@ pub(crate) fn ask(letters: &Letters) -> bool
 pub(crate) const ROOT: &[u32] = &[1];
 
 /// What a run that filters fields is asked for.
-#[derive(Clone, Copy, Debug)]
+#[derive(Clone, Copy)]
 pub struct FieldFilter<'a> {
     /// The rounds, each of which works on what the one before it left. Where one of several asks for fields, all have to.
     pub rounds: &'a [Round<'a>],

@@ -9,10 +9,10 @@ ghost use Rattle.mk_head.specs.Split.{fields_from};
 ghost use Rattle.mk_mail.specs.Letters.{fields_at};
 ghost use Rattle.mk_mail.specs.LetterViews.{letters_of};
 ghost use Rattle.mk_field.specs.FilterViews.{round_of};
-ghost use Rattle.mk_field.specs.Filtering.{after_colon as is_after_colon, given_by, given_of, given_with as both_given};
+ghost use Rattle.mk_field.specs.Filtering.{after_colon as is_after_colon, given_by, given_in, given_of, given_with as both_given};
 ghost use Rattle.mk_field.specs.Wording.{printed_value};
 
-use crate::filters::{FieldFilter, ValueForm};
+use crate::filters::{FieldFilter, Round, ValueForm};
 use crate::wording::push_value;
 use mk_head::each_field;
 use mk_mail::Letters;
@@ -34,7 +34,7 @@ pub(crate) fn given(
 {
     let mut given = None;
     for round in filter.rounds {
-        let more = given_by_letters(alloc, round.letters_for(text), filter.form, head)?;
+        let more = given_by_round(alloc, round, filter.form, text, head)?;
         given = given_with(given, more)?;
     }
     Ok(given)
@@ -51,6 +51,23 @@ fn given_with(given: Option<Vec<u8>>, more: Option<Vec<u8>>) -> Result<Option<Ve
         }
         (Some(text), None) => Ok(Some(text)),
         (None, more) => Ok(more),
+    }
+}
+
+// What a round gives of a text, the head of a section of which this is.
+fn given_by_round(
+    alloc: Global,
+    round: &Round<'_>,
+    form: ValueForm,
+    text: &[u8],
+    head: &[u8],
+) -> Result<Option<Vec<u8>>, AllocError>
+    ensures { IfOk result (λ given. (path : List ℕ) → fields_of (fields_from false (lines_of head.now)) ≡ fields_at path text.now
+        → option_map (λ v. v.items) given ≡ given_in path form (round_of round.now) text.now) }
+{
+    match round.letters_for(text) {
+        Some(letters) => given_by_letters(alloc, letters, form, head),
+        None => Ok(None),
     }
 }
 

@@ -19,7 +19,6 @@ use memchr::memmem;
 use mk_decide::has_separator;
 use mk_edit::{Edit, EditError, Session, edits_header};
 use mk_line::{Ending, ends_open, eol_of};
-use mk_mail::field_edits_at;
 use mk_tree::Doc;
 use std::alloc::{AllocError, Global};
 
@@ -105,8 +104,7 @@ fn edit_header(alloc: Global, rounds: &[Round<'_>], header: &[u8]) -> Result<ByH
         return Ok(ByHeader::Untold);
     }
     for round in rounds {
-        let letters = round.letters_for(session.text());
-        let edits = field_edits_at(alloc, session.doc(), ROOT, letters)?;
+        let edits = round.edits_at(alloc, session.doc(), ROOT)?;
         if !edit_headers(&edits) {
             return Ok(ByHeader::Untold);
         }

@@ -32,6 +32,7 @@ mod wording;
 pub use filtering::{filter_one, run_field, try_field};
 pub use filters::{FieldFilter, Round, ValueForm, rounds};
 pub use mk_letters::{
-    FieldForm, Letter, LetterWord, LetterWords, RoundLetters, letters_of_rounds, rounds_of_words,
+    FieldForm, Letter, LetterWord, LetterWords, RoundLetters, RoundWords, RuleFault, RuleKind,
+    TextRule, letters_of_rounds, rounds_of_words,
 };
 pub use mk_wording::takes_words;

@@ -43,7 +43,7 @@ use Rattle.mk_mail.proofs.MailChains.{AreMessage, IsKept, IsWhole, kept_apart}
 -- ---- the edits of letters are edits of the root's fields
 
 -- an edit of letters: of fields, at the root
-abbrev IsRootEdit : PlainEdit → Type 0
+abbrev pub IsRootEdit : PlainEdit → Type 0
 IsRootEdit (AddField path top text) = path ≡ root_path
 IsRootEdit (RemoveField path name k) = path ≡ root_path
 IsRootEdit (RenameField path name k to) = path ≡ root_path
@@ -54,7 +54,7 @@ IsRootEdit (InsertPart path place text) = ⊥
 IsRootEdit (RemovePart path) = ⊥
 IsRootEdit (Wrap path subtype boundary) = ⊥
 
-abbrev AreRootEdits : List PlainEdit → Type 0
+abbrev pub AreRootEdits : List PlainEdit → Type 0
 AreRootEdits [] = Unit {0}
 AreRootEdits (e ∷ es) = IsRootEdit e × AreRootEdits es
 
@@ -62,7 +62,7 @@ mapped : {X : Type 0} (f : X → PlainEdit) (xs : List X) → ((x : X) → IsRoo
 mapped f [] h = tt
 mapped f (x ∷ xs) h = (h x, mapped f xs h)
 
-joined : (es fs : List PlainEdit) → AreRootEdits es → AreRootEdits fs → AreRootEdits (es ++ fs)
+pub joined : (es fs : List PlainEdit) → AreRootEdits es → AreRootEdits fs → AreRootEdits (es ++ fs)
 joined [] fs h g = g
 joined (e ∷ es) fs h g = (h.0, joined es fs h.1 g)
 
@@ -151,7 +151,7 @@ prepend_root : (eol : Ending) (o : Option PlainPrepend) (fs : List FieldText) �
 prepend_root eol None fs = tt
 prepend_root eol (Some p) fs = prepending_root eol p (Some 1) fs
 
-edits_root : (text : List ℕ) (l : PlainLetters) → AreRootEdits (edits_at root_path text l)
+pub edits_root : (text : List ℕ) (l : PlainLetters) → AreRootEdits (edits_at root_path text l)
 edits_root text l =
     let eol = eol_of (cut text) in
     joined (option_map_or (λ p. prepending root_path eol p (Some 1) (fields_at root_path text)) l.prepend []) (letter_edits root_path eol l (names_at root_path text))
@@ -169,7 +169,7 @@ fields_again fs gs (leaf h ls) = refl
 fields_again fs gs (message h e) = refl
 fields_again fs gs (multi h b pre ps t) = refl
 
-fielded_on : (t u v : Document) → IsFielded t u → IsFielded u v → IsFielded t v
+pub fielded_on : (t u v : Document) → IsFielded t u → IsFielded u v → IsFielded t v
 fielded_on t u v a b = record {
   fields = b.fields;
   same = b.same ∙ (ap (λ (d : Document). record { envelope = d.envelope; root = with_fields b.fields d.root }) a.same ∙ ap (λ r. record { envelope = t.envelope; root = r }) (fields_again b.fields a.fields t.root));
@@ -224,7 +224,7 @@ made_fielded : (t : Document) (ss : List Splice) (es : List PlainEdit) (r : Resu
 made_fielded t ss es (Ok u) k others = after_fielded t u ss (together es u) (k u refl) (others u)
 made_fielded t ss es (Err e) k others = tt
 
-as_it_was : (t : Document) → IsFielded t t
+pub as_it_was : (t : Document) → IsFielded t t
 as_it_was t = record { fields = field_lines t.root; same = ap (λ r. record { envelope = t.envelope; root = r }) (sym (own_fields t.root)) }
 
 together_fielded : (es : List PlainEdit) (t : Document) → AreRootEdits es → FieldedBy t (together es t)
@@ -335,19 +335,27 @@ outcome l text = outcome_at root_path l text
 abbrev pub text_left : List ℕ → Together → List ℕ
 text_left text r = result_unwrap_or (result_map_both (λ p. printed p.0) (λ q. q) r) text
 
-kept_by : (way : FromLines) (l : PlainLetters) (text : List ℕ) (r : Together) → needs_field way ≡ false → outcome l text ≡ r → FieldedBy (tree text) r → IsWhole way false (cut text) → IsKept way (cut text) (cut (text_left text r))
-kept_by way l text (Ok q) n e a w = fielded_kept way text q.0 n a (groups_read_back_lem (edits_at root_path text l) text q.0 q.1 e) w
-kept_by way l text (Err q) n e a w = record { whole = w; ends = λ h. h; begins = λ h. h }
+kept_by : (way : FromLines) (es : List PlainEdit) (text : List ℕ) (r : Together) → needs_field way ≡ false → together es (tree text) ≡ r → FieldedBy (tree text) r → IsWhole way false (cut text) → IsKept way (cut text) (cut (text_left text r))
+kept_by way es text (Ok q) n e a w = fielded_kept way text q.0 n a (groups_read_back_lem es text q.0 q.1 e) w
+kept_by way es text (Err q) n e a w = record { whole = w; ends = λ h. h; begins = λ h. h }
 
-fielded_by : (l : PlainLetters) (text : List ℕ) (r : Together) → outcome l text ≡ r → FieldedBy (tree text) r → IsFielded (tree text) (tree (text_left text r))
-fielded_by l text (Ok q) e a = record { fields = a.fields; same = groups_read_back_lem (edits_at root_path text l) text q.0 q.1 e ∙ a.same }
-fielded_by l text (Err q) e a = as_it_was (tree text)
+-- edits of the root's fields keep what makes a message of its lines
+pub edits_kept : (way : FromLines) (es : List PlainEdit) (text : List ℕ) → needs_field way ≡ false → AreRootEdits es → IsWhole way false (cut text) → IsKept way (cut text) (cut (text_left text (together es (tree text))))
+edits_kept way es text n a w = kept_by way es text (together es (tree text)) n refl (together_fielded es (tree text) a) w
+
+fielded_by : (es : List PlainEdit) (text : List ℕ) (r : Together) → together es (tree text) ≡ r → FieldedBy (tree text) r → IsFielded (tree text) (tree (text_left text r))
+fielded_by es text (Ok q) e a = record { fields = a.fields; same = groups_read_back_lem es text q.0 q.1 e ∙ a.same }
+fielded_by es text (Err q) e a = as_it_was (tree text)
+
+-- they leave all but these fields as it was
+pub edits_fielded : (es : List PlainEdit) (text : List ℕ) → AreRootEdits es → IsFielded (tree text) (tree (text_left text (together es (tree text))))
+edits_fielded es text a = fielded_by es text (together es (tree text)) refl (together_fielded es (tree text) a)
 
 pub fields_alone : (l : PlainLetters) (text : List ℕ) → IsFielded (tree text) (tree (filtered l text))
-fields_alone l text = fielded_by l text (outcome l text) refl (together_fielded (edits_at root_path text l) (tree text) (edits_root text l))
+fields_alone l text = edits_fielded (edits_at root_path text l) text (edits_root text l)
 
 pub filtered_kept : (way : FromLines) (l : PlainLetters) (text : List ℕ) → needs_field way ≡ false → IsWhole way false (cut text) → IsKept way (cut text) (cut (filtered l text))
-filtered_kept way l text n w = kept_by way l text (outcome l text) n refl (together_fielded (edits_at root_path text l) (tree text) (edits_root text l)) w
+filtered_kept way l text n w = edits_kept way (edits_at root_path text l) text n (edits_root text l) w
 
 kept : (way : FromLines) (l : PlainLetters) (text : List ℕ) (alone : Bool) → needs_field way ≡ false → AreMessage way (cut text) → IsKept way (cut text) (cut (if alone then text else filtered l text))
 kept way l text true n m = record { whole = m.1; ends = λ h. h; begins = λ h. h }

@@ -257,7 +257,8 @@ fields_at path text = option_map_or section_fields (section_at path (tree text))
 abbrev pub names_at : List ℕ → List ℕ → List (List ℕ)
 names_at path text = map (λ f. f.name) (fields_at path text)
 
--- how many fields of a name get a text before what they say: each is looked for from the first field on, and there may be very many (own)
+-- how many fields of a name get a text before what they say, or are changed by a rule: each is looked for from the first field on, and
+-- there may be very many (own)
 abbrev pub most_prepended : ℕ
 most_prepended = 100
 

@@ -2,6 +2,7 @@ pub mod BuiltLaws
 pub mod Prepended
 pub mod Letters
 pub mod Filtered
+pub mod Rules
 pub mod Rounds
 pub mod Apart
 pub mod Replaced

@@ -91,6 +91,11 @@ pub fn one_round_filters()
     ensures { (l : PlainLetters) (text : List ℕ) → rounds_left (round_of_letters l ∷ []) text ≡ filtered l text }
 {}
 
+/// What rounds of letters and rules leave of a message has other fields than the message, too, and all else as it was.
+pub fn rounds_change_fields_alone()
+    ensures { (rs : List PlainRound) (text : List ℕ) → IsFielded (tree text) (tree (rounds_left rs text)) }
+{}
+
 /// Rounds after others make of a text what they make of the text that the others made, as runs in a pipe do; and if one of
 /// the others is refused, nothing is made.
 pub fn rounds_are_piped()

@@ -10,9 +10,7 @@ use Rattle.mk_edit.specs.History.{History}
 use Rattle.mk_edit.specs.Histories.{IsHistory, grouped_by, started, step, text_now, with_step}
 use Rattle.mk_edit.proofs.Leading.{texts_start_lem}
 use Rattle.mk_mail.specs.Apart.{has_section}
-use Rattle.mk_mail.specs.Filtered.{outcome_at}
-use Rattle.mk_mail.specs.Letters.{edits_at}
-use Rattle.mk_mail.specs.Rounds.{PlainRound, letters_for, made_text}
+use Rattle.mk_mail.specs.Rounds.{PlainRound, made_text, round_edits, round_outcome}
 use Rattle.mk_run.specs.RoundSteps.{Led, led_after, led_on, led_step, rounds_led, rounds_step}
 use Rattle.mk_run.specs.inner.Making.{MadeRound}
 use Rattle.mk_run.proofs.WordsMade.{left_read, left_valid, text_after, together_append}
@@ -46,7 +44,7 @@ in_rounds_begun path all rest edits session copy begun same none =
 
 -- what is made of a text of which a round was made
 round_done : (path : List ℕ) (r : PlainRound) (rs : List PlainRound) (text : List ℕ) (es : List PlainEdit) (d : Document) (ss : List Splice)
-    → es ≡ edits_at path text (letters_for r text) → together es (tree text) ≡ Ok (d, ss) → rounds_led path (r ∷ rs) text ≡ led_after ss (rounds_led path rs (printed d))
+    → es ≡ round_edits path text r → together es (tree text) ≡ Ok (d, ss) → rounds_led path (r ∷ rs) text ≡ led_after ss (rounds_led path rs (printed d))
 round_done path r rs text es d ss is made =
     ap (λ xs. led_on (together xs (tree text)) (rounds_led path rs)) (sym is) ∙ ap (λ o. led_on o (rounds_led path rs)) made
 
@@ -77,11 +75,11 @@ there path rs h section = rw section refl
 -- a round that is refused refuses all
 pub in_rounds_refused : (path : List ℕ) (all rest later : List PlainRound) (r : PlainRound) (edits : List PlainEdit) (session copy : History) (o : Option Refusal)
     → InRounds path all rest edits session copy → rest ≡ r ∷ later → has_section path (text_now session) ≡ true
-    → IfSome o (λ reason. made_text (outcome_at path (letters_for r (text_now copy)) (text_now copy)) ≡ Err reason) → IsRefusedBy o (rounds_step path all session)
+    → IfSome o (λ reason. made_text (round_outcome path (text_now copy) r) ≡ Err reason) → IsRefusedBy o (rounds_step path all session)
 in_rounds_refused path all rest later r edits session copy None t here section e = tt
 in_rounds_refused path all rest later r edits session copy (Some reason) t here section e =
     there path all session section
-    ∙ ap (led_step session) (t.rest_is ∙ ap (led_after t.splices) (ap (λ rs. rounds_led path rs (text_now copy)) here ∙ led_refused (outcome_at path (letters_for r (text_now copy)) (text_now copy)) (rounds_led path later) reason e))
+    ∙ ap (led_step session) (t.rest_is ∙ ap (led_after t.splices) (ap (λ rs. rounds_led path rs (text_now copy)) here ∙ led_refused (round_outcome path (text_now copy) r) (rounds_led path later) reason e))
 
 -- once all are made, they are what the edits are as one step
 pub in_rounds_done : (path : List ℕ) (all rest : List PlainRound) (edits : List PlainEdit) (session copy new : History)
@@ -105,16 +103,16 @@ round_alone path rs r es old new one section m =
     ∙ (ap (λ ss. Ok (with_step old (printed m.done.document) ss)) (append-nil m.done.splices) ∙ ap (λ h. Ok h) (sym m.done.left))))
 
 pub round_alone_refused : (path : List ℕ) (rs : List PlainRound) (r : PlainRound) (old : History) (o : Option Refusal) → rs ≡ r ∷ [] → has_section path (text_now old) ≡ true
-    → IfSome o (λ reason. made_text (outcome_at path (letters_for r (text_now old)) (text_now old)) ≡ Err reason) → IsRefusedBy o (rounds_step path rs old)
+    → IfSome o (λ reason. made_text (round_outcome path (text_now old) r) ≡ Err reason) → IsRefusedBy o (rounds_step path rs old)
 round_alone_refused path rs r old None one section e = tt
 round_alone_refused path rs r old (Some reason) one section e =
     there path rs old section
     ∙ (ap (λ xs. led_step old (rounds_led path xs (text_now old))) one
-    ∙ ap (led_step old) (led_refused (outcome_at path (letters_for r (text_now old)) (text_now old)) (rounds_led path []) reason e))
+    ∙ ap (led_step old) (led_refused (round_outcome path (text_now old) r) (rounds_led path []) reason e))
 
 -- the reason against an edit of a round is that against the round
-pub round_told : (path : List ℕ) (r : PlainRound) (text : List ℕ) (es : List PlainEdit) (index : ℕ) (o : Option Refusal) → es ≡ edits_at path text (letters_for r text)
-    → IfSome o (λ reason. together es (tree text) ≡ Err (index, reason)) → IfSome o (λ reason. made_text (outcome_at path (letters_for r text) text) ≡ Err reason)
+pub round_told : (path : List ℕ) (r : PlainRound) (text : List ℕ) (es : List PlainEdit) (index : ℕ) (o : Option Refusal) → es ≡ round_edits path text r
+    → IfSome o (λ reason. together es (tree text) ≡ Err (index, reason)) → IfSome o (λ reason. made_text (round_outcome path text r) ≡ Err reason)
 round_told path r text es index None is told = tt
 round_told path r text es index (Some reason) is told = ap (λ xs. made_text (together xs (tree text))) (sym is) ∙ ap made_text told
 

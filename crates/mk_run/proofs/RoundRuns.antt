@@ -13,9 +13,7 @@ use Rattle.mk_edit.specs.Histories.{grouped_by, started, step, text_now, with_st
 use Rattle.mk_edit.proofs.GroupFacts.{groups_read_back_lem}
 use Rattle.mk_field.specs.Filtering.{report_of}
 use Rattle.mk_mail.specs.Apart.{has_section, section_made}
-use Rattle.mk_mail.specs.Filtered.{outcome_at}
-use Rattle.mk_mail.specs.Letters.{edits_at}
-use Rattle.mk_mail.specs.Rounds.{Made, PlainRound, letters_for, made_text, rounds_made_at}
+use Rattle.mk_mail.specs.Rounds.{Made, PlainRound, made_text, round_edits, round_outcome, rounds_made_at}
 use Rattle.mk_transfer.specs.Said.{shown}
 use Rattle.mk_run.specs.RoundLaws.{JournalsChangeNothing, RoundsAreGroups}
 use Rattle.mk_run.specs.RoundSteps.{Led, led_after, led_on, led_step, round_lines, rounds_led, rounds_step}
@@ -36,7 +34,7 @@ led_made (Err q) f g same = refl
 
 rounds_same : (path : List ℕ) (rs : List PlainRound) (text : List ℕ) → text_led (rounds_led path rs text) ≡ rounds_made_at path rs text
 rounds_same path [] text = refl
-rounds_same path (r ∷ rs) text = led_made (outcome_at path (letters_for r text) text) (rounds_led path rs) (rounds_made_at path rs) (rounds_same path rs)
+rounds_same path (r ∷ rs) text = led_made (round_outcome path text r) (rounds_led path rs) (rounds_made_at path rs) (rounds_same path rs)
 
 -- a text that was made stands, and nothing is reported; else all is as it was
 output_same : (text : List ℕ) (m : Led) → text_now (result_unwrap_or (led_step (started text) m) (started text)) ≡ result_unwrap_or (text_led m) text
@@ -88,7 +86,7 @@ group_on es (Ok d) f text p made e rest =
 
 rounds_group : (path : List ℕ) (rs : List PlainRound) (text : List ℕ) (p : List ℕ × List Splice) → rounds_led path rs text ≡ Ok p → IsGroup text p
 rounds_group path [] text p e = let same : (text, []) ≡ p = cc in record { edits = []; made = ap (λ (q : List ℕ × List Splice). Ok (tree q.0, q.1)) same }
-rounds_group path (r ∷ rs) text p e = group_on (edits_at path text (letters_for r text)) (outcome_at path (letters_for r text) text) (rounds_led path rs) text p refl e (rounds_group path rs)
+rounds_group path (r ∷ rs) text p e = group_on (round_edits path text r) (round_outcome path text r) (rounds_led path rs) text p refl e (rounds_group path rs)
 
 step_group : (m : Led) (old new : History) → ((p : List ℕ × List Splice) → m ≡ Ok p → IsGroup (text_now old) p) → led_step old m ≡ Ok new → (edits : List PlainEdit) × (step (Group edits) old ≡ Ok new)
 step_group (Err reason) old new group e = absurd (let bad : ◌≡◌ {A = Result History Refusal} (Err reason) (Ok new) = e in cc)

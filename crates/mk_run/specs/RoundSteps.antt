@@ -7,8 +7,7 @@ use Rattle.mk_edit.specs.Groups.{Together}
 use Rattle.mk_edit.specs.History.{History}
 use Rattle.mk_edit.specs.Histories.{text_now, with_step}
 use Rattle.mk_mail.specs.Apart.{has_section}
-use Rattle.mk_mail.specs.Filtered.{outcome_at}
-use Rattle.mk_mail.specs.Rounds.{PlainRound, letters_for}
+use Rattle.mk_mail.specs.Rounds.{PlainRound, round_outcome}
 use Rattle.mk_report.specs.Reports.{message_line_at}
 
 -- a text that was made and the splices that led to it, or the reason against the first edit that was refused
@@ -25,10 +24,10 @@ abbrev pub led_on : Together → (List ℕ → Led) → Led
 led_on (Ok p) f = led_after p.1 (f (printed p.0))
 led_on (Err q) f = Err q.1
 
--- what rounds at a path make of a text, each by its letters for what the one before it made, and the splices of all of them
+-- what rounds at a path make of a text, each of what the one before it made, and the splices of all of them
 abbrev pub rounds_led : List ℕ → List PlainRound → List ℕ → Led
 rounds_led path [] text = Ok (text, [])
-rounds_led path (r ∷ rs) text = led_on (outcome_at path (letters_for r text) text) (rounds_led path rs)
+rounds_led path (r ∷ rs) text = led_on (round_outcome path text r) (rounds_led path rs)
 
 -- what that is in a history: one step
 abbrev pub led_step : History → Led → Result History Refusal

@@ -35,9 +35,9 @@ pub use engine::{run_edit, try_edit, try_field_in_journal};
 pub use journaling::Journal;
 pub use mk_expand::Pieces;
 pub use mk_field::{
-    FieldFilter, FieldForm, Letter, LetterWord, LetterWords, Round, RoundLetters, ValueForm,
-    filter_one, letters_of_rounds, rounds, rounds_of_words, run_field, takes_words, try_field,
-    word_laws,
+    FieldFilter, FieldForm, Letter, LetterWord, LetterWords, Round, RoundLetters, RoundWords,
+    RuleFault, RuleKind, TextRule, ValueForm, filter_one, letters_of_rounds, rounds,
+    rounds_of_words, run_field, takes_words, try_field, word_laws,
 };
 pub use mk_pack::{Spec, run_pack};
 pub use mk_show::{

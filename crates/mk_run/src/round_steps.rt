@@ -1,4 +1,4 @@
-//! Rounds of letters, made on a session as one step.
+//! Rounds, made on a session as one step.
 
 ghost use Rattle.std.specs.Prelude.{◌≡◌, map, not, true, IfOk, OnOk};
 ghost use Rattle.std.specs.List.{list_all};
@@ -16,7 +16,7 @@ use crate::making::{append, copy_of, make_edits};
 use mk_edit::{Edit, EditError, Session};
 use mk_field::Round;
 use mk_line::Meter;
-use mk_mail::{Sink, field_edits_at};
+use mk_mail::Sink;
 use mk_report::report_message_at;
 use mk_transfer::Stop;
 use std::alloc::Global;
@@ -24,7 +24,7 @@ use std::alloc::Global;
 /// The number of the message in a report: all of the input is one.
 const ONLY: u64 = 1;
 
-/// Makes rounds of letters at a path, and reports it if they are refused. Answers whether they were.
+/// Makes rounds at a path, and reports it if they are refused. Answers whether they were.
 pub(crate) fn do_rounds<E: Sink>(
     alloc: Global,
     session: &mut Session,
@@ -51,7 +51,7 @@ pub(crate) fn do_rounds<E: Sink>(
     }
 }
 
-// Makes rounds of letters at a path, all of them or none.
+// Makes rounds at a path, all of them or none.
 fn make_rounds(
     alloc: Global,
     session: &mut Session,
@@ -96,7 +96,7 @@ fn make_in_turn(
     }
 }
 
-// Makes a round of letters at a path as one step, and answers its edits.
+// Makes a round at a path as one step, and answers its edits.
 fn make_round(
     alloc: Global,
     session: &mut Session,
@@ -106,8 +106,7 @@ fn make_round(
     requires { is_round (round_of round.now) ≡ true }
     ensures { MakesRound result path.now (round_of round.now) session.old session.new }
 {
-    let letters = round.letters_for(session.text());
-    let edits = field_edits_at(alloc, session.doc(), path, letters)?;
+    let edits = round.edits_at(alloc, session.doc(), path)?;
     match make_edits(session, &edits) {
         Ok(()) => Ok(edits),
         Err((_, reason)) => Err(reason),

@@ -27,5 +27,6 @@ mod values;
 mod wording;
 
 pub use address_lists::push_addresses;
+pub use names::{FieldKind, kind_of};
 pub use values::on_one_line;
 pub use wording::{strip, takes_words, worded_field};

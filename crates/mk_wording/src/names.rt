@@ -9,7 +9,7 @@ const RESENT: &[u8; 7] = b"resent-";
 
 /// What the value of a field is.
 #[derive(Clone, Copy, Debug, PartialEq, Eq)]
-pub(crate) enum FieldKind {
+pub enum FieldKind {
     /// A list of addresses (RFC 5322, 3.4).
     Addresses,
     /// A value with parameters (RFC 2045, 5.1).
@@ -20,8 +20,8 @@ pub(crate) enum FieldKind {
     Text,
 }
 
-/// What the value of a field of a name is.
-pub(crate) fn kind_of(name: &[u8]) -> FieldKind
+/// What the value of a field of a name is, without regard to the case of the name.
+pub fn kind_of(name: &[u8]) -> FieldKind
     ensures { result ≡ kind_of_name name.now }
 {
     if is_address_name(without_resent(name)) {

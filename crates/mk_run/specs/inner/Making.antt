@@ -12,9 +12,7 @@ use Rattle.mk_decide.specs.Views.{edit_of}
 use Rattle.mk_edit.specs.Groups.{together}
 use Rattle.mk_edit.specs.History.{History}
 use Rattle.mk_edit.specs.Histories.{text_now, with_step}
-use Rattle.mk_mail.specs.Filtered.{outcome_at}
-use Rattle.mk_mail.specs.Letters.{edits_at}
-use Rattle.mk_mail.specs.Rounds.{PlainRound, letters_for, made_text}
+use Rattle.mk_mail.specs.Rounds.{PlainRound, made_text, round_edits, round_outcome}
 use Rattle.mk_expand.specs.declared.errors.WordError.{WordError}
 use Rattle.mk_expand.specs.declared.errors.WordError.TheVariants as error
 use Rattle.mk_expand.specs.Meanings.{Meaning, WordFault, UnknownEncoding, BadBase64, BadType, BadName, BadCharset, BinaryContent}
@@ -70,10 +68,10 @@ MakesWord (Err e) number meaning old new = (new ≡ old) × IfSome (refusal_in e
 
 -- a round was made: its edits for the text that stood, as one step
 pub record MadeRound (path : List ℕ) (r : PlainRound) (es : List PlainEdit) (old new : History) : Type 0 where
-  pub edits : es ≡ edits_at path (text_now old) (letters_for r (text_now old))
+  pub edits : es ≡ round_edits path (text_now old) r
   pub done : MadeSo es old new
 
 -- a round was made, or refused for a reason, and then nothing changed
 abbrev pub MakesRound : Result (Vec Edit) EditError → List ℕ → PlainRound → History → History → Type 0
 MakesRound (Ok edits) path r old new = MadeRound path r (map edit_of edits.items) old new
-MakesRound (Err e) path r old new = (new ≡ old) × IfSome (refusal_of e) (λ reason. made_text (outcome_at path (letters_for r (text_now old)) (text_now old)) ≡ Err reason)
+MakesRound (Err e) path r old new = (new ≡ old) × IfSome (refusal_of e) (λ reason. made_text (round_outcome path (text_now old) r) ≡ Err reason)

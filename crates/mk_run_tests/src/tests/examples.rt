@@ -1,18 +1,20 @@
 //! The examples at the roots of the crates between mk_mail and the program. Expected values are from docs/FORMATS.md and
 //! RFC 2047.
 use super::devices::{Page, Text};
-use mk_edit::EditError;
+use mk_edit::{EditError, Session};
 use mk_expand::edits_for;
-use mk_line::Ending;
+use mk_line::{Ending, Meter};
 use mk_mail::FromLines;
 use mk_messages::{InMemory, pick, without_separator};
 use mk_pack::{AttachOptions, Spec, try_part};
 use mk_report::report_refusal;
 use mk_run::{
-    Cause, FieldForm, Journal, Letter, LetterWord, LetterWords, Pieces, Status, give_up,
-    letters_of_rounds, read_all, rounds_of_words, run_edit, run_extract, run_field, write_all,
+    Cause, FieldForm, Journal, Letter, LetterWord, LetterWords, Pieces, RoundLetters, Status,
+    give_up, letters_of_rounds, read_all, rounds_of_words, run_edit, run_extract, run_field,
+    write_all,
 };
 use mk_script::{LineFault, Step, Word, first_invalid, steps};
+use mk_texts::sub_rule;
 use mk_tree::Doc;
 use mk_wording::worded_field;
 use std::test::Fail;
@@ -124,13 +126,25 @@ fn a_message_is_filtered(rt: HostRuntime) -> Result<(), Fail> {
 }
 
 #[test]
+fn a_text_is_put_in(rt: HostRuntime) -> Result<(), Fail> {
+    let alloc = rt.alloc();
+    let text = Vec::from_slice(alloc, b"Subject: [list] hi\n\nx\n")?;
+    let mut session = Session::start(alloc, text).map_err(|(_, error)| error)?;
+    let rule = sub_rule(alloc, r"Subject:s/\[list\] *//")??;
+    let edits = rule.edits(alloc, session.doc(), &[1], Ending::Lf)?;
+    session.group(&edits, &mut Meter::new())?;
+    assert_eq!(rt; session.text(), b"Subject: hi\n\nx\n".as_slice());
+    Ok(())
+}
+
+#[test]
 fn words_are_letters(rt: HostRuntime) -> Result<(), Fail> {
     let alloc = rt.alloc();
     let (letter, word) = (Letter::Only, "A: 9");
     let rounds = rounds_of_words(alloc, &[LetterWord { letter, word }])?;
     let form = FieldForm::default();
     let made = letters_of_rounds(alloc, &rounds, form)?.expect(&rt, "letters");
-    assert!(rt; matches!(made.as_slice(), [round] if round.lf.ok()));
+    assert!(rt; matches!(made.as_slice(), [RoundLetters::Letters { lf, .. }] if lf.ok()));
     Ok(())
 }
 

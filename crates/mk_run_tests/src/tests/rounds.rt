@@ -1,10 +1,10 @@
-//! Letters that are given again: rounds, each on what the one before it left. The expected bytes are worked out by hand.
+//! Letters that are given again and rules: rounds, each on what the one before it left. The expected bytes are worked out by hand.
 
 use super::check_left;
 use super::devices::{Page, Text};
 use mk_rows::{Cell, Row, rows};
 use mk_run::{
-    FieldFilter, FieldForm, Letter, LetterWord, LetterWords, Status, give_up, letters_of_rounds,
+    FieldFilter, FieldForm, Letter, LetterWord, RoundWords, Status, give_up, letters_of_rounds,
     rounds, rounds_of_words, try_field,
 };
 use std::alloc::{AllocError, Global};
@@ -189,6 +189,110 @@ errors: message 2: Recut\n
 status: Refused
 "#;
 
+/// Rules for the texts of fields, alone and between letters, a message, and what comes of them.
+const RULES: &str = r#"
+== the first match alone gets the new text, and in the fields of the name alone
+sub: Subject:s/a/b/
+message: Subject: aa\nTo: aa\n\naa\n
+output: Subject: ba\nTo: aa\n\naa\n
+status: Well
+
+== each match gets it, in upper and in lower case
+sub: subject:s/a/b/gi
+message: Subject: aAxA\n\n
+output: Subject: bbxb\n\n
+status: Well
+
+== each field of the name is changed where the pattern matches, and the others keep their bytes
+sub: A:s/1/3/
+message: A: 1\nA:2\nB: 1\na :1\n\n
+output: A: 3\nA:2\nB: 1\na: 3\n\n
+status: Well
+
+== what the groups match goes into the new text
+sub: Subject:s/(\\w+) (\\w+)/$2-${1}$$/
+message: Subject: one two three\n\n
+output: Subject: two-one$ three\n\n
+status: Well
+
+== a slash after a backslash is a byte of the text
+sub: Path:s/\\/a\\//\\/b\\//
+message: Path: /a/c\n\n
+output: Path: /b/c\n\n
+status: Well
+
+== a text is read in its encoded words and goes in as one again
+sub: Subject:s/J.rg/J\xc3\xbcrgen/
+message: Subject: =?utf-8?q?J=C3=B6rg?= a\n\n
+output: Subject: =?utf-8?B?SsO8cmdlbiBh?=\n\n
+status: Well
+
+== bytes of UTF-8 that stood without encoded words stay so
+sub: Subject:s/a/b/
+message: Subject: J\xc3\xb6rg a\n\n
+output: Subject: J\xc3\xb6rg b\n\n
+status: Well
+
+== of addresses the names are read in their encoded words
+sub: To:s/j@a\\.example/j@b.example/
+message: To: =?utf-8?q?J=C3=B6rg?= <j@a.example>\n\n
+output: To: =?utf-8?B?SsO2cmc=?= <j@b.example>\n\n
+status: Well
+
+== a name that holds a comma isn't, since the comma would part addresses
+sub: To:s/a, b/c/
+sub: To:s/x/y/
+message: To: =?utf-8?q?a=2C_b?= <j@x>\n\n
+output: To: =?utf-8?q?a=2C_b?= <j@y>\n\n
+status: Well
+
+== parameters are read as they are written
+sub: Content-Disposition:s/a\\.txt/b.txt/
+message: Content-Disposition: attachment;\n filename="a.txt"\n\n
+output: Content-Disposition: attachment; filename="b.txt"\n\n
+status: Well
+
+== a folded text is one line, and stays folded where nothing matches or nothing changes
+sub: A:s/b c/d/
+message: A: b\n c\nA: b\n e\n\n
+output: A: d\nA: b\n e\n\n
+status: Well
+
+== the new line ends as the field did
+sub: A:s/1/2/
+message: A: 1\r\nB: 1\r\n\r\n
+output: A: 2\r\nB: 1\r\n\r\n
+status: Well
+
+== all of a text may go
+sub: A:s/.*//
+message: A: 1\nB: 1\n\n
+output: A: \nB: 1\n\n
+status: Well
+
+== the fields in which a pattern matches go
+drop: A:~^x
+message: A: x1\nA: 2x\nB: x\nA: x3\n\n
+output: A: 2x\nB: x\n\n
+status: Well
+
+== a field whose encoded word says it goes
+drop: Subject:~J\xc3\xb6rg
+message: Subject: =?utf-8?q?J=C3=B6rg?=\nSubject: J\n\n
+output: Subject: J\n\n
+status: Well
+
+== rules and letters work in the order of the command line
+add: A: 1
+sub: A:s/1/2/
+add: A: 1
+drop: A:~2
+add: A: 3
+message: B: 0\n\n
+output: B: 0\nA: 1\nA: 3\n\n
+status: Well
+"#;
+
 fn letter(key: &str) -> Option<Letter> {
     match key {
         "drop" => Some(Letter::Drops),
@@ -203,6 +307,7 @@ fn letter(key: &str) -> Option<Letter> {
         "last" => Some(Letter::Last),
         "take" => Some(Letter::Take),
         "whole" => Some(Letter::Whole),
+        "sub" => Some(Letter::Sub),
         _ => None,
     }
 }
@@ -216,7 +321,7 @@ fn word(cell: &Cell) -> Option<LetterWord<'_>> {
 }
 
 /// The rounds that a row asks for.
-fn rounds_in(alloc: Global, row: &Row) -> Result<Vec<LetterWords<'_>>, AllocError> {
+fn rounds_in(alloc: Global, row: &Row) -> Result<Vec<RoundWords<'_>>, AllocError> {
     let mut words = Vec::new(alloc);
     for cell in &row.cells {
         if let Some(word) = word(cell) {
@@ -257,6 +362,14 @@ fn check_row(
 #[test]
 fn rounds_filter_a_message(rt: HostRuntime) -> Result<(), Fail> {
     for row in &rows(rt.alloc(), ROWS)? {
+        check_row(&rt, rt.alloc(), row, FieldForm::default(), 7, false)?;
+    }
+    Ok(())
+}
+
+#[test]
+fn rules_change_the_texts_of_fields(rt: HostRuntime) -> Result<(), Fail> {
+    for row in &rows(rt.alloc(), RULES)? {
         check_row(&rt, rt.alloc(), row, FieldForm::default(), 7, false)?;
     }
     Ok(())

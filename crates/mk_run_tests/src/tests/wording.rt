@@ -339,7 +339,7 @@ pub fn check_row(
         assert!(rt; false, "no letters: {row:?}");
         return Ok(());
     };
-    let rounds = [Round {
+    let rounds = [Round::Letters {
         lf: &lf,
         crlf: &crlf,
     }];

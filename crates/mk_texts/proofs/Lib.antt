@@ -1,0 +1,4 @@
+pub mod WordParts
+pub mod RuleEdits
+pub mod TextsPut
+pub mod FieldsSaid

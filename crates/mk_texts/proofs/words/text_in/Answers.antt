@@ -1,0 +1,10 @@
+use Rattle.std.proofs.Common.{sym}
+use Rattle.std.proofs.lemmas.Str.{is_utf8-from_IsUtf8}
+use Rattle.mk_code.proofs.Utf8.{no_text}
+use Rattle.mk_texts.proofs.words.text_in.Goals as goal
+
+pub returns-in-Ok : goal.returns-in-Ok
+returns-in-Ok c = (is_utf8-from_IsUtf8 c.args.bytes.now c.in-Ok.ensures.cases.1, c.in-Ok.ensures.cases.0)
+
+pub returns-in-Err : goal.returns-in-Err
+returns-in-Err c = sym (no_text c.args.bytes.now c.in-Err.ensures.cases.0)

@@ -1,0 +1,5 @@
+pub mod Texts
+pub mod TextViews
+pub mod Words
+pub mod WordViews
+pub mod inner

@@ -1,0 +1,2 @@
+pub mod ChangeViews
+pub mod AskedViews
