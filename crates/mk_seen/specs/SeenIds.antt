@@ -1,22 +1,19 @@
 -- The identifiers of messages, and which of them were seen (RFC 5322, 3.6.4; that they tell repeated messages is own).
-use Rattle.std.specs.Prelude.{◌==◌, ◌||◌, ◌++◌, ◌∷◌, [], if◌then◌else◌, ℕ, Bool, false, List, Option, None, Some, codes, map}
+use Rattle.std.specs.Prelude.{◌++◌, ◌∷◌, [], if◌then◌else◌, ℕ, Bool, false, List, Option, None, Some, codes, map}
 use Rattle.std.specs.FinSet as set
 use Rattle.std.specs.Option.{option_map_or}
 use Rattle.std.specs.Ordering.{nat_cmp}
 use Rattle.std.specs.Cmp.Lexicographic.{slice_cmp}
-use Rattle.mk_line.specs.Ascii.{carriage_return, line_feed, space}
+use Rattle.mk_line.specs.Ascii.{line_feed}
 use Rattle.mk_line.specs.Lines.{cut, ends_open, is_nil}
 use Rattle.mk_tree.specs.Documents.{tree}
 use Rattle.mk_tree.specs.Sections.{root_of, section_fields}
 use Rattle.mk_reply.specs.Replies.{words_of_name}
-
--- a byte of an identifier on one line: a space in the place of a carriage return or a line feed
-abbrev pub id_byte : ℕ → ℕ
-id_byte byte = if byte == carriage_return || byte == line_feed then space else byte
+use Rattle.mk_wording.specs.Values.{line_byte}
 
 -- what a Message-ID says, on one line; none where it says nothing
 abbrev pub id_of_words : List ℕ → Option (List ℕ)
-id_of_words words = if is_nil words then None else Some (map id_byte words)
+id_of_words words = if is_nil words then None else Some (map line_byte words)
 
 -- the identifier of a message: what its first Message-ID says
 abbrev pub message_id : List ℕ → Option (List ℕ)

@@ -1,20 +1,19 @@
 //! The identifiers of messages, and which of them were seen.
 
-ghost use Rattle.std.specs.Prelude.{◌≡◌, ◌++◌, map, not, codes, IfOk, OnErr, OnOk};
+ghost use Rattle.std.specs.Prelude.{◌≡◌, ◌++◌, not, codes, IfOk, OnErr, OnOk};
 ghost use Rattle.std.specs.FinSet as set;
 ghost use Rattle.std.specs.Option.{option_map};
 ghost use Rattle.mk_line.specs.inner.Kept.{IsKept};
-ghost use Rattle.mk_seen.specs.SeenIds.{id_byte, id_line as line_of_id, id_of_words, is_repeated, message_id as id_of, new_line, seen_after, seen_in, with_lines as file_with_lines};
+ghost use Rattle.mk_seen.specs.SeenIds.{id_line as line_of_id, id_of_words, is_repeated, message_id as id_of, new_line, seen_after, seen_in, with_lines as file_with_lines};
 
 use mk_line::{cut, ends_open};
 use mk_reply::field_words;
+use mk_wording::on_one_line;
 use std::alloc::{AllocError, Global};
 use std::collections::BTreeSet;
 use std::marker::Model;
 
 const LINE_FEED: u8 = b'\n';
-
-const CARRIAGE_RETURN: u8 = b'\r';
 
 /// The identifier of a message: what its first Message-ID says, without the white space around it, and with a space in the place of
 /// each CR or LF. `None` where it has none, or one that says nothing.
@@ -26,23 +25,6 @@ pub fn message_id(alloc: Global, message: &[u8]) -> Result<Option<Vec<u8>>, Allo
         return Ok(None);
     }
     Ok(Some(on_one_line(alloc, words)?))
-}
-
-// A text with spaces in the places of its line breaks.
-fn on_one_line(alloc: Global, text: &[u8]) -> Result<Vec<u8>, AllocError>
-    ensures { IfOk result (λ line. line.items ≡ map id_byte text.now) }
-{
-    text.iter().map(|byte| line_byte(*byte)).collect(alloc)
-}
-
-fn line_byte(byte: u8) -> u8
-    ensures { result ≡ id_byte byte }
-{
-    if byte == CARRIAGE_RETURN || byte == LINE_FEED {
-        b' '
-    } else {
-        byte
-    }
 }
 
 /// Identifiers that were seen.
