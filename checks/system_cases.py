@@ -65,6 +65,7 @@ def letters():
     yield Case(["field", "--drop", "Z:", "--drop", "X-*:", "-A", "C: d"], EDITED)
     yield Case(["field", "-A", "Z: 1", "-A", "C: d", "--drop", "Z:"], EDITED)
     yield Case(["field", "--keep", "A:", "-A", "C: d"], EDITED)
+    yield Case(["field", "-A", "C: e", "--sub", "C:s/e/d/", "-A", "Z: 1", "--drop", "Z:~1"], EDITED)
     yield Case(["field", "-s", "-A", "C: d"], FILTERED, message=MAILBOX)
     yield Case(["field", "-A", "A: b"], OPEN, b"message 1: Recut\n", 1, OPEN, early=True)
 

@@ -6,6 +6,8 @@ A_FIELD = "write a name, a colon and a value, such as 'X-Seen: yes'"
 A_FIELD_OR_NAME = A_FIELD + ", or a name and a colon alone, such as X-Seen:"
 A_NAME = "write a name and a colon, such as Subject:"
 A_NAME_OR_FRONT = A_NAME + ", or with an asterisk before the colon, such as X-*:"
+A_NAME_FRONT_OR_PATTERN = A_NAME_OR_FRONT + ", or with a pattern after it, such as 'Subject:~^Re: '"
+A_SUBSTITUTION = "write a name, a colon and a substitution, such as 'Subject:s/^Re: //', with g and i after it for each match and for both cases"
 A_PATH = "write numbers from 1 with dots between them, such as 1.2"
 A_SPEC = "write FILE or TYPE:FILE, such as image/gif:dot.gif"
 A_TEMPLATE = "write the name of a file in ASCII, with one %d or %04d for the number"
@@ -33,7 +35,7 @@ OPTIONS = {
     "unpack": {"-C <DIR>": "d", "-s <PATH>": "1"},
     "pack": {"-b <BOUNDARY>": "b", "-m <SUBTYPE>": "related", "--charset <NAME>": "utf-8", "--forward <FILE>": "f"},
     "field": {
-        "--prepend <NAME:TEXT>": "A:b", "--drop <NAME:>": "A:", "--keep <NAME:>": "A:", "--keep-only <NAME:>": "A:", "--rename <OLD:NEW>": "A:B", "-a <FIELD>": "A: 1", "-A <FIELD>": "A: 1", "-i <FIELD>": "A: 1", "-I <FIELD>": "A: 1",
+        "--prepend <NAME:TEXT>": "A:b", "--sub <NAME:s/OLD/NEW/>": "A:s/b/c/", "--drop <NAME:>": "A:", "--keep <NAME:>": "A:", "--keep-only <NAME:>": "A:", "--rename <OLD:NEW>": "A:B", "-a <FIELD>": "A: 1", "-A <FIELD>": "A: 1", "-i <FIELD>": "A: 1", "-I <FIELD>": "A: 1",
         "-u <NAME:>": "A:", "-U <NAME:>": "A:", "-x <NAME:>": "A:", "-X <NAME:>": "A:", "-j <JOURNAL>": "j", "-D <FILE>": "f",
     },
     "reply": {},
@@ -72,10 +74,14 @@ VALUES = [
       for letter in ("-i", "-I") for value in ("", "x", ":", ": x", "A b: c", "A: b\n", "A: b\nC: d")],
     *[(["field", "--prepend", value], "--prepend <NAME:TEXT>", value, A_TEXT)
       for value in ("", "A", ":", "A:", "A: ", "A:\t", ":b", "A b:c", "A:b\nc", "A:b\r")],
-    *[(["field", letter, value], f"{letter} <NAME:>", value, A_NAME_OR_FRONT)
+    *[(["field", "--sub", value], "--sub <NAME:s/OLD/NEW/>", value, A_SUBSTITUTION)
+      for value in ("", "A", "A:", "A:s", "A:s/b", "A:s/b/c", "A:s//c/", "A:s/b/c/gg", "A:s/b/c/ii", "A:s/b/c/x", "A:s/b/c/g ", "A b:s/b/c/", ":s/b/c/", "A: s/b/c/", "A:S/b/c/",
+                    "A:s,b,c,", "A:s/b\\/c/", "A:s/b/c\\/", "A:s/b/c\nd/", "A:~b")],
+    *[(["field", "--drop", value], "--drop <NAME:>", value, A_NAME_FRONT_OR_PATTERN) for value in (":~b", "A b:~b", "A: ~b")],
+    *[(["field", letter, value], f"{letter} <NAME:>", value, A_NAME_FRONT_OR_PATTERN if letter == "--drop" else A_NAME_OR_FRONT)
       for letter in ("--drop", "--keep", "--keep-only") for value in ("", "A", ":", "A: b", "A b:", "A:B:", "*:", "*", "A b*:", "A*")],
-    (["field", "--drop", "A:", "--drop", "B"], "--drop <NAME:>", "B", A_NAME_OR_FRONT),
-    (["field", "-u", "A", "--drop", "B"], "--drop <NAME:>", "B", A_NAME_OR_FRONT),
+    (["field", "--drop", "A:", "--drop", "B"], "--drop <NAME:>", "B", A_NAME_FRONT_OR_PATTERN),
+    (["field", "-u", "A", "--drop", "B"], "--drop <NAME:>", "B", A_NAME_FRONT_OR_PATTERN),
     (["field", "-A", "A: 1", "-A", "x"], "-A <FIELD>", "x", A_FIELD),
     *[(["field", letter, value], f"{letter} <NAME:>", value, A_NAME)
       for letter in ("-u", "-U", "-x", "-X") for value in ("", "A", ":", "A: b", "A b:", "A:B:")],
@@ -92,7 +98,7 @@ BESIDE = [
     ["-x", "A:", "-X", "A:"],
     ["-x", "A:", "-x", "B:", "-X", "A:"],
     *[[letter, "A:", *other] for letter in ("-x", "-X") for other in (
-        ["--prepend", "A:b"], ["--drop", "A:"], ["--keep", "A:"], ["--keep-only", "A:"], ["--rename", "A:B"], ["-a", "A: 1"], ["-A", "A: 1"], ["-i", "A: 1"], ["-I", "A: 1"], ["-u", "A:"], ["-U", "A:"])],
+        ["--prepend", "A:b"], ["--sub", "A:s/b/c/"], ["--drop", "A:~b"], ["--drop", "A:"], ["--keep", "A:"], ["--keep-only", "A:"], ["--rename", "A:B"], ["-a", "A: 1"], ["-A", "A: 1"], ["-i", "A: 1"], ["-I", "A: 1"], ["-u", "A:"], ["-U", "A:"])],
 ]
 
 # Other command lines, and all that has to be said of each.
@@ -180,7 +186,7 @@ NO_TEXT = [
 
 # Options that may be given again.
 FILES = ["field", "sections", "extract", "unpack", "check", "messages"]
-REPEATED = {*((command, "--from") for command in FILES), ("edit", "--in-place"), ("field", "--in-place"), ("edit", "-e"), ("unpack", "-s"), ("extract", "-s"), ("pack", "--forward"), *(("field", letter) for letter in ("--prepend", "--drop", "--keep", "--keep-only", "--rename", "-a", "-A", "-i", "-I", "-u", "-U", "-x", "-X"))}
+REPEATED = {*((command, "--from") for command in FILES), ("edit", "--in-place"), ("field", "--in-place"), ("edit", "-e"), ("unpack", "-s"), ("extract", "-s"), ("pack", "--forward"), *(("field", letter) for letter in ("--prepend", "--sub", "--drop", "--keep", "--keep-only", "--rename", "-a", "-A", "-i", "-I", "-u", "-U", "-x", "-X"))}
 
 
 def doubled():

@@ -11,7 +11,7 @@ _mimetool_options() {
         extract) options='--from -n --each --rfc4155 --mbox --unquote -s --raw --head --prefix --utf8 --explain -h --help' ;;
         unpack) options='--from -n --each --rfc4155 --mbox --unquote -f --number -t --messages --prefix -s --silent --paths --utf8 --content-id -C --explain -h --help' ;;
         pack) options='-b -m --inline --charset --eol --forward --part --utf8 --explain -h --help' ;;
-        field) options='--from --in-place --wait --tempfail -p --prepend --drop --keep --keep-only --rename -a -A -i -I -u -U -x -X -H --unfold --decode --addresses --encode --eol --refused-ok -j -D -s --each --rfc4155 --mbox --explain -h --help' ;;
+        field) options='--from --in-place --wait --tempfail -p --prepend --sub --drop --keep --keep-only --rename -a -A -i -I -u -U -x -X -H --unfold --decode --addresses --encode --eol --refused-ok -j -D -s --each --rfc4155 --mbox --explain -h --help' ;;
         reply) options='--from -n --rfc4155 --mbox --explain -h --help' ;;
         check) options='--from --json -H -n --rfc4155 --mbox --explain -h --help' ;;
         messages) options='--from --unique --json -H --rfc4155 --mbox -h --help' ;;
@@ -43,7 +43,7 @@ _mimetool() {
         *:--mbox)
             mapfile -t COMPREPLY < <(compgen -W 'any date field' -- "$cur")
             return ;;
-        edit:-e | *:-n | extract:-s | unpack:-s | pack:-b | pack:-m | pack:--charset | split:--name | field:--prepend | field:--drop | field:--keep | field:--keep-only | field:--rename | field:-[aAiIpuUxX])
+        edit:-e | *:-n | extract:-s | unpack:-s | pack:-b | pack:-m | pack:--charset | split:--name | field:--prepend | field:--sub | field:--drop | field:--keep | field:--keep-only | field:--rename | field:-[aAiIpuUxX])
             return ;;
     esac
     if [[ $cur == -* ]]; then

@@ -79,6 +79,7 @@ complete -c mimetool -n '__fish_seen_subcommand_from pack' -F
 complete -c mimetool -n '__fish_seen_subcommand_from field' -s p -x -d 'Work on the fields of a section'
 complete -c mimetool -n '__fish_seen_subcommand_from field' -l prepend -x -d 'Put a text at the start of the values'
 complete -c mimetool -n '__fish_seen_subcommand_from field' -l drop -x -d 'Remove the fields'
+complete -c mimetool -n '__fish_seen_subcommand_from field' -l sub -x -d 'Put another text in the place of what a pattern matches'
 complete -c mimetool -n '__fish_seen_subcommand_from field' -l keep -x -d 'Remove all fields but these and those of the structure'
 complete -c mimetool -n '__fish_seen_subcommand_from field' -l keep-only -x -d 'Remove all fields but these'
 complete -c mimetool -n '__fish_seen_subcommand_from field' -l rename -x -d 'Give the fields OLD the name NEW'

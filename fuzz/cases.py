@@ -15,6 +15,9 @@ FIELDS = [b"A: 9", b"A:", b"A: ", b"B: 2", b"subject: x", b"SUBJECT:", b"Content
 FAULTY_FIELDS = [b"", b"A", b"A: b\n", b" A: b", b"A: b\nB: c", b": x", b"A b: c", b"A: b\n\n", b"\n", b"-x"]
 NAMES = [b"A", b"a", b"Subject", b"SUBJECT", b"Content-Type", b"From", b"--b", b"Old-A", b"Z", b"MIME-Version", b"Content-X", b"!"]
 FAULTY_NAMES = [b"A", b"", b":", b"A::", b"A b:", b"A :", "\u00e9:".encode(), b"A:b"]
+PATTERNS = [b"x", b"b", b"[a-z]+", b"^[ -~]", b"(t)(e)?", b"(?P<n>[0-9])", "\u00e9".encode(), b"=", b"\\/", b"[0-9]$", b"^$|b", b"text\\/plain", b"@", b"[,;]"]
+REPLACEMENTS = [b"", b"y", b"$0$0", b"$1-$2", b"${n}", b"$$", "\u00e9\u00fc".encode(), b"=?x", b" ", b"\\/", b"<a@b>", b"text\\/html", b",", b"$9"]
+FAULTY_RULES = [b"A:s/x/y", b"A:s/x", b"A:s//y/", b"A:s/x/y/gg", b"A:s/x/y/x", b"A b:s/x/y/", b":s/x/y/", b"A:s/(/y/", b"A:s/x/y\nz/", b"A:sx", b"A", b"A:~(", b":~x", b"A b:~x"]
 FILES = [b"n.txt", b"d/n.txt", b"a b", b"x:y", b"n" * 100, b"d/d/x", b"-f", b'q"r', b"c\\d", "\u00e9".encode(), b"n" * 101, b"t\tx", b"~",
          ("\u00e9" * 60).encode(), ("\u00e9" * 127 + "a").encode(), ("d/\u65e5\u672c (1)%*'.txt").encode()]
 MEDIA = [b"text/plain", b"Text/html", b"image/gif", b"application/octet-stream", b"message/rfc822", b"multipart/mixed", b"Message/x",
@@ -76,6 +79,14 @@ def a_name(chooser, there):
     return name.swapcase() if chooser.maybe(0.25) else name
 
 
+def rule(chooser, name):
+    """What follows the name of a rule: a pattern that removes fields, or a substitution."""
+    pattern = chooser.choice(PATTERNS)
+    if name == b"--drop":
+        return b":~" + pattern
+    return b":s/" + pattern + b"/" + chooser.choice(REPLACEMENTS) + b"/" + chooser.choice([b"", b"", b"g", b"i", b"gi", b"ig"])
+
+
 def letter(chooser, name, there):
     """The words of a letter, for fields of the names that are there."""
     odd = chooser.maybe(0.03)
@@ -83,6 +94,8 @@ def letter(chooser, name, there):
         old = a_name(chooser, there)
         new = old.swapcase() if chooser.maybe(0.2) else a_name(chooser, there)
         return [name, chooser.choice(FAULTY_NAMES) if odd else old + b":" + new]
+    if name == b"--sub" or (name == b"--drop" and chooser.maybe(0.2)):
+        return [name, chooser.choice(FAULTY_RULES) if odd else a_name(chooser, there) + rule(chooser, name)]
     if name in (b"--drop", b"--keep", b"--keep-only"):
         dropped = a_name(chooser, there)
         front = dropped[:chooser.choice([1, 2, 4])] + b"*"
@@ -104,7 +117,7 @@ def field(chooser):
     if chooser.maybe(0.2):
         chosen = [chooser.choice([b"-x", b"-X"])] * chooser.choice([1, 1, 1, 2, 3]) + chooser.some([b"-x", b"-X", b"-a"], 1)[:chooser.maybe(0.1)]
     else:
-        every = [b"--drop", b"--keep", b"--keep-only", b"--rename", b"-a", b"-A", b"-i", b"-I", b"-u", b"-U"]
+        every = [b"--sub", b"--drop", b"--keep", b"--keep-only", b"--rename", b"-a", b"-A", b"-i", b"-I", b"-u", b"-U"]
         chosen = chooser.sample(every, chooser.choice([0, 1, 1, 1, 2, 2, 3, 10]))
         for _ in range(chooser.choice([0, 0, 0, 1, 2, 4])):
             chosen.append(chooser.choice(every))

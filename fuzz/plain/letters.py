@@ -1,9 +1,10 @@
 """The letters of `field`, and mailboxes."""
 
-from . import addresses, edits, fields, lines, session, tree, values, wording
+from . import addresses, edits, fields, lines, rules, session, tree, values, wording
 
 EDITING = ("removal", "--rename", "-a", "-A", "-i", "-I", "-u", "-U")
 BY_NAMES = ("--drop", "--keep", "--keep-only")
+BY_RULES = ("--sub",)
 PRINTING = ("-x", "-X")
 WITH_FIELDS = ("-a", "-A", "-i", "-I")
 SHAPES = (b"--unfold", b"--decode", b"--addresses")
@@ -55,8 +56,15 @@ def is_meant(word, name):
     return name.lower().startswith(front.lower()) if is_front else name.lower() == front.lower()
 
 
+def is_rule(letter, word):
+    """`--sub` is a rule, and so is `--drop` of a pattern (own)."""
+    return letter in BY_RULES or (letter == "--drop" and rules.is_removal(word))
+
+
 def is_allowed_letter(letter, word):
-    """The value of a letter is a field, a name with its colon, or two names with one between them (own)."""
+    """The value of a letter is a field, a name with its colon, two names with one between them, or a rule (own)."""
+    if is_rule(letter, word):
+        return rules.is_rule(letter, word)
     if letter == "--rename":
         old, colon, new = word.partition(b":")
         return bool(colon) and lines.is_name(old) and lines.is_name(new)
@@ -74,15 +82,19 @@ def are_allowed(given):
 
 
 def rounds(given):
-    """A letter that its round has already begins another; `--drop`, `--keep` and `--keep-only` never do (own)."""
-    found = [{}]
+    """A letter that its round has already begins another; `--drop`, `--keep` and `--keep-only` never do. A rule is a round by
+    itself (own)."""
+    found = []
     for letter, word in given:
+        if is_rule(letter, word):
+            found.append({"rule": (letter, word)})
+            continue
+        if not found or "rule" in found[-1] or letter in found[-1]:
+            found.append({})
         if letter in BY_NAMES:
             found[-1].setdefault("removal", []).append((letter, word))
-            continue
-        if letter in found[-1]:
-            found.append({})
-        found[-1][letter] = word
+        else:
+            found[-1][letter] = word
     return found
 
 
@@ -170,17 +182,24 @@ def formed(word, ending, flags):
     return lines.turned(word, ending) if b"--eol" in flags else word
 
 
-def round_filtered(message, letters, flags, path):
-    """A text after a round of letters, or as it came with the reason where an edit is refused (own): text, reason."""
-    history, ending = session.Session(message), lines.ending_of(message)
+def round_edits(letters, history, ending, flags, path):
+    """The edits of a round, each letter's on what those before it left (own)."""
+    if "rule" in letters:
+        yield from rules.rule_edits(*letters["rule"], head_of(history.text(), path), ending, path)
     for letter in EDITING:
         if letter in letters:
             word = letters[letter]
             word = formed(word, ending, flags) if letter in WITH_FIELDS else word
-            for edit in letter_edits(letter, word, head_of(history.text(), path), ending, path):
-                reason = history.edit(edit)
-                if reason:
-                    return message, reason
+            yield from letter_edits(letter, word, head_of(history.text(), path), ending, path)
+
+
+def round_filtered(message, letters, flags, path):
+    """A text after a round, or as it came with the reason where an edit is refused (own): text, reason."""
+    history, ending = session.Session(message), lines.ending_of(message)
+    for edit in round_edits(letters, history, ending, flags, path):
+        reason = history.edit(edit)
+        if reason:
+            return message, reason
     return history.text(), None
 
 

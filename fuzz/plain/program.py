@@ -11,12 +11,12 @@ Answer = namedtuple("Answer", "status output errors files loose", defaults=(Fals
 
 OPTIONS = {
     b"sections": (b"--from",), b"extract": (b"-s", b"--from"), b"unpack": (b"-C", b"--from"),
-    b"field": (b"--drop", b"--keep", b"--keep-only", b"--rename", b"-a", b"-A", b"-i", b"-I", b"-u", b"-U", b"-x", b"-X", b"-p", b"--mbox", b"--from"),
+    b"field": (b"--sub", b"--drop", b"--keep", b"--keep-only", b"--rename", b"-a", b"-A", b"-i", b"-I", b"-u", b"-U", b"-x", b"-X", b"-p", b"--mbox", b"--from"),
     b"edit": (b"-j", b"-e", b"--from"), b"undo": (b"-j", b"--from"), b"redo": (b"-j", b"--from"), b"pack": (b"-b", b"--forward"),
 }
 FLAGS = {b"unpack": (b"-f", b"-t", b"--silent", b"--utf8", b"--number", b"--messages", b"--prefix", b"--content-id"), b"field": (b"-s", b"--unfold", b"--decode", b"--addresses", b"--encode", b"--eol", b"--refused-ok"),
          b"pack": (b"--utf8",), b"edit": (b"--all", b"--eol", b"--explain")}
-AGAIN = {b"edit": (b"-e",), b"pack": (b"--forward",), b"field": (b"--drop", b"--keep", b"--keep-only", b"--rename", b"-a", b"-A", b"-i", b"-I", b"-u", b"-U", b"-x", b"-X")}
+AGAIN = {b"edit": (b"-e",), b"pack": (b"--forward",), b"field": (b"--sub", b"--drop", b"--keep", b"--keep-only", b"--rename", b"-a", b"-A", b"-i", b"-I", b"-u", b"-U", b"-x", b"-X")}
 HOW = (b"any", b"field")                                  # --mbox=date isn't in the plain program
 NEEDED = {b"extract": b"-s", b"undo": b"-j", b"redo": b"-j", b"pack": b"-b"}
 
@@ -65,7 +65,7 @@ def file_of(files, name):
 
 def letters_given(found):
     """`field` takes its letters with their words in the order of the command line (own)."""
-    return [(letter, word) for letter, word in found.get("order", []) if letter in letters.EDITING + letters.BY_NAMES + letters.PRINTING]
+    return [(letter, word) for letter, word in found.get("order", []) if letter in letters.EDITING + letters.BY_NAMES + letters.BY_RULES + letters.PRINTING]
 
 
 def are_letters_valid(found):

@@ -6,7 +6,7 @@ use Rattle.clap.specs.declared.parser.matches.Found.{Found}
 use Rattle.clap.specs.Matches.{matched_of, raw_values}
 use Rattle.mk_letters.specs.RoundsAsked.{PlainWord}
 use Rattle.mk_letters.specs.declared.words.Letter.{Letter}
-use Rattle.mk_letters.specs.declared.words.Letter.TheVariants.{Prepend, Drops, Keeps, KeepsOnly, Rename, AddIf, Add, Prefixed, Only, First, Last, Take, Whole}
+use Rattle.mk_letters.specs.declared.words.Letter.TheVariants.{Prepend, Drops, Keeps, KeepsOnly, Rename, AddIf, Add, Prefixed, Only, First, Last, Take, Whole, Sub}
 
 -- a letter with its word, and its place on the command line
 pub record PlacedWord : Type 0 where
@@ -41,7 +41,7 @@ letters_found found =
     ++ letter_found found AddIf (codes "add-if") ++ letter_found found Add (codes "add")
     ++ letter_found found Prefixed (codes "prefixed") ++ letter_found found Only (codes "only")
     ++ letter_found found First (codes "first") ++ letter_found found Last (codes "last")
-    ++ letter_found found Take (codes "take") ++ letter_found found Whole (codes "whole")
+    ++ letter_found found Take (codes "take") ++ letter_found found Whole (codes "whole") ++ letter_found found Sub (codes "sub")
 
 -- words that are these, in the order of their places
 pub record AreInOrder (found : List PlacedWord) (words : List PlainWord) : Type 0 where

@@ -7,10 +7,10 @@ ghost use Rattle.mk_asked.specs.Found.{AreInOrder, letter_found, letters_found, 
 ghost use Rattle.mk_asked.specs.inner.Placed.{placed_word};
 
 use clap::ArgMatches;
-use mk_field::{Letter, LetterWord, LetterWords, takes_words};
+use mk_field::{Letter, LetterWord, LetterWords, RuleFault, RuleKind, takes_words};
 use mk_words::options::{
     ADD, ADD_IF, ADDRESSES, DECODE, DROP, ENCODE, EOL, FIRST, KEEP, KEEP_ONLY, LAST, ONLY,
-    PREFIXED, PREPEND, RENAME, TAKE, UNFOLD, WHOLE,
+    PREFIXED, PREPEND, RENAME, SUB, TAKE, UNFOLD, WHOLE,
 };
 use std::alloc::{AllocError, Global};
 
@@ -57,6 +57,7 @@ pub(crate) fn placed_words<'a>(
     place(&mut placed, matches, Letter::Last, LAST)?;
     place(&mut placed, matches, Letter::Take, TAKE)?;
     place(&mut placed, matches, Letter::Whole, WHOLE)?;
+    place(&mut placed, matches, Letter::Sub, SUB)?;
     Ok(placed)
 }
 
@@ -116,6 +117,14 @@ const A_NAME: &str = "write a name and a colon, such as Subject:";
 const A_NAME_OR_FRONT: &str =
     "write a name and a colon, such as Subject:, or with an asterisk before the colon, such as X-*:";
 
+const A_NAME_FRONT_OR_PATTERN: &str =
+    "write a name and a colon, such as Subject:, or with an asterisk before the colon, such as X-*:, or with a pattern after it, such as 'Subject:~^Re: '";
+
+const A_SUBSTITUTION: &str =
+    "write a name, a colon and a substitution, such as 'Subject:s/^Re: //', with g and i after it for each match and for both cases";
+
+const REFUSED_PATTERN: &str = "the pattern is invalid";
+
 const APART: &str = "-x and -X print fields, so neither goes with another letter";
 
 /// What the options on values have to be given with.
@@ -138,10 +147,7 @@ pub(crate) fn why_refused(
     words: &[(usize, LetterWord<'_>)],
 ) -> Result<Option<String>, AllocError> {
     for (_, word) in words {
-        if !is_taken(alloc, *word)? {
-            let (letter, takes) = shown(word.letter);
-            let word = word.word;
-            let sentence = format!(in alloc; "invalid value '{word}' for '{letter}': {takes}")?;
+        if let Some(sentence) = why_not_taken(alloc, *word)? {
             return Ok(Some(sentence));
         }
     }
@@ -221,6 +227,46 @@ fn adds(letter: Letter) -> bool {
     )
 }
 
+// Why a letter doesn't take its word, if it doesn't.
+fn why_not_taken(alloc: Global, word: LetterWord<'_>) -> Result<Option<String>, AllocError> {
+    if let Some(kind) = word.rule_kind() {
+        return why_no_rule(alloc, kind, word);
+    }
+    if is_taken(alloc, word)? {
+        return Ok(None);
+    }
+    let (letter, takes) = shown(word.letter);
+    Ok(Some(invalid_value(alloc, word, letter, takes)?))
+}
+
+// Why a word isn't a rule, if it isn't: it hasn't the form of one, or its pattern is refused.
+fn why_no_rule(
+    alloc: Global,
+    kind: RuleKind,
+    word: LetterWord<'_>,
+) -> Result<Option<String>, AllocError> {
+    let (letter, takes) = shown(word.letter);
+    match kind.rule(alloc, word.word)? {
+        Ok(_) => Ok(None),
+        Err(RuleFault::Form) => Ok(Some(invalid_value(alloc, word, letter, takes)?)),
+        Err(RuleFault::Pattern(fault)) => {
+            let why = format!(in alloc; "{REFUSED_PATTERN}: {fault}")?;
+            Ok(Some(invalid_value(alloc, word, letter, &why)?))
+        }
+    }
+}
+
+// The sentence that refuses a word.
+fn invalid_value(
+    alloc: Global,
+    word: LetterWord<'_>,
+    letter: &str,
+    why: &str,
+) -> Result<String, AllocError> {
+    let word = word.word;
+    format!(in alloc; "invalid value '{word}' for '{letter}': {why}")
+}
+
 // Whether a letter takes its word.
 fn is_taken(alloc: Global, word: LetterWord<'_>) -> Result<bool, AllocError> {
     let mut words = LetterWords::none(alloc);
@@ -235,7 +281,7 @@ fn is_taken(alloc: Global, word: LetterWord<'_>) -> Result<bool, AllocError> {
 fn shown(letter: Letter) -> (&'static str, &'static str) {
     match letter {
         Letter::Prepend => ("--prepend <NAME:TEXT>", A_TEXT),
-        Letter::Drops => ("--drop <NAME:>", A_NAME_OR_FRONT),
+        Letter::Drops => ("--drop <NAME:>", A_NAME_FRONT_OR_PATTERN),
         Letter::Keeps => ("--keep <NAME:>", A_NAME_OR_FRONT),
         Letter::KeepsOnly => ("--keep-only <NAME:>", A_NAME_OR_FRONT),
         Letter::Rename => ("--rename <OLD:NEW>", A_PAIR),
@@ -247,5 +293,6 @@ fn shown(letter: Letter) -> (&'static str, &'static str) {
         Letter::Last => ("-U <NAME:>", A_NAME),
         Letter::Take => ("-x <NAME:>", A_NAME),
         Letter::Whole => ("-X <NAME:>", A_NAME),
+        Letter::Sub => ("--sub <NAME:s/OLD/NEW/>", A_SUBSTITUTION),
     }
 }

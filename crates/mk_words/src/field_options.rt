@@ -5,7 +5,8 @@ use crate::edit_options::JOURNAL_OPTION;
 use crate::mailbox_options::{MBOX_OPTION, RFC4155_OPTION};
 use crate::options::{
     ADD, ADD_IF, ADDRESSES, DECODE, DROP, EACH, ENCODE, EOL, FIELD, FIRST, FROM, IDS, JOURNAL,
-    KEEP, KEEP_ONLY, LAST, ONLY, PATH, PREFIXED, PREPEND, REFUSED_OK, RENAME, TAKE, UNFOLD, WHOLE,
+    KEEP, KEEP_ONLY, LAST, ONLY, PATH, PREFIXED, PREPEND, REFUSED_OK, RENAME, SUB, TAKE, UNFOLD,
+    WHOLE,
 };
 use crate::shared_options::{
     EXPLAIN_OPTION, FILES_ARGUMENT, FROM_FILES_OPTION, IN_PLACE_FILES_OPTION, LABEL_OPTION,
@@ -24,11 +25,11 @@ const WITH_NAME: Argument = Argument {
     ..OPTION_AGAIN
 };
 
-/// mimetool field [--from FILE..|--in-place FILE..] [-H] [--wait[=SECONDS]] [--tempfail] [-p PATH] [--prepend NAME:TEXT] [--drop NAME:] [--keep NAME:] [--keep-only NAME:] [-a FIELD] [-A FIELD] [-i FIELD] [-I FIELD] [-u NAME:] [-U NAME:] [-x NAME:].. [-X NAME:].. [--rename OLD:NEW] [--unfold] [--decode] [--addresses] [--encode] [--eol] [--refused-ok] [-j JOURNAL|-D FILE] [-s|--each [--rfc4155|--mbox HOW]]
+/// mimetool field [--from FILE..|--in-place FILE..] [-H] [--wait[=SECONDS]] [--tempfail] [-p PATH] [--prepend NAME:TEXT] [--sub NAME:s/OLD/NEW/] [--drop NAME:] [--keep NAME:] [--keep-only NAME:] [-a FIELD] [-A FIELD] [-i FIELD] [-I FIELD] [-u NAME:] [-U NAME:] [-x NAME:].. [-X NAME:].. [--rename OLD:NEW] [--unfold] [--decode] [--addresses] [--encode] [--eol] [--refused-ok] [-j JOURNAL|-D FILE] [-s|--each [--rfc4155|--mbox HOW]]
 pub static FIELD_COMMAND: Subcommand = Subcommand {
     name: FIELD,
     about: "Adds, renames and removes fields of a message, or prints those of a name",
-    after_help: "Letters work in this order, whatever the order of the command line: --prepend, --drop and --keep, --rename, -a, -A, -i, -I, -u, -U. A letter that is given again works on the result of the earlier ones, as in a pipe.\n\nExamples:\n  mimetool field -I 'X-Seen: yes' --in-place message\n  mimetool field -x Subject: -H --from one two three\n  mimetool field -I 'X-Seen: yes' -I 'X-By: me' < message\n  mimetool field --prepend 'Subject:[list] ' < message\n  mimetool field --keep From: --keep Subject: --keep Date: < message\n  mimetool field -I 'X-Seen: yes' -j journal --in-place message\n  mimetool field -s -x Subject: --from mailbox\n  mimetool field --addresses -x To: -x Cc: < message\n  mimetool field -s -D ids < mailbox > unique\n  mimetool field -p 1.2 -x Content-Type: < message",
+    after_help: "Letters work in this order, whatever the order of the command line: --prepend, --drop and --keep, --rename, -a, -A, -i, -I, -u, -U. A letter that is given again works on the result of the earlier ones, as in a pipe; so do --sub and --drop NAME:~PATTERN, each in its place on the command line.\n\nExamples:\n  mimetool field -I 'X-Seen: yes' --in-place message\n  mimetool field -x Subject: -H --from one two three\n  mimetool field -I 'X-Seen: yes' -I 'X-By: me' < message\n  mimetool field --prepend 'Subject:[list] ' < message\n  mimetool field --sub 'Subject:s/^Re: //' < message\n  mimetool field --drop 'Received:~by mx\\.example' < message\n  mimetool field --keep From: --keep Subject: --keep Date: < message\n  mimetool field -I 'X-Seen: yes' -j journal --in-place message\n  mimetool field -s -x Subject: --from mailbox\n  mimetool field --addresses -x To: -x Cc: < message\n  mimetool field -s -D ids < mailbox > unique\n  mimetool field -p 1.2 -x Content-Type: < message",
     arguments: &[
         FROM_FILES_OPTION,
         Argument {
@@ -47,6 +48,13 @@ pub static FIELD_COMMAND: Subcommand = Subcommand {
             long: Some(PREPEND),
             value_name: Some("NAME:TEXT"),
             help: "Put TEXT at the start of the values of the fields NAME; all else in them stays as it is",
+            ..OPTION_AGAIN
+        },
+        Argument {
+            id: SUB,
+            long: Some(SUB),
+            value_name: Some("NAME:s/OLD/NEW/"),
+            help: "In what the fields NAME say, put NEW in the place of what the regular expression OLD matches first; after the last slash, g means each match and i upper and lower case alike",
             ..OPTION_AGAIN
         },
         Argument {
@@ -83,7 +91,7 @@ pub static FIELD_COMMAND: Subcommand = Subcommand {
         Argument {
             id: DROP,
             long: Some(DROP),
-            help: "Remove the fields NAME; NAME*: means all whose names begin with NAME",
+            help: "Remove the fields NAME; NAME*: means all whose names begin with NAME, and NAME:~PATTERN the fields NAME whose text the regular expression PATTERN matches",
             ..WITH_NAME
         },
         Argument {

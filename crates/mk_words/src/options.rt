@@ -164,6 +164,9 @@ pub const KEEP: &str = "keep";
 /// `--keep-only NAME:`
 pub const KEEP_ONLY: &str = "keep-only";
 
+/// `--sub NAME:s/OLD/NEW/`
+pub const SUB: &str = "sub";
+
 /// `--rename OLD:NEW`
 pub const RENAME: &str = "rename";
 

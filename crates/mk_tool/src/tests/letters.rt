@@ -130,6 +130,12 @@ message: MIME-Version: 1.0\nA: 1\nB: 2\nA-b: 3\n\nx\n
 output: A: 1\nA-b: 3\n\nx\n
 status: Well
 
+== another text, and no field in which a pattern matches
+words: field|--sub|A:s/[0-9]/<$0>/|--drop|a:~3
+message: A: 1\nB: 2\nA: 3\n\nx\n
+output: A: <1>\nB: 2\n\nx\n
+status: Well
+
 == another name
 words: field|--rename|A:C
 message: A: 1\nB: 2\nA: 3\n\nx\n
@@ -264,6 +270,17 @@ begins: error: invalid value 'Content-Disposition: attachment; filename="ä" b' 
 == a name alone
 words: field|--encode|-A|A: ä|-A|Resent-To: Jörg
 begins: error: invalid value 'Resent-To: Jörg' for '-A <FIELD>': in such a field --encode only encodes names, comments and parameters
+
+== a substitution without its last slash
+words: field|--sub|A:s/b/c
+begins: error: invalid value 'A:s/b/c' for '--sub <NAME:s/OLD/NEW/>': write a name, a colon and a substitution
+
+== a pattern whose group has no end
+words: field|--sub|A:s/(/b/
+begins: error: invalid value 'A:s/(/b/' for '--sub <NAME:s/OLD/NEW/>': the pattern is invalid
+
+== fields that go by a pattern beside values
+words: field|-x|A:|--drop|A:~b
 
 == a letter that there isn't
 words: field|-r
