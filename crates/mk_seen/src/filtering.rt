@@ -22,13 +22,17 @@ pub struct FirstMessages<'a> {
 }
 
 impl<'a> Model for FirstMessages<'a> {
-    ghost use Rattle.std.specs.Prelude.{◌≡◌, true};
-    ghost use Rattle.mk_field.specs.Filtering.{PlainFilter};
+    ghost use Rattle.std.specs.Prelude.{◌≡◌, true, []};
+    ghost use mir.Syntax.{named};
+    ghost use Rattle.mk_field.specs.declared.filters.FieldFilter as declared;
+    ghost use Rattle.mk_field.specs.contracts.filters.FieldFilter.{the_row};
     ghost use Rattle.mk_field.specs.FilterViews.{filter_of, is_allowed};
 
-    ghost Value = { PlainFilter };
+    ghost Value = { declared.FieldFilter };
 
-    ghost view = { λ w. filter_of w.filter.now };
+    ghost coded = { (the_row (record { mir = named 0; lft = [] })).coded };
+
+    ghost view = { λ w. w.filter.now };
 
     ghost invariant = { λ w. is_allowed (filter_of w.filter.now) ≡ true };
 }
@@ -39,7 +43,7 @@ impl<'a> FirstMessages<'a> {
 
     /// By a filter, where it may be asked for.
     pub fn by(filter: &'a FieldFilter<'a>) -> Option<FirstMessages<'a>>
-        ensures some { IfSome result (λ w. w ≡ filter_of filter.now) }
+        ensures some { IfSome result (λ w. w ≡ filter.now) }
         ensures none { IfNone result (is_allowed (filter_of filter.now) ≡ false) }
     {
         if filter.ok() {
@@ -52,7 +56,7 @@ impl<'a> FirstMessages<'a> {
 
 impl MessageWork<IdFile> for FirstMessages<'_> {
     ghost does = { λ w number message said old new.
-        (said ≡ said_once w old.seen number message)
+        (said ≡ said_once (filter_of w) old.seen number message)
         × (new.seen ≡ seen_after old.seen message) × (new.lines.items ≡ old.lines.items ++ new_line old.seen message) };
 
     ghost stops = { λ _ _ message said old new. (said ≡ silence) × MayBeSeen message old new };
@@ -87,7 +91,7 @@ fn say_once(
     answer: &mut Answer,
 ) -> Result<(), AllocError>
     requires { answer_said answer.old ≡ silence }
-    ensures said { OnOk result (answer_said answer.new ≡ said_once work.now device.old.seen number message.items) }
+    ensures said { OnOk result (answer_said answer.new ≡ said_once (filter_of work.now) device.old.seen number message.items) }
     ensures seen { OnOk result (device.new.seen ≡ seen_after device.old.seen message.items) }
     ensures lines { OnOk result (device.new.lines.items ≡ device.old.lines.items ++ new_line device.old.seen message.items) }
     ensures stopped { OnErr result (MayBeSeen message.items device.old device.new) }
