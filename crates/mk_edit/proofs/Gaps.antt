@@ -6,6 +6,7 @@ use Rattle.std.proofs.Math.Seq.{take-add}
 use lib.Seq.{paste}
 use Rattle.std.specs.List.{copy_within}
 use Rattle.mk_splice.specs.Splices.{spliced}
+use Rattle.mk_splice.proofs.Gaps.{drop_later}
 use Rattle.mk_splice.proofs.Shifts.{spliced_after}
 
 -- bytes copied to where they are
@@ -15,12 +16,7 @@ copied_nowhere from count to x e =
     sym (take-append-drop (from + count) x) ∙ ap (λ xs. xs ++ drop (from + count) x) (take-add from count x) in
     whole ∙ (ap (λ n. paste x n (drop from x) count) e ∙ ap (paste x to (drop from x)) (omega arith))
 
--- what stands after the moved bytes stays
-drop_later : (n m : ℕ) (x y : List ℕ) → n ≤ m → drop n x ≡ drop n y → drop m x ≡ drop m y
-drop_later n m x y h e =
-    let same : m ≡ n + (m - n) = omega arith in
-    ap (λ k. drop k x) same ∙ (sym (drop-drop (m - n) n x) ∙ (ap (drop (m - n)) e ∙ (drop-drop (m - n) n y ∙ ap (λ k. drop k y) (sym same))))
-
+-- what is written after moved bytes
 pub written_after : (front rest count to : ℕ) (text x y z : List ℕ) → z ≡ spliced to (length text) text y → y ≡ copy_within x rest (rest + count) front → front ≤ rest → front + count ≤ to → rest + count ≤ to + length text → to + length text ≤ length x
     → drop to z ≡ text ++ drop (to + length text) x
 written_after front rest count to text x y z e f order following moved within =
@@ -45,18 +41,6 @@ gap_spliced front from place count rest to text y z f r first second long at end
     ap (λ n. drop n whole) (omega (arith, at)) ∙ (sym (drop-drop (from + count) front whole) ∙ (ap (drop (from + count)) (seam ∙ second) ∙ (drop-drop (from + count) rest y ∙ ap (λ n. drop n y) (omega (arith, end))))) in
     ap (λ xs. xs ++ drop to z) (ap (λ n. take n z) at ∙ (before ∙ sym taken))
     ∙ ap (λ xs. take place whole ++ xs) (following ∙ ap (λ xs. text ++ xs) (sym left))
-
--- a gap that goes back over some bytes
-pub gap_back : (place count to : ℕ) (x z : List ℕ) → z ≡ copy_within x place (place + count) to → place ≤ to → to + count ≤ length x → take place z ++ drop to z ≡ take (place + count) x ++ drop (to + count) x
-gap_back place count to x z f order within =
-    let moved = take count (drop place x) in
-    let left = drop (to + count) x in
-    let whole : z ≡ take to x ++ (moved ++ left) = f ∙ (ap (paste x to (drop place x)) (omega arith) ∙ append_assoc (take to x) moved left) in
-    let long : length (take to x) ≡ to = length-take-le to x (omega arith) in
-    let before : take place z ≡ take place x = ap (take place) whole ∙ (take-append-le place (take to x) (moved ++ left) (omega (arith, long)) ∙ take-take place to x order) in
-    ap (λ xs. xs ++ drop to z) before
-    ∙ (ap (λ xs. take place x ++ xs) (ap (drop to) whole ∙ drop_at (take to x) (moved ++ left) to long)
-    ∙ (sym (append_assoc (take place x) moved left) ∙ ap (λ xs. xs ++ left) (sym (take-add place count x))))
 
 -- bytes replaced after the gap, which stays
 pub gap_tail : (front from place count rest : ℕ) (text x z f r : List ℕ) → z ≡ spliced (rest + from) count text x → front ≤ rest → rest + from + count ≤ length x → f ≡ take front x → r ≡ drop rest x → length f ≡ front → place ≡ front + from

@@ -22,6 +22,7 @@ mod parts;
 mod removals;
 mod rooms;
 mod sections;
+mod steps;
 mod wraps;
 
 use mk_edit::{Edit, EditError, Session};

@@ -16,7 +16,7 @@ before_spliced place n new x h = take_at (take place x) (new ++ drop (place + n)
 front_size : (place : ℕ) (new x : List ℕ) → place ≤ length x → place + length new ≡ length (take place x ++ new)
 front_size place new x h = omega (arith, length-append (take place x) new, length-take-le place x h)
 
-after_spliced : (place n : ℕ) (new x : List ℕ) → place ≤ length x → drop (place + length new) (spliced place n new x) ≡ drop (place + n) x
+pub after_spliced : (place n : ℕ) (new x : List ℕ) → place ≤ length x → drop (place + length new) (spliced place n new x) ≡ drop (place + n) x
 after_spliced place n new x h =
     ap (drop (place + length new)) (sym (append_assoc (take place x) new (drop (place + n) x)))
     ∙ drop_at (take place x ++ new) (drop (place + n) x) (place + length new) (sym (front_size place new x h))

@@ -1,6 +1,7 @@
 pub mod Bytes
 pub mod Splicings
 pub mod Shifts
+pub mod Gaps
 pub mod Trials
 pub mod FoundSteps
 pub mod Sequences

@@ -1,3 +1,4 @@
 pub mod Tries
 pub mod Parts
 pub mod Readings
+pub mod Open

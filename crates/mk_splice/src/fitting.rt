@@ -5,7 +5,8 @@ ghost use Rattle.mk_splice.specs.inner.Tries.{FailsWith, IsTried, Succeeds};
 ghost use Rattle.mk_splice.specs.Views.{splice_of, steps_of};
 ghost use Rattle.mk_splice.specs.declared.fitting.FitError.TheVariants.{Memory as FitMemory};
 
-use crate::splicing::Splice;
+use crate::open::{OpenText, opening_pays};
+use crate::splicing::{Splice, taken};
 use crate::texts::Text;
 use std::alloc::{AllocError, Global};
 use thiserror::Error;
@@ -83,6 +84,18 @@ fn fit_forth(alloc: Global, text: &[u8], steps: &[Vec<Splice>], done: usize) -> 
 fn try_back(text: &mut Text, step: &[Splice]) -> Result<bool, AllocError>
     ensures { IfOk result (λ all. IsTried all text.new.bytes (step_taken_back (map splice_of step.now) text.old.bytes)) }
 {
+    match step.last() {
+        Some(last) if opening_pays(text, last.place, text.len(), step) => {
+            try_back_open(text, last.place, step)
+        }
+        _ => try_back_in_turn(text, step),
+    }
+}
+
+// The same where each splice moves the bytes on one side of its place.
+fn try_back_in_turn(text: &mut Text, step: &[Splice]) -> Result<bool, AllocError>
+    ensures { IfOk result (λ all. IsTried all text.new.bytes (step_taken_back (map splice_of step.now) text.old.bytes)) }
+{
     let mut left = step.len();
     while 0 < left {
         left -= 1;
@@ -95,8 +108,39 @@ fn try_back(text: &mut Text, step: &[Splice]) -> Result<bool, AllocError>
     Ok(true)
 }
 
+// The same in the open text.
+fn try_back_open(text: &mut Text, place: usize, step: &[Splice]) -> Result<bool, AllocError>
+    ensures { IfOk result (λ all. IsTried all text.new.bytes (step_taken_back (map splice_of step.now) text.old.bytes)) }
+{
+    let most = text.len();
+    let mut gapped = OpenText::new(taken(text), place, most);
+    let mut left = step.len();
+    while 0 < left {
+        left -= 1;
+        let splice = &step[left];
+        if !gapped.finds(splice.place, &splice.new) {
+            return Ok(false);
+        }
+        gapped.replace(splice.place, splice.new.len(), &splice.old)?;
+    }
+    *text = gapped.close();
+    Ok(true)
+}
+
 // Makes a step where each splice finds its old bytes, and answers whether all did.
 fn try_forth(text: &mut Text, step: &[Splice]) -> Result<bool, AllocError>
+    ensures { IfOk result (λ all. IsTried all text.new.bytes (step_made (map splice_of step.now) text.old.bytes)) }
+{
+    match step.first() {
+        Some(first) if opening_pays(text, first.place, text.len(), step) => {
+            try_forth_open(text, first.place, step)
+        }
+        _ => try_forth_in_turn(text, step),
+    }
+}
+
+// The same where each splice moves the bytes on one side of its place.
+fn try_forth_in_turn(text: &mut Text, step: &[Splice]) -> Result<bool, AllocError>
     ensures { IfOk result (λ all. IsTried all text.new.bytes (step_made (map splice_of step.now) text.old.bytes)) }
 {
     for splice in step {
@@ -105,6 +149,22 @@ fn try_forth(text: &mut Text, step: &[Splice]) -> Result<bool, AllocError>
         }
         text.replace(splice.place, splice.old.len(), &splice.new)?;
     }
+    Ok(true)
+}
+
+// The same in the open text.
+fn try_forth_open(text: &mut Text, place: usize, step: &[Splice]) -> Result<bool, AllocError>
+    ensures { IfOk result (λ all. IsTried all text.new.bytes (step_made (map splice_of step.now) text.old.bytes)) }
+{
+    let most = text.len();
+    let mut gapped = OpenText::new(taken(text), place, most);
+    for splice in step {
+        if !gapped.finds(splice.place, &splice.old) {
+            return Ok(false);
+        }
+        gapped.replace(splice.place, splice.old.len(), &splice.new)?;
+    }
+    *text = gapped.close();
     Ok(true)
 }
 

@@ -19,6 +19,7 @@ mod digests;
 mod fitting;
 mod journals;
 pub mod laws;
+mod open;
 mod peaks;
 mod printing;
 mod reading;

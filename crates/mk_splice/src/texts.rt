@@ -17,8 +17,8 @@ const PART: usize = 16;
 /// A text with room before and after it.
 #[derive(Drop)]
 pub struct Text {
-    items: Vec<u8>,
-    start: usize,
+    pub(crate) items: Vec<u8>,
+    pub(crate) start: usize,
 }
 
 impl Model for Text {
@@ -63,6 +63,21 @@ impl Text {
         let Text { mut items, start } = self;
         move_to_front(&mut items, start);
         items
+    }
+
+    // How many bytes it has.
+    pub(crate) fn len(&self) -> usize
+        ensures len { result ≡ length self.now.bytes }
+        ensures within { result ≤ self.now.capacity }
+    {
+        self.items.len() - self.start
+    }
+
+    // How many bytes the text can have without an allocation.
+    pub(crate) fn capacity(&self) -> usize
+        ensures { result ≡ self.now.capacity }
+    {
+        self.items.capacity()
     }
 
     /// The allocator of the text.
@@ -204,7 +219,7 @@ fn make_room(items: &mut Vec<u8>, start: &mut usize, more: usize) -> Result<(), 
 }
 
 // Moves the text that begins at `start` to the front.
-fn move_to_front(items: &mut Vec<u8>, start: usize)
+pub(crate) fn move_to_front(items: &mut Vec<u8>, start: usize)
     requires { start ≤ vec_len items.old }
     ensures bytes { items.new.items ≡ drop start items.old.items }
     ensures len { vec_len items.new + start ≡ vec_len items.old }

@@ -163,9 +163,9 @@ fn load_error(name: &'static str, at: usize) -> Result<LoadError, TableError> {
     }
 }
 
-type Loaded = Result<Session, (Vec<u8>, LoadError)>;
+pub type Loaded = Result<Session, (Vec<u8>, LoadError)>;
 
-fn load(alloc: Global, text: &[u8], journal: &[u8]) -> Result<Loaded, AllocError> {
+pub fn load(alloc: Global, text: &[u8], journal: &[u8]) -> Result<Loaded, AllocError> {
     Ok(Session::load(alloc, Vec::from_slice(alloc, text)?, journal))
 }
 
@@ -228,8 +228,8 @@ fn session_in(rt: &impl Abort, alloc: Global, row: &Row) -> Result<Session, Fail
     Ok(session)
 }
 
-// The journal of a row: its digest, and what stands after that.
-fn journal_in(alloc: Global, row: &Row) -> Result<Vec<u8>, TableError> {
+/// The journal of a row: its digest, and what stands after that.
+pub fn journal_in(alloc: Global, row: &Row) -> Result<Vec<u8>, TableError> {
     let mut journal = Vec::from_slice(alloc, b"mimejournal 2\n")?;
     journal.extend_from_slice(bytes_in(row, "digest")?)?;
     journal.push(b'\n')?;

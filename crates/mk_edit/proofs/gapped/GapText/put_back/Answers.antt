@@ -1,6 +1,6 @@
 use Rattle.std.proofs.Common.{◌+◌, ◌-◌, ◌≡◌, ◌∙◌, ◌++◌, ap, arith, drop, take}
 use Rattle.mk_edit.specs.inner.Gaps.{Gapped, without_gap}
-use Rattle.mk_edit.proofs.Gaps.{gap_back}
+use Rattle.mk_splice.proofs.Gaps.{gap_back}
 use Rattle.mk_edit.proofs.gapped.GapText.put_back.Goals as goal
 
 pub returns-then-place-self-clause-same : goal.returns-then-place-self-clause-same

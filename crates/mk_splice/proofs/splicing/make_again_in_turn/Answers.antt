@@ -2,7 +2,7 @@ use Rattle.std.proofs.Common.{◌+◌, ◌-◌, ap, arith, drop, length, map}
 use Rattle.mk_splice.specs.Peaks.{most_forth}
 use Rattle.mk_splice.specs.Views.{splice_of}
 use Rattle.mk_splice.proofs.Splicings.{most_next, most_start_forth}
-use Rattle.mk_splice.proofs.splicing.make_again_in.Goals as goal
+use Rattle.mk_splice.proofs.splicing.make_again_in_turn.Goals as goal
 
 pub replace_within-requires-clause-room : goal.replace_within-requires-clause-room
 replace_within-requires-clause-room c =

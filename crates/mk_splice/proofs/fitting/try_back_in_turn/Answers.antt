@@ -1,7 +1,7 @@
 use Rattle.std.proofs.Common.{◌∙◌, sym, arith}
 use Rattle.mk_splice.proofs.Splicings.{back_so}
 use Rattle.mk_splice.proofs.Trials.{back_turn, back_stops, stands_so}
-use Rattle.mk_splice.proofs.fitting.try_back.Goals as goal
+use Rattle.mk_splice.proofs.fitting.try_back_in_turn.Goals as goal
 
 pub returns-then-not-stand : goal.returns-then-not-stand
 returns-then-not-stand c =

@@ -2,7 +2,7 @@ use Rattle.std.proofs.Common.{◌≡◌, ◌≤◌, length, map, drop}
 use Rattle.mk_splice.specs.Splices.{forth_step, GoesForth}
 use Rattle.mk_splice.specs.Peaks.{most_forth}
 use Rattle.mk_splice.specs.Views.{splice_of}
-use Rattle.mk_splice.proofs.splicing.make_again_in.Given as goal
+use Rattle.mk_splice.proofs.splicing.make_again_in_turn.Given as goal
 
 abbrev pub invariant-loop-splice : goal.invariant-loop-splice
 invariant-loop-splice l = record {

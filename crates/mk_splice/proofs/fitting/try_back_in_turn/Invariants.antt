@@ -1,7 +1,7 @@
 use Rattle.std.proofs.Common.{◌≡◌, ◌≤◌, length, map, take}
 use Rattle.mk_splice.specs.Misfits.{step_taken_back}
 use Rattle.mk_splice.specs.Views.{splice_of}
-use Rattle.mk_splice.proofs.fitting.try_back.Given as goal
+use Rattle.mk_splice.proofs.fitting.try_back_in_turn.Given as goal
 
 abbrev pub invariant-loop-left : goal.invariant-loop-left
 invariant-loop-left l = record {

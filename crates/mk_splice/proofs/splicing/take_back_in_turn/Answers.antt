@@ -3,7 +3,7 @@ use Rattle.mk_splice.specs.Splices.{back_step, GoesBack}
 use Rattle.mk_splice.specs.Peaks.{most_back}
 use Rattle.mk_splice.specs.Views.{splice_of}
 use Rattle.mk_splice.proofs.Splicings.{last_back, back_so, length-back, most_start, most_turn}
-use Rattle.mk_splice.proofs.splicing.take_back_in.Goals as goal
+use Rattle.mk_splice.proofs.splicing.take_back_in_turn.Goals as goal
 
 pub replace_within-requires-clause-inside : goal.replace_within-requires-clause-inside
 replace_within-requires-clause-inside c =

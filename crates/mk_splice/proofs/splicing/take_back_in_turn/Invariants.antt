@@ -2,7 +2,7 @@ use Rattle.std.proofs.Common.{◌≡◌, ◌≤◌, length, map, take}
 use Rattle.mk_splice.specs.Splices.{back_step, GoesBack}
 use Rattle.mk_splice.specs.Peaks.{most_back}
 use Rattle.mk_splice.specs.Views.{splice_of}
-use Rattle.mk_splice.proofs.splicing.take_back_in.Given as goal
+use Rattle.mk_splice.proofs.splicing.take_back_in_turn.Given as goal
 
 abbrev pub invariant-loop-left : goal.invariant-loop-left
 invariant-loop-left l = record {
