@@ -68,7 +68,7 @@ impl Session {
 
     /// Begins with the history that a journal describes with a text. The journal is looked at first, then whether it belongs
     /// to the text, and then whether its steps fit; where it is refused, the text comes back. It takes the time of moving
-    /// the bytes after each splice once, and of reading the text.
+    /// the bytes between each splice and the next, and of reading the text.
     pub fn load(
         alloc: Global,
         text: Vec<u8>,
