@@ -27,7 +27,7 @@ linked_more first (z ∷ zs) (r ∷ rs) (suc n) y s h l p = (h.0, linked_more z 
 more_place : (n : ℕ) → n + 1 ≡ suc n
 more_place n = omega arith
 
-stays_step : (h : History) (y : List ℕ) (s : List Splice) → IsHistory h → LeadsTo s (text_now h) y → IsHistory (with_step h y s)
+pub stays_step : (h : History) (y : List ℕ) (s : List Splice) → IsHistory h → LeadsTo s (text_now h) y → IsHistory (with_step h y s)
 stays_step h y s b p = record {
   first = b.first;
   others = take h.place b.others ++ y ∷ [];
@@ -52,7 +52,7 @@ stays_redo : (h : History) (t : Bool) → nat_lt h.place (length h.steps) ≡ t 
 stays_redo h true e b = record { first = b.first; others = b.others; texts = b.texts; linked = b.linked; within = omega (arith, ltb-true h.place (length h.steps) e) }
 stays_redo h false e b = b
 
-stays_after : (o : Order) (h : History) → IsHistory h → IsHistory (after o h)
+pub stays_after : (o : Order) (h : History) → IsHistory h → IsHistory (after o h)
 stays_after (Do e) h b = stays_edit h e (edited e (tree (text_now h))) refl b
 stays_after (Group es) h b = stays_group h (together es (tree (text_now h))) (together_leads es (text_now h)) b
 stays_after Undo h b = stays_undo h (nat_lt 0 h.place) b

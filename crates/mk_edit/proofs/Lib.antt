@@ -8,7 +8,9 @@ pub mod Undoing
 pub mod GroupFacts
 pub mod GroupsMade
 pub mod GroupMoves
+pub mod GroupsKept
 pub mod Leading
+pub mod GroupLaws
 pub mod FieldsMade
 pub mod SilentFields
 pub mod Gaps

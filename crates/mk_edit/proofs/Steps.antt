@@ -140,7 +140,7 @@ append_end : {X : Type 0} (xs : List X) → xs ++ [] ≡ xs
 append_end [] = refl
 append_end (x ∷ xs) = ap (λ ys. x ∷ ys) (append_end xs)
 
-take_all : {X : Type 0} (n : ℕ) (xs : List X) → length xs ≡ n → take n xs ≡ xs
+pub take_all : {X : Type 0} (n : ℕ) (xs : List X) → length xs ≡ n → take n xs ≡ xs
 take_all n xs e = ap (take n) (sym (append_end xs)) ∙ take_at xs [] n e
 
 drop_all : {X : Type 0} (n : ℕ) (xs : List X) → length xs ≡ n → drop n xs ≡ []

@@ -40,6 +40,15 @@ started text = record { texts = text ∷ []; steps = []; place = 0 }
 abbrev pub with_step : History → List ℕ → List Splice → History
 with_step h text step = record { texts = take (h.place + 1) h.texts ++ text ∷ []; steps = take h.place h.steps ++ step ∷ []; place = h.place + 1 }
 
+-- the splices of steps, one after another
+abbrev pub all_splices : List (List Splice) → List Splice
+all_splices [] = []
+all_splices (s ∷ ss) = s ++ all_splices ss
+
+-- all splices of the steps that are done
+abbrev pub done_splices : History → List Splice
+done_splices h = all_splices (take h.place h.steps)
+
 -- what an accepted or refused edit makes of a history
 abbrev pub edited_by : History → List Splice → Result Document Refusal → Result History Refusal
 edited_by h step (Ok t) = Ok (with_step h (printed t) step)

@@ -1,11 +1,12 @@
 -- The laws of histories, and of the splices of edits.
-use Rattle.std.specs.Prelude.{◌≡◌, ℕ, Some, Ok, List}
+use Rattle.std.specs.Prelude.{◌≡◌, ℕ, Option, option_and_then, Some, Ok, List, [], ◌∷◌}
+use Rattle.std.specs.Result.{result_ok}
 use Rattle.mk_tree.specs.Documents.{Document, tree, printed}
-use Rattle.mk_decide.specs.Edits.{PlainEdit, Order, Undo, Redo}
+use Rattle.mk_decide.specs.Edits.{PlainEdit, Order, Do, Group, Undo, Redo}
 use Rattle.mk_edit.specs.Groups.{together}
 use Rattle.mk_splice.specs.Splices.{Splice, LeadsTo}
 use Rattle.mk_edit.specs.History.{History}
-use Rattle.mk_edit.specs.Histories.{IsHistory, first_text, text_now, started, after_all, repeated}
+use Rattle.mk_edit.specs.Histories.{IsHistory, first_text, text_now, started, after_all, repeated, step, with_step, done_splices}
 
 -- undoing all that is done gives a text first, and redoing as often gives the history from which the undoing began
 pub record Restores (text : List ℕ) (h : History) : Type 0 where
@@ -33,3 +34,16 @@ TextsStart = (text : List ℕ) → IsHistory (started text) × (first_text (star
 -- what orders leave of a history is a history
 abbrev pub HistoriesStay : Type 0
 HistoriesStay = (h : History) (orders : List Order) → IsHistory h → IsHistory (after_all orders h)
+
+-- orders leave the first text, so what begins with the text of a session is a group of it, whatever is done in it
+abbrev pub FirstTextsStay : Type 0
+FirstTextsStay = (h : History) (orders : List Order) → IsHistory h → first_text (after_all orders h) ≡ first_text h
+
+-- the history after edits that are all accepted, one after another
+abbrev pub made_in_turn : List PlainEdit → History → Option History
+made_in_turn [] h = Some h
+made_in_turn (e ∷ es) h = option_and_then (made_in_turn es) (result_ok (step (Do e) h))
+
+-- what edits do one after another in a history that begins with a text is one step of that text: the group of these edits
+abbrev pub EditsInTurnAreGroups : Type 0
+EditsInTurnAreGroups = (es : List PlainEdit) (h done : History) → made_in_turn es (started (text_now h)) ≡ Some done → step (Group es) h ≡ Ok (with_step h (text_now done) (done_splices done))

@@ -1,6 +1,6 @@
 //! Laws of edits and histories, over the definitions alone: each a function with an empty body whose clause is the law.
 ghost use Rattle.mk_decide.specs.EditLaws.{EditsReadBack, SplicesLead};
-ghost use Rattle.mk_edit.specs.Laws.{GroupsLead, GroupsReadBack, HistoriesStay, TextsStart, UndoingRestores};
+ghost use Rattle.mk_edit.specs.Laws.{EditsInTurnAreGroups, FirstTextsStay, GroupsLead, GroupsReadBack, HistoriesStay, TextsStart, UndoingRestores};
 ghost use Rattle.mk_edit.specs.Saving.{SavedIsLoaded};
 
 /// Undoing as often as steps are done gives the first text, and redoing as often gives the history from which the undoing
@@ -40,6 +40,16 @@ pub fn texts_start()
 /// back.
 pub fn histories_stay()
     ensures { HistoriesStay }
+{}
+
+/// Edits, groups, undos and redos leave the first text of a history, so `commit` can take what is done in a group.
+pub fn first_texts_stay()
+    ensures { FirstTextsStay }
+{}
+
+/// What edits do one after another in a group is, committed, the step that `group` makes of them.
+pub fn edits_in_turn_are_groups()
+    ensures { EditsInTurnAreGroups }
 {}
 
 /// The journal of a history, loaded with the text that stands, gives the history again.

@@ -11,7 +11,7 @@ ghost use Rattle.mk_splice.specs.Splices.{forth_step, back_step};
 ghost use Rattle.mk_edit.specs.Saving.{RefusesJournal, loaded, saved};
 ghost use Rattle.mk_edit.specs.inner.Loading.{IsFitting};
 ghost use Rattle.mk_splice.specs.Printed.{AreSmall};
-ghost use Rattle.mk_edit.specs.Histories.{IsHistory, after_all, replies, started, step, text_now};
+ghost use Rattle.mk_edit.specs.Histories.{IsHistory, after_all, done_splices, first_text, replies, started, step, text_now, with_step};
 ghost use Rattle.mk_decide.specs.Views.{edit_of};
 ghost use Rattle.mk_edit.specs.Views.{order_of};
 ghost use Rattle.mk_splice.specs.Views.{splice_of, steps_of};
@@ -21,7 +21,7 @@ use crate::commands::Command;
 use crate::errors::{GroupError, LoadError};
 use crate::grouping::{refused, together};
 use crate::replies::{Reply, replied, replied_to_group};
-use crate::stepping::{change, put_step};
+use crate::stepping::{change, joined, put_step, read_anew};
 use mk_decide::{Edit, EditError, Replacement, decide};
 use mk_line::Meter;
 use mk_splice::{Journal, Splice, copied, fit, print};
@@ -221,6 +221,36 @@ impl Session {
             Ok(()) => Ok(()),
             Err(error) => Err(refused(0, error)),
         }
+    }
+
+    /// Begins a group: a session over a copy of the text. What is done in it becomes one step by `commit`; if it is dropped,
+    /// nothing has changed.
+    pub fn begin(&self) -> Result<Session, AllocError>
+        ensures { IfOk result (λ group. group ≡ started (text_now self.now)) }
+    {
+        let alloc = *self.steps.allocator();
+        let doc = read_anew(alloc, &self.doc)?;
+        Ok(Session {
+            doc,
+            steps: Vec::new(alloc),
+            done: 0,
+        })
+    }
+
+    /// Makes what is done in a group that `begin` gave one step, and drops the steps that were undone. Out of memory, nothing
+    /// changes.
+    pub fn commit(&mut self, group: Session) -> Result<(), AllocError>
+        requires { first_text group ≡ text_now self.old }
+        ensures ok { OnOk result (self.new ≡ with_step self.old (text_now group) (done_splices group)) }
+        ensures err { OnErr result (self.new ≡ self.old) }
+    {
+        let Session { doc, steps, done } = group;
+        let step = joined(*self.steps.allocator(), steps, done)?;
+        self.steps.reserve(1)?;
+        self.doc = doc;
+        put_step(&mut self.steps, self.done, step);
+        self.done += 1;
+        Ok(())
     }
 
     /// Takes the last step back.

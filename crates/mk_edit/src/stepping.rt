@@ -9,7 +9,8 @@ ghost use Rattle.mk_decide.specs.Edits.{path_of};
 ghost use Rattle.mk_edit.specs.Made.{IsMade};
 ghost use Rattle.mk_decide.specs.Outcomes.{edited};
 ghost use Rattle.mk_decide.specs.Views.{edit_of};
-ghost use Rattle.mk_splice.specs.Views.{splice_of};
+ghost use Rattle.mk_edit.specs.Histories.{all_splices};
+ghost use Rattle.mk_splice.specs.Views.{splice_of, steps_of};
 
 use mk_decide::{Edit, EditError, Replacement, decide};
 use mk_line::Meter;
@@ -79,6 +80,24 @@ pub(crate) fn put_step(steps: &mut Vec<Vec<Splice>>, done: usize, step: Vec<Spli
 {
     steps.truncate(done);
     steps.push_reserved(step);
+}
+
+/// The splices of the first `count` steps, as those of one step.
+pub(crate) fn joined(
+    alloc: Global,
+    steps: Vec<Vec<Splice>>,
+    count: usize,
+) -> Result<Vec<Splice>, AllocError>
+    ensures { IfOk result (λ all. map splice_of all.items ≡ all_splices (take count (steps_of steps.items))) }
+{
+    let mut steps = steps;
+    steps.truncate(count);
+    let mut all = Vec::new(alloc);
+    for step in steps {
+        let mut step = step;
+        all.append(&mut step)?;
+    }
+    Ok(all)
 }
 
 /// A document, read again.

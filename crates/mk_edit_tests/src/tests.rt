@@ -1,5 +1,6 @@
 //! What no clause says: that calls succeed, and that the clauses mean what users of messages expect. Expected values
 //! are from the rules of the formats.
+mod begun_groups;
 mod checks;
 mod counted;
 mod examples;

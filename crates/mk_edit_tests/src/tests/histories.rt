@@ -86,8 +86,8 @@ struct Step<'a> {
     after: Option<&'a [u8]>,
 }
 
-// The command that a cell begins.
-fn command_in(alloc: Global, edits: &[Row], cell: &Cell) -> Result<Command, TableError> {
+/// The command that a cell begins.
+pub fn command_in(alloc: Global, edits: &[Row], cell: &Cell) -> Result<Command, TableError> {
     match cell.key {
         "do" => Ok(Command::Do(edit_named(alloc, edits, cell.text)?)),
         "undo" => Ok(Command::Undo),
