@@ -1,26 +1,27 @@
--- Rounds made in turn on a copy of a session.
+-- Rounds made in turn as a group.
 use Rattle.std.proofs.Common.{◌≡◌, ◌≤◌, ◌<◌, ◌++◌, ◌∙◌, ℕ, true, List, [], ◌∷◌, Option, None, Some, IfSome, Result, Ok, Err, arith, get_or, length, refl, sym, ap, append_assoc, append-nil, subst}
 use Rattle.mk_tree.specs.Documents.{Document, tree, printed}
-use Rattle.mk_tree.proofs.Kept.{text_kept}
 use Rattle.mk_splice.specs.Splices.{Splice}
-use Rattle.mk_decide.specs.Answers.{IsRefusedBy}
-use Rattle.mk_decide.specs.Edits.{PlainEdit, Refusal, Group}
+use Rattle.mk_decide.specs.Answers.{IsRefusedBy, refusal_of}
+use Rattle.mk_decide.specs.Edits.{PlainEdit, Refusal}
+use Rattle.mk_decide.specs.declared.errors.EditError.{EditError}
+use Rattle.mk_edit.specs.Answers.{Does}
 use Rattle.mk_edit.specs.Groups.{Together, together}
 use Rattle.mk_edit.specs.History.{History}
-use Rattle.mk_edit.specs.Histories.{IsHistory, grouped_by, started, step, text_now, with_step}
+use Rattle.mk_edit.specs.Histories.{IsHistory, done_splices, first_text, started, text_now, with_step}
+use Rattle.mk_edit.proofs.GroupsKept.{done_more, first_stays, text_after}
 use Rattle.mk_edit.proofs.Leading.{texts_start_lem}
 use Rattle.mk_mail.specs.Apart.{has_section}
 use Rattle.mk_mail.specs.Rounds.{PlainRound, made_text, round_edits, round_outcome}
 use Rattle.mk_run.specs.RoundSteps.{Led, led_after, led_on, led_step, rounds_led, rounds_step}
-use Rattle.mk_run.specs.inner.Making.{MadeRound}
-use Rattle.mk_run.proofs.WordsMade.{left_read, left_valid, text_after, together_append}
+use Rattle.mk_run.specs.inner.Making.{MadeRound, MakesRound}
+use Rattle.mk_run.proofs.WordsMade.{left_valid}
 
--- some rounds were made on a copy, so these edits, and the rest is still to be made
-pub record InRounds (path : List ℕ) (all rest : List PlainRound) (edits : List PlainEdit) (session copy : History) : Type 0 where
-  pub splices : List Splice
-  pub rest_is : rounds_led path all (text_now session) ≡ led_after splices (rounds_led path rest (text_now copy))
-  pub made : together edits (tree (text_now session)) ≡ Ok (tree (text_now copy), splices)
-  pub valid : IsHistory copy
+-- some rounds were made in a group, and the rest is still to be made
+pub record InRounds (path : List ℕ) (all rest : List PlainRound) (session group : History) : Type 0 where
+  pub rest_is : rounds_led path all (text_now session) ≡ led_after (done_splices group) (rounds_led path rest (text_now group))
+  pub first : first_text group ≡ text_now session
+  pub valid : IsHistory group
 
 led_none : (m : Led) → led_after [] m ≡ m
 led_none (Ok p) = refl
@@ -31,16 +32,13 @@ led_led ss rs (Ok p) = ap (λ qs. Ok (p.0, qs)) (sym (append_assoc ss rs p.1))
 led_led ss rs (Err reason) = refl
 
 -- at first none was made
-pub in_rounds_begun : (path : List ℕ) (all rest : List PlainRound) (edits : List PlainEdit) (session copy : History) → copy ≡ started (text_now session) → rest ≡ all → edits ≡ []
-    → InRounds path all rest edits session copy
-in_rounds_begun path all rest edits session copy begun same none =
-    let now : text_now copy ≡ text_now session = ap text_now begun in
-    record {
-      splices = [];
-      rest_is = sym (ap (λ rs. led_after [] (rounds_led path rs (text_now copy))) same ∙ (led_none _ ∙ ap (rounds_led path all) now));
-      made = ap (λ es. together es (tree (text_now session))) none ∙ ap (λ x. Ok (tree x, [])) (sym now);
-      valid = subst IsHistory (sym begun) (texts_start_lem (text_now session)).0;
-    }
+pub in_rounds_begun : (path : List ℕ) (all : List PlainRound) (session group : History) → group ≡ started (text_now session) → InRounds path all all session group
+in_rounds_begun path all session group begun =
+    subst (InRounds path all all session) (sym begun) (record {
+      rest_is = sym (led_none _);
+      first = refl;
+      valid = (texts_start_lem (text_now session)).0;
+    })
 
 -- what is made of a text of which a round was made
 round_done : (path : List ℕ) (r : PlainRound) (rs : List PlainRound) (text : List ℕ) (es : List PlainEdit) (d : Document) (ss : List Splice)
@@ -49,19 +47,19 @@ round_done path r rs text es d ss is made =
     ap (λ xs. led_on (together xs (tree text)) (rounds_led path rs)) (sym is) ∙ ap (λ o. led_on o (rounds_led path rs)) made
 
 -- one round more
-pub in_rounds_next : (path : List ℕ) (all rest later : List PlainRound) (r : PlainRound) (edits es more : List PlainEdit) (session copy next : History)
-    → InRounds path all rest edits session copy → rest ≡ r ∷ later → MadeRound path r es copy next → more ≡ edits ++ es → InRounds path all later more session next
-in_rounds_next path all rest later r edits es more session copy next t here m grown =
-    let read : tree (text_now next) ≡ m.done.document = left_read es copy next t.valid m.done in
-    let stands : text_now next ≡ printed m.done.document = ap text_now m.done.left ∙ text_after copy (printed m.done.document) m.done.splices t.valid in
-    let step_is : rounds_led path rest (text_now copy) ≡ led_after m.done.splices (rounds_led path later (printed m.done.document)) =
-    ap (λ rs. rounds_led path rs (text_now copy)) here ∙ round_done path r later (text_now copy) es m.done.document m.done.splices m.edits m.done.made in
+pub in_rounds_next : (path : List ℕ) (all rest later : List PlainRound) (r : PlainRound) (es : List PlainEdit) (session group next : History)
+    → InRounds path all rest session group → rest ≡ r ∷ later → MadeRound path r es group next → InRounds path all later session next
+in_rounds_next path all rest later r es session group next t here m =
+    let ss = m.done.splices in
+    let stands : text_now next ≡ printed m.done.document = ap text_now m.done.left ∙ text_after group (printed m.done.document) ss t.valid in
+    let step_is : rounds_led path rest (text_now group) ≡ led_after ss (rounds_led path later (printed m.done.document)) =
+    ap (λ rs. rounds_led path rs (text_now group)) here ∙ round_done path r later (text_now group) es m.done.document ss m.edits m.done.made in
+    let more : done_splices next ≡ done_splices group ++ ss = ap done_splices m.done.left ∙ done_more group (printed m.done.document) ss t.valid in
     record {
-      splices = t.splices ++ m.done.splices;
-      rest_is = t.rest_is ∙ (ap (led_after t.splices) step_is ∙ (led_led t.splices m.done.splices (rounds_led path later (printed m.done.document)) ∙ ap (λ x. led_after (t.splices ++ m.done.splices) (rounds_led path later x)) (sym stands)));
-      made = ap (λ l. together l (tree (text_now session))) grown
-          ∙ (together_append edits es (tree (text_now session)) (tree (text_now copy), t.splices) (m.done.document, m.done.splices) t.made m.done.made ∙ ap (λ d. Ok (d, t.splices ++ m.done.splices)) (sym read));
-      valid = left_valid es copy next t.valid m.done;
+      rest_is = t.rest_is ∙ (ap (led_after (done_splices group)) step_is ∙ (led_led (done_splices group) ss (rounds_led path later (printed m.done.document))
+          ∙ (ap (λ qs. led_after qs (rounds_led path later (printed m.done.document))) (sym more) ∙ ap (λ x. led_after (done_splices next) (rounds_led path later x)) (sym stands))));
+      first = ap first_text m.done.left ∙ (first_stays group (printed m.done.document) ss t.valid ∙ t.first);
+      valid = left_valid es group next t.valid m.done;
     }
 
 led_refused : (o : Together) (f : List ℕ → Led) (reason : Refusal) → made_text o ≡ Err reason → led_on o f ≡ Err reason
@@ -73,28 +71,25 @@ there : (path : List ℕ) (rs : List PlainRound) (h : History) → has_section p
 there path rs h section = rw section refl
 
 -- a round that is refused refuses all
-pub in_rounds_refused : (path : List ℕ) (all rest later : List PlainRound) (r : PlainRound) (edits : List PlainEdit) (session copy : History) (o : Option Refusal)
-    → InRounds path all rest edits session copy → rest ≡ r ∷ later → has_section path (text_now session) ≡ true
-    → IfSome o (λ reason. made_text (round_outcome path (text_now copy) r) ≡ Err reason) → IsRefusedBy o (rounds_step path all session)
-in_rounds_refused path all rest later r edits session copy None t here section e = tt
-in_rounds_refused path all rest later r edits session copy (Some reason) t here section e =
+pub in_rounds_refused : (path : List ℕ) (all rest later : List PlainRound) (r : PlainRound) (session group : History) (o : Option Refusal)
+    → InRounds path all rest session group → rest ≡ r ∷ later → has_section path (text_now session) ≡ true
+    → IfSome o (λ reason. made_text (round_outcome path (text_now group) r) ≡ Err reason) → IsRefusedBy o (rounds_step path all session)
+in_rounds_refused path all rest later r session group None t here section e = tt
+in_rounds_refused path all rest later r session group (Some reason) t here section e =
     there path all session section
-    ∙ ap (led_step session) (t.rest_is ∙ ap (led_after t.splices) (ap (λ rs. rounds_led path rs (text_now copy)) here ∙ led_refused (round_outcome path (text_now copy) r) (rounds_led path later) reason e))
+    ∙ ap (led_step session) (t.rest_is ∙ ap (led_after (done_splices group)) (ap (λ rs. rounds_led path rs (text_now group)) here ∙ led_refused (round_outcome path (text_now group) r) (rounds_led path later) reason e))
 
--- once all are made, they are what the edits are as one step
-pub in_rounds_done : (path : List ℕ) (all rest : List PlainRound) (edits : List PlainEdit) (session copy new : History)
-    → InRounds path all rest edits session copy → rest ≡ [] → has_section path (text_now session) ≡ true → step (Group edits) session ≡ Ok new → rounds_step path all session ≡ Ok new
-in_rounds_done path all rest edits session copy new t here section done =
-    let whole : rounds_led path all (text_now session) ≡ Ok (text_now copy, t.splices ++ []) = t.rest_is ∙ ap (λ rs. led_after t.splices (rounds_led path rs (text_now copy))) here in
-    let got : ◌≡◌ {A = Result History Refusal} (Ok (with_step session (printed (tree (text_now copy))) t.splices)) (Ok new) = sym (ap (grouped_by session) t.made) ∙ done in
-    let left : with_step session (printed (tree (text_now copy))) t.splices ≡ new = cc in
+-- once all are made, the group is one step
+pub in_rounds_done : (path : List ℕ) (all rest : List PlainRound) (session group new : History)
+    → InRounds path all rest session group → rest ≡ [] → has_section path (text_now session) ≡ true → new ≡ with_step session (text_now group) (done_splices group) → rounds_step path all session ≡ Ok new
+in_rounds_done path all rest session group new t here section done =
+    let whole : rounds_led path all (text_now session) ≡ Ok (text_now group, done_splices group ++ []) = t.rest_is ∙ ap (λ rs. led_after (done_splices group) (rounds_led path rs (text_now group))) here in
     there path all session section
     ∙ (ap (led_step session) whole
-    ∙ (ap (λ ss. Ok (with_step session (text_now copy) ss)) (append-nil t.splices)
-    ∙ (ap (λ x. Ok (with_step session x t.splices)) (sym (text_kept (text_now copy))) ∙ ap (λ h. Ok h) left)))
+    ∙ (ap (λ ss. Ok (with_step session (text_now group) ss)) (append-nil (done_splices group)) ∙ ap (λ h. Ok h) (sym done)))
 
 -- a round alone is a step
-pub round_alone : (path : List ℕ) (rs : List PlainRound) (r : PlainRound) (es : List PlainEdit) (old new : History) → rs ≡ r ∷ [] → has_section path (text_now old) ≡ true
+round_alone : (path : List ℕ) (rs : List PlainRound) (r : PlainRound) (es : List PlainEdit) (old new : History) → rs ≡ r ∷ [] → has_section path (text_now old) ≡ true
     → MadeRound path r es old new → rounds_step path rs old ≡ Ok new
 round_alone path rs r es old new one section m =
     there path rs old section
@@ -102,13 +97,18 @@ round_alone path rs r es old new one section m =
     ∙ (ap (led_step old) (round_done path r [] (text_now old) es m.done.document m.done.splices m.edits m.done.made)
     ∙ (ap (λ ss. Ok (with_step old (printed m.done.document) ss)) (append-nil m.done.splices) ∙ ap (λ h. Ok h) (sym m.done.left))))
 
-pub round_alone_refused : (path : List ℕ) (rs : List PlainRound) (r : PlainRound) (old : History) (o : Option Refusal) → rs ≡ r ∷ [] → has_section path (text_now old) ≡ true
+round_alone_refused : (path : List ℕ) (rs : List PlainRound) (r : PlainRound) (old : History) (o : Option Refusal) → rs ≡ r ∷ [] → has_section path (text_now old) ≡ true
     → IfSome o (λ reason. made_text (round_outcome path (text_now old) r) ≡ Err reason) → IsRefusedBy o (rounds_step path rs old)
 round_alone_refused path rs r old None one section e = tt
 round_alone_refused path rs r old (Some reason) one section e =
     there path rs old section
     ∙ (ap (λ xs. led_step old (rounds_led path xs (text_now old))) one
     ∙ ap (led_step old) (led_refused (round_outcome path (text_now old) r) (rounds_led path []) reason e))
+
+pub round_does : {X : Type 0} (result : Result X EditError) (path : List ℕ) (rs : List PlainRound) (r : PlainRound) (old new : History) → rs ≡ r ∷ [] → has_section path (text_now old) ≡ true
+    → MakesRound result path r old new → Does result (rounds_step path rs old) old new
+round_does (Ok x) path rs r old new one section m = round_alone path rs r m.0 old new one section m.1
+round_does (Err e) path rs r old new one section m = (m.0, round_alone_refused path rs r old (refusal_of e) one section m.1)
 
 -- the reason against an edit of a round is that against the round
 pub round_told : (path : List ℕ) (r : PlainRound) (text : List ℕ) (es : List PlainEdit) (index : ℕ) (o : Option Refusal) → es ≡ round_edits path text r

@@ -1,7 +1,6 @@
 -- Words made one after another, as edits made one after another.
-use Rattle.std.proofs.Common.{◌≡◌, ◌+◌, ◌++◌, ◌<◌, ◌≤◌, ℕ, zero, suc, true, List, [], ◌∷◌, Option, None, Some, IfSome, Result, Ok, Err, length, map, take, get_or, nat_lt, slice_index_or, refl, sym, ap, ◌∙◌, subst, append_assoc, append-nil, arith, IfOk}
+use Rattle.std.proofs.Common.{◌≡◌, ◌+◌, ◌++◌, ◌<◌, ◌≤◌, ℕ, zero, suc, true, List, [], ◌∷◌, Option, None, Some, IfSome, Result, Ok, Err, length, map, get_or, nat_lt, slice_index_or, refl, sym, ap, ◌∙◌, subst, append_assoc, append-nil, arith, IfOk}
 use Rattle.std.proofs.lemmas.Bool.{ltb-true}
-use Rattle.std.proofs.lemmas.List.{length-take-le}
 use Rattle.std.specs.Option.{option_map}
 use Rattle.mk_line.specs.declared.cutting.Ending.{Ending}
 use Rattle.mk_line.specs.declared.cutting.Ending.TheVariants.{Crlf, Lf, Missing}
@@ -14,9 +13,10 @@ use Rattle.mk_decide.specs.EditSplices.{splices_of}
 use Rattle.mk_decide.specs.Outcomes.{edited}
 use Rattle.mk_edit.specs.Groups.{Together, following, made_on, together}
 use Rattle.mk_edit.specs.History.{History}
-use Rattle.mk_edit.specs.Histories.{AreLinked, IsHistory, edited_by, grouped_by, step, text_now, with_step}
+use Rattle.mk_edit.specs.Histories.{IsHistory, edited_by, grouped_by, step, text_now, with_step}
 use Rattle.std.specs.Result.{result_unwrap_or}
 use Rattle.mk_edit.proofs.GroupFacts.{groups_read_back_lem}
+use Rattle.mk_edit.proofs.GroupsKept.{text_after}
 use Rattle.mk_edit.proofs.Leading.{histories_stay_lem}
 use Rattle.mk_expand.specs.declared.errors.WordError.{WordError}
 use Rattle.mk_expand.specs.declared.errors.WordError.TheVariants as error
@@ -74,25 +74,7 @@ pub word_refused : (pieces : Pieces) (eol : Ending) (number : ℕ) (word : Scrip
     → made_by number t (meaning_of pieces eol t word) ≡ Err r → words_made pieces eol ((number, word) ∷ ws) t ≡ Err r
 word_refused pieces eol number word ws t r e = ap (λ m. then_make m (words_made pieces eol ws)) e
 
--- ---- the text after a step
-
-linked_length : (x : List ℕ) (ys : List (List ℕ)) (ss : List (List Splice)) → AreLinked x ys ss → length ys ≡ length ss
-linked_length x [] [] h = refl
-linked_length x [] (s ∷ ss) h = absurd h
-linked_length x (y ∷ ys) [] h = absurd h
-linked_length x (y ∷ ys) (s ∷ ss) h = ap suc (linked_length y ys ss h.1)
-
-last_text : (xs : List (List ℕ)) (y : List ℕ) → slice_index_or (xs ++ y ∷ []) (length xs) [] ≡ y
-last_text [] y = refl
-last_text (x ∷ xs) y = last_text xs y
-
-pub text_after : (h : History) (y : List ℕ) (s : List Splice) → IsHistory h → text_now (with_step h y s) ≡ y
-text_after h y s v =
-    let texts : length h.texts ≡ suc (length v.others) = ap length v.texts in
-    let steps : length v.others ≡ length h.steps = linked_length v.first v.others h.steps v.linked in
-    let within : h.place ≤ length h.steps = v.within in
-    let count : length (take (h.place + 1) h.texts) ≡ h.place + 1 = length-take-le (h.place + 1) h.texts (omega arith) in
-    subst (λ n. slice_index_or (take (h.place + 1) h.texts ++ y ∷ []) n [] ≡ y) count (last_text (take (h.place + 1) h.texts) y)
+-- ---- a history after edits
 
 -- edits that were made leave a history, and its text is read as their document
 pub left_read : (es : List PlainEdit) (old new : History) → IsHistory old → (m : MadeSo es old new) → tree (text_now new) ≡ m.document

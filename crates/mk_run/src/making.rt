@@ -1,11 +1,11 @@
 //! The words of a step, made on a session as one step.
 
-ghost use Rattle.std.specs.Prelude.{◌≡◌, ◌≢◌, ◌∷◌, ◌++◌, [], None, Ok, true, map, slice_index_or, IfOk, OnOk};
+ghost use Rattle.std.specs.Prelude.{◌≡◌, ◌≢◌, ◌∷◌, [], None, Ok, true, map, slice_index_or, IfOk};
 ghost use Rattle.std.specs.List.{list_all};
 ghost use Rattle.mk_decide.specs.Views.{edit_of};
 ghost use Rattle.mk_expand.specs.Words.{is_plain as stands_alone, meaning_of};
 ghost use Rattle.mk_tree.specs.Documents.{tree};
-ghost use Rattle.mk_edit.specs.Histories.{started, text_now};
+ghost use Rattle.mk_edit.specs.Histories.{text_now};
 ghost use Rattle.mk_run.specs.WordSteps.{words_step};
 ghost use Rattle.mk_run.specs.inner.Making.{path_in, refusal_in, DoesStep, MakesEdits, MakesWord};
 ghost use Rattle.mk_expand.specs.Views.{pieces_of};
@@ -66,10 +66,7 @@ pub(crate) fn make_word(
     ensures { DoesStep result (words_step (pieces_of pieces.entry) (numbered word ∷ []) session.old) session.old session.new }
 {
     let eol = eol_of(session.text());
-    match make_on(alloc, session, word, pieces, eol) {
-        Ok(_) => Ok(()),
-        Err(error) => Err(error),
-    }
+    make_on(alloc, session, word, pieces, eol)
 }
 
 /// Makes words one after another, all of them or none.
@@ -152,8 +149,7 @@ fn plain_edit(
     }
 }
 
-// Makes words in turn on a copy, to see what each stands for in the document that the earlier ones gave; then all their edits
-// as one step.
+// Makes words in turn as a group, to see what each stands for in the document that the earlier ones gave.
 fn make_in_turn(
     alloc: Global,
     session: &mut Session,
@@ -163,47 +159,22 @@ fn make_in_turn(
     ensures { DoesStep result (words_step (pieces_of pieces.entry) (map numbered words.items) session.old) session.old session.new }
 {
     let eol = eol_of(session.text());
-    let mut copy = copy_of(alloc, session)?;
-    let mut all = Vec::new(alloc);
+    let mut group = session.begin()?;
     for word in words {
-        let edits = make_on(alloc, &mut copy, word, pieces, eol)?;
-        append(&mut all, edits)?;
+        make_on(alloc, &mut group, word, pieces, eol)?;
     }
-    match session.group(&all, &mut Meter::new()) {
-        Ok(()) => Ok(()),
-        Err(_) => Err(StepError::from(AllocError)),
-    }
-}
-
-/// Adds edits after others.
-pub(crate) fn append(all: &mut Vec<Edit>, edits: Vec<Edit>) -> Result<(), AllocError>
-    ensures { OnOk result (map edit_of all.new.items ≡ map edit_of all.old.items ++ map edit_of edits.items) }
-{
-    for edit in edits {
-        all.push(edit)?;
-    }
+    session.commit(group)?;
     Ok(())
 }
 
-/// A session that begins with the text of another.
-pub(crate) fn copy_of(alloc: Global, session: &Session) -> Result<Session, AllocError>
-    ensures { IfOk result (λ copy. copy ≡ started (text_now session.now)) }
-{
-    let text = Vec::from_slice(alloc, session.text())?;
-    match Session::start(alloc, text) {
-        Ok(copy) => Ok(copy),
-        Err((_, error)) => Err(error),
-    }
-}
-
-// Makes a word as one step, and answers the edits that it stands for. Lines that are made end with `eol`.
+// Makes a word as one step. Lines that are made end with `eol`.
 fn make_on(
     alloc: Global,
     session: &mut Session,
     word: NumberedWord,
     pieces: Pieces<'_>,
     eol: Ending,
-) -> Result<Vec<Edit>, StepError>
+) -> Result<(), StepError>
     requires { eol ≢ Ending.Missing }
     ensures { MakesWord result word.number (meaning_of (pieces_of pieces.entry) eol (tree (text_now session.old)) (said_by word.word)) session.old session.new }
 {
@@ -213,7 +184,7 @@ fn make_on(
         Err(fault) => return Err(StepError::Word { number, fault }),
     };
     match make_edits(session, &edits) {
-        Ok(()) => Ok(edits),
+        Ok(()) => Ok(()),
         Err((index, reason)) => {
             let path = Vec::from_slice(alloc, path_at(&edits, index))?;
             Err(StepError::Edit {

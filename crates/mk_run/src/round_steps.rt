@@ -12,10 +12,9 @@ ghost use Rattle.mk_transfer.specs.RunClauses.{Sends};
 ghost use Rattle.mk_run.specs.RoundSteps.{round_lines, rounds_step};
 ghost use Rattle.mk_run.specs.inner.Making.{MakesRound};
 
-use crate::making::{append, copy_of, make_edits};
-use mk_edit::{Edit, EditError, Session};
+use crate::making::make_edits;
+use mk_edit::{EditError, Session};
 use mk_field::Round;
-use mk_line::Meter;
 use mk_mail::Sink;
 use mk_report::report_message_at;
 use mk_transfer::Stop;
@@ -65,15 +64,12 @@ fn make_rounds(
         return Err(EditError::NoSuchSection);
     }
     match rounds {
-        [round] => match make_round(alloc, session, path, round) {
-            Ok(_) => Ok(()),
-            Err(reason) => Err(reason),
-        },
+        [round] => make_round(alloc, session, path, round),
         _ => make_in_turn(alloc, session, path, rounds),
     }
 }
 
-// Makes rounds in turn on a copy, to see the edits of each in what the earlier ones left; then all edits as one step.
+// Makes rounds in turn as a group, to see the edits of each in what the earlier ones left.
 fn make_in_turn(
     alloc: Global,
     session: &mut Session,
@@ -84,31 +80,27 @@ fn make_in_turn(
     requires section { has_section path.now (text_now session.old) ≡ true }
     ensures { Does result (rounds_step path.now (map round_of rounds.now) session.old) session.old session.new }
 {
-    let mut copy = copy_of(alloc, session)?;
-    let mut all = Vec::new(alloc);
+    let mut group = session.begin()?;
     for round in rounds {
-        let edits = make_round(alloc, &mut copy, path, round)?;
-        append(&mut all, edits)?;
+        make_round(alloc, &mut group, path, round)?;
     }
-    match session.group(&all, &mut Meter::new()) {
-        Ok(()) => Ok(()),
-        Err(_) => Err(EditError::Memory),
-    }
+    session.commit(group)?;
+    Ok(())
 }
 
-// Makes a round at a path as one step, and answers its edits.
+// Makes a round at a path as one step.
 fn make_round(
     alloc: Global,
     session: &mut Session,
     path: &[u32],
     round: &Round<'_>,
-) -> Result<Vec<Edit>, EditError>
+) -> Result<(), EditError>
     requires { is_round (round_of round.now) ≡ true }
     ensures { MakesRound result path.now (round_of round.now) session.old session.new }
 {
     let edits = round.edits_at(alloc, session.doc(), path)?;
     match make_edits(session, &edits) {
-        Ok(()) => Ok(edits),
+        Ok(()) => Ok(()),
         Err((_, reason)) => Err(reason),
     }
 }

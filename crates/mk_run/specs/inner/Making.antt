@@ -1,14 +1,11 @@
 -- What making edits and words on a session answers and leaves.
 use Rattle.std.specs.Prelude.{◌≡◌, ℕ, Option, None, Some, IfSome, Result, Ok, Err, List, [], map, slice_index_or}
-use Rattle.std.specs.Global.{Vec}
 use Rattle.std.specs.Option.{option_map}
 use Rattle.mk_tree.specs.Documents.{Document, tree, printed}
 use Rattle.mk_splice.specs.Splices.{Splice}
-use Rattle.mk_decide.specs.declared.edits.Edit.{Edit}
 use Rattle.mk_decide.specs.declared.errors.EditError.{EditError}
 use Rattle.mk_decide.specs.Answers.{refusal_of}
 use Rattle.mk_decide.specs.Edits.{PlainEdit, path_of}
-use Rattle.mk_decide.specs.Views.{edit_of}
 use Rattle.mk_edit.specs.Groups.{together}
 use Rattle.mk_edit.specs.History.{History}
 use Rattle.mk_edit.specs.Histories.{text_now, with_step}
@@ -62,8 +59,8 @@ pub record MadeWord (meaning : Meaning) (es : List PlainEdit) (old new : History
   pub done : MadeSo es old new
 
 -- a word of a line was made, or refused for a reason, and then nothing changed
-abbrev pub MakesWord : Result (Vec Edit) StepError → ℕ → Meaning → History → History → Type 0
-MakesWord (Ok edits) number meaning old new = MadeWord meaning (map edit_of edits.items) old new
+abbrev pub MakesWord : {X : Type 0} → Result X StepError → ℕ → Meaning → History → History → Type 0
+MakesWord (Ok x) number meaning old new = (es : List PlainEdit) × MadeWord meaning es old new
 MakesWord (Err e) number meaning old new = (new ≡ old) × IfSome (refusal_in e) (λ r. made_by number (tree (text_now old)) meaning ≡ Err r)
 
 -- a round was made: its edits for the text that stood, as one step
@@ -72,6 +69,6 @@ pub record MadeRound (path : List ℕ) (r : PlainRound) (es : List PlainEdit) (o
   pub done : MadeSo es old new
 
 -- a round was made, or refused for a reason, and then nothing changed
-abbrev pub MakesRound : Result (Vec Edit) EditError → List ℕ → PlainRound → History → History → Type 0
-MakesRound (Ok edits) path r old new = MadeRound path r (map edit_of edits.items) old new
+abbrev pub MakesRound : {X : Type 0} → Result X EditError → List ℕ → PlainRound → History → History → Type 0
+MakesRound (Ok x) path r old new = (es : List PlainEdit) × MadeRound path r es old new
 MakesRound (Err e) path r old new = (new ≡ old) × IfSome (refusal_of e) (λ reason. made_text (round_outcome path (text_now old) r) ≡ Err reason)

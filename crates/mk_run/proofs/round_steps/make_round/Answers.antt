@@ -10,14 +10,16 @@ use Rattle.mk_run.proofs.round_steps.make_round.Goals as goal
 pub returns-in-Ok : goal.returns-in-Ok
 returns-in-Ok c =
     let path = c.args.path.now in
-    let r = round_of c.args.round.now in
-    record {
-      edits = c.in_ok-edits.ensures ∙ ap (λ t. round_edits path t r) c.doc.ensures;
-      done = rw c.deref.ensures.value at c.in-Ok.ensures;
-    }
+    let r = round_of c.args.round.now in (
+      map edit_of c.deref.result.now,
+      record {
+        edits = ap (map edit_of) c.deref.ensures.value ∙ (c.in_ok-edits.ensures ∙ ap (λ t. round_edits path t r) c.doc.ensures);
+        done = c.in-Ok.ensures;
+      },
+    )
 
-pub returns-in-Err : goal.returns-in-Err
-returns-in-Err c =
+pub returns : goal.returns
+returns c =
     let path = c.args.path.now in
     let old = c.args.session.now in
     let r = round_of c.args.round.now in
